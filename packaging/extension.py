@@ -1,5 +1,5 @@
 #!/usr/bin/env python3
-"""Builds exifnorm._native, the extension module by which Python's `normal` calls the library.
+"""Builds exifnorm._native, the extension module by which Python calls the library.
 
   packaging/extension.py TARGET [HEADERS]
 

@@ -10,7 +10,6 @@ all rounds. Below 1 a ratio means that exifnorm is faster.
 """
 
 import argparse
-import ctypes
 import os
 import shutil
 import subprocess
@@ -74,17 +73,14 @@ def package(folder: str) -> str:
 def timers(block: bytes) -> Dict[str, timeit.Timer]:
     """The calls in Python, by name. A timer makes a call without another one around it."""
     import exifnorm
-    from exifnorm import _calls
+    from exifnorm import _library
 
-    size, out, written, fault = ctypes.c_size_t, ctypes.create_string_buffer(2 * len(block) + 1), ctypes.c_size_t(), _calls.Fault()
-    names = {"exifnorm": exifnorm, "block": block, "length": size(len(block)), "room": size.from_param(len(out)),
-             "bare": _calls.library().exifnorm_normalise, "calls": _calls, "out": ctypes.byref(out), "written": ctypes.byref(written),
-             "fault": ctypes.byref(fault), "whole": block if block.startswith(PREFIX) else PREFIX + block}  # fmt: skip
+    library = _library.library()
+    names = {"exifnorm": exifnorm, "block": block, "library": library, "whole": block if block.startswith(PREFIX) else PREFIX + block}
     calls = {f"exifnorm.{it}": f"exifnorm.{it}(block)" for it in ("kind", "normal", "digest", "fields", "captions")}
-    calls["exifnorm.normal by ctypes"] = "calls.normal_by_ctypes(block)"
-    if (short := _calls.library().short_normal) is not None:
-        names["short"], calls["extension: normal"] = short, "short(block)"
-    calls["ctypes: normalise"] = "bare(block, length, out, room, written, fault)"
+    calls["normalise by ctypes"] = "library.by_ctypes.normalise(block)"
+    if _library._native:
+        calls["normalise by the extension module"] = "library.normalise(block)"
     try:
         import piexif
     except ImportError:
@@ -115,8 +111,7 @@ def race(timed: Dict[str, Callable[[], float]], rounds: int) -> Dict[str, float]
 RATIOS = (
     ("exifnorm.fields", "piexif.load"),
     ("exifnorm.normal", "C: normalise"),
-    ("exifnorm.normal by ctypes", "C: normalise"),
-    ("exifnorm.normal", "ctypes: normalise"),
+    ("normalise by ctypes", "C: normalise"),
     ("exifnorm.kind", "C: check"),
 )
 

@@ -4,8 +4,8 @@ A block is an Exif block, perhaps after the six bytes ``Exif\\0\\0`` that preced
 DataSets. No picture file is opened. Two blocks have the same normal form, byte for byte, exactly if they mean the same. A block
 that breaks the rules raises `Refused`, with the first fault and its byte offset; it is never repaired.
 
-A block can be bytes, a bytearray, a memoryview, or any other object with contiguous bytes. It isn't copied, and must not be
-written to while a call reads it. Calls can run in several threads at once.
+A block is best given as bytes. A bytearray, a memoryview, an mmap, or any other object with contiguous bytes is copied first. Calls
+can run in several threads at once.
 
     >>> import exifnorm
     >>> block = bytes.fromhex("4d4d002a00000008 0001 0112 0003 00000001 00060000 00000000")

@@ -68,7 +68,7 @@ def captions(block: Block) -> List[Caption]:
     [Caption(label='title', data=b'Z\\xc3\\xbcrich', text='Zürich')]
     """
     found = []
-    kind, *lines = captions_text(block).splitlines()
+    _, *lines = captions_text(block).splitlines()
     in_record = False
     for line in lines:
         label, _, escaped = line.partition(": ")

@@ -4,7 +4,7 @@ from __future__ import annotations
 
 from itertools import count, starmap
 from struct import Struct, iter_unpack, unpack_from
-from typing import Any, Callable, Dict, Iterator, List, Tuple
+from typing import Any, Callable, Dict, Iterator, List, Set, Tuple
 
 from ._calls import kind
 from ._errors import Refused
@@ -62,7 +62,7 @@ _PARTS = {0x0111, 0x0117, 0x0201, 0x0202}  # the thumbnail: offsets and lengths 
 _POINTERS = {("main", 0x8769): "exif", ("exif", 0xA005): "interop", ("main", 0x8825): "gps"}
 _WHOLE = {"main": {0x0100, 0x0101, 0x0116}, "thumb": {0x0100, 0x0101, 0x0116}, "exif": {0xA002, 0xA003}}
 # the tags of a directory whose entries are not always plain fields
-_SPECIAL = {
+_SPECIAL: Dict[str, Set[int]] = {
     "main": {0x8769, 0x8825, _RECORD} | _WHOLE["main"],
     "exif": {0xA005} | _WHOLE["exif"],
     "interop": set(),

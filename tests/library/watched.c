@@ -2,8 +2,7 @@
  *
  *   STATUS=N    each call but those for names returns the status N, and does nothing
  *   VERSION=V   the version is V
- *   MEET=N      a check, or a call for a text, waits until so many threads are inside one at the same time, or 10 seconds
- *               have passed
+ *   MEET=N      a call for a block waits until so many threads are inside one at the same time, or 10 seconds have passed
  *
  * A call with a pointer that is NULL, which exifnorm.h forbids, ends the process.
  */
@@ -84,6 +83,7 @@ uint32_t exifnorm_compare(const unsigned char *first, size_t first_length, const
     uint32_t status;
     count(2);
     need(first, second, same, fault);
+    meet();
     *(void **)&call = dlsym(right, "exifnorm_compare");
     return has_status(&status) ? status : call(first, first_length, second, second_length, same, fault);
 }

@@ -1,0 +1,217 @@
+"""The extension module by itself: its arguments, its memory, each of its allocations failing in turn, and what it needs of Python."""
+
+import ctypes
+import gc
+import itertools
+import os
+import re
+import subprocess
+import sys
+import sysconfig
+from pathlib import Path
+
+import pytest
+
+import made_by_tools
+from compiling import HERE, TOP, run
+from exifnorm import _library
+from meanings import SHORT, Exif, Layout, Record, Value, laid
+from small_blocks import CAPTION, LOOP, ONE, long_form, outcome
+
+OF_ONE_BLOCK = ("check", "normalise", "show", "captions")
+BLOCKS = {
+    "a form": ONE,
+    "a record": CAPTION,
+    "a refused block": LOOP,
+    "no bytes": b"",
+    "a block of a tool": made_by_tools.PIEXIF.block,
+    "a long block": ONE + bytes(2_000_000),
+    "twice as many bytes": laid(Exif({0x0116: Value(SHORT, [1] * 16_371)}), Layout("<")),
+    "three times as many bytes": Record([(2, 120, bytes(30_000))]).spelled(),
+}
+
+
+@pytest.fixture
+def loaded(native, shared, monkeypatch):
+    """The loaded library, whose calls are those of the extension module."""
+    monkeypatch.setattr(_library, "_native", native)
+    return _library.Library(str(shared))
+
+
+@pytest.mark.parametrize("block", [*BLOCKS.values(), None], ids=[*BLOCKS, "a form that is too long"])
+def test_results_are_those_of_ctypes(loaded, block):
+    block = long_form() if block is None else block
+    for name in OF_ONE_BLOCK:
+        assert getattr(loaded, name)(block) == getattr(loaded.by_ctypes, name)(block), name
+    for pair in ((block, block), (block, ONE), (ONE, block), (block, LOOP)):
+        assert loaded.compare(*pair) == loaded.by_ctypes.compare(*pair)
+
+
+@pytest.mark.parametrize("wrong", [None, 5, "MM", bytearray(ONE), memoryview(ONE)], ids=lambda it: type(it).__name__)
+def test_arguments_of_calls(loaded, wrong):
+    for name in OF_ONE_BLOCK:
+        assert outcome(getattr(loaded, name), wrong)[0] == "TypeError"
+        assert outcome(getattr(loaded, name))[0] == "TypeError"
+    for wrong_pair in ((wrong, ONE), (ONE, wrong), (ONE,), (ONE, ONE, ONE)):
+        assert outcome(loaded.compare, *wrong_pair)[0] == "TypeError"
+
+
+@pytest.mark.parametrize(
+    "wrong, error",
+    [
+        ((0, 1, 1, 1, 1), "ValueError"),
+        ((1, 1, 1, 1, 0), "ValueError"),
+        ((1, 1, 1, 1), "TypeError"),
+        ((1, 1, 1, 1, None), "TypeError"),
+        ((1, 1, 1, 1, 1.5), "TypeError"),
+        ((1, 1, 1, 1, 1 << 70), "OverflowError"),
+    ],
+)
+def test_addresses(native, wrong, error):
+    assert outcome(native.functions, *wrong)[0] == error
+
+
+def test_bytes_beside_a_buffer(extension, shared, folder):
+    """With PYTHONMALLOC=debug Python ends if a byte beside an allocation was written."""
+    code = """
+import sys
+sys.path.insert(0, sys.argv[1])
+from exifnorm import _library
+import importlib.machinery, importlib.util
+loader = importlib.machinery.ExtensionFileLoader("exifnorm._native", sys.argv[2])
+_library._native = importlib.util.module_from_spec(importlib.util.spec_from_loader("exifnorm._native", loader))
+loader.exec_module(_library._native)
+calls = _library.library()
+for name in sys.argv[3:]:
+    block = open(name, "rb").read()
+    for call in (calls.check, calls.normalise, calls.show, calls.captions):
+        call(block)
+    calls.compare(block, block)
+print("all")
+"""
+    files = []
+    for at, block in enumerate(BLOCKS.values()):
+        files.append(folder / str(at))
+        files[-1].write_bytes(block)
+    words = [sys.executable, "-B", "-c", code, TOP / "python", extension, *files]
+    assert run(*words, PYTHONMALLOC="debug", EXIFNORM_LIBRARY=str(shared)) == "all\n"
+
+
+def resident():
+    """The bytes of memory that this process has."""
+    return int(Path("/proc/self/statm").read_text(encoding="ascii").split()[1]) * os.sysconf("SC_PAGE_SIZE")
+
+
+@pytest.mark.parametrize("name", [*OF_ONE_BLOCK, "compare"])
+def test_memory_after_many_calls(loaded, name):
+    """Nothing stays allocated or referred to, whether a call succeeds, fails, or gets a wrong argument."""
+    call = getattr(loaded, name)
+    for block in (ONE, LOOP, None):
+        arguments = (ONE, block) if name == "compare" else (block,)
+        for _ in range(1000):
+            outcome(call, *arguments)
+        before, counts = resident(), (sys.getrefcount(block), sys.getrefcount(ONE))
+        for _ in range(50_000):
+            outcome(call, *arguments)
+        assert resident() - before < 1_000_000
+        now = sys.getrefcount(block), sys.getrefcount(ONE)
+        assert max(abs(it - was) for it, was in zip(now, counts)) < 100
+
+
+def addresses(loaded):
+    """Those of the library's functions, as the extension module takes them."""
+    names = ("check", "normalise", "compare", "show", "captions")
+    return [ctypes.cast(getattr(loaded._library, f"exifnorm_{it}"), ctypes.c_void_p).value for it in names]
+
+
+def test_functions_that_are_gone(loaded, native):
+    where = addresses(loaded)
+    for turn in range(20_000):
+        functions = native.functions(*where)
+        if turn == 1000:
+            before = resident()
+    assert functions[1](ONE) == ONE
+    del functions
+    gc.collect()
+    assert resident() - before < 1_000_000
+
+
+# ---- allocations that fail
+
+
+@pytest.fixture(scope="module")
+def refusing(session_folder):
+    """Calls a function with its one argument while Python's allocation of a number fails. Returns its outcome, and whether one failed."""
+    path = session_folder / "refused_allocation.so"
+    words = ["cc", "-std=c99", "-Wall", "-Wextra", "-Werror", "-shared", "-fPIC", "-isystem", sysconfig.get_paths()["include"], "-o", path]
+    run(*words, HERE / "refused_allocation.c")
+    library = ctypes.PyDLL(str(path))
+    library.call_refused.restype, library.call_refused.argtypes = ctypes.py_object, [ctypes.py_object, ctypes.py_object, ctypes.c_long]
+    was_refused = ctypes.c_int.in_dll(library, "was_refused")
+
+    def call(function, argument, number):
+        found = outcome(library.call_refused, function, argument, number)
+        return found, bool(was_refused.value)
+
+    return call
+
+
+def outcomes(refusing, function, argument):
+    """The outcomes while the first allocation fails, then the second, and so on. In the last one none fails."""
+    found = []
+    for number in itertools.count(1):
+        result, has_failed = refusing(function, argument, number)
+        found.append(result)
+        if not has_failed:
+            return found
+
+
+@pytest.mark.parametrize("name", OF_ONE_BLOCK)
+@pytest.mark.parametrize("block", BLOCKS.values(), ids=BLOCKS)
+def test_allocations_of_a_call_that_fail(loaded, refusing, name, block):
+    call = getattr(loaded, name)
+    expected = call(block)
+    *failed, last = outcomes(refusing, call, block)
+    assert failed == [("MemoryError",)] * len(failed) and last == expected
+    if name != "check":
+        assert failed, "it has a buffer or a result"
+    assert call(block) == expected, "afterwards it works as before"
+
+
+def test_allocations_of_a_comparison_that_fail(loaded, refusing):
+    for second in (ONE, CAPTION, LOOP):
+        *failed, last = outcomes(refusing, lambda first: loaded.compare(first, second), ONE)
+        assert failed == [("MemoryError",)] * len(failed) and last == loaded.compare(ONE, second)
+
+
+def test_allocations_of_functions_that_fail(loaded, native, refusing):
+    where = addresses(loaded)
+    *failed, made = outcomes(refusing, lambda of: native.functions(*of), where)
+    assert len(failed) > 5 and failed == [("MemoryError",)] * len(failed)
+    assert [it(ONE) for it in (made[0], made[1])] == [1, ONE]
+
+
+# ---- what it needs
+
+
+# The part of the stable ABI that it uses, with what CPython 3.9 has of it: "Contents of Limited API" in Python's documentation.
+STABLE = """PyArg_UnpackTuple PyBytes_AsStringAndSize PyBytes_FromStringAndSize PyCMethod_New PyCapsule_GetPointer PyCapsule_New
+    PyErr_NoMemory PyErr_SetString PyEval_RestoreThread PyEval_SaveThread PyExc_ValueError PyLong_FromUnsignedLong PyMem_Free
+    PyMem_Malloc PyModuleDef_Init PyTuple_New PyTuple_SetItem Py_DecRef Py_IncRef _PyArg_ParseTuple_SizeT _Py_BuildValue_SizeT
+    _Py_Dealloc""".split()
+
+
+def test_symbols(extension):
+    """It needs nothing that the oldest CPython of the package might not have."""
+    needed = subprocess.run(["nm", "-D", "--undefined-only", extension], capture_output=True, text=True, check=True).stdout
+    assert {*re.findall(r" U (\w+)", needed)} <= {*STABLE}
+    shown = subprocess.run(["nm", "-D", "--defined-only", extension], capture_output=True, text=True, check=True).stdout
+    assert re.findall(r" [A-Z] (\w+)", shown) == ["PyInit__native"]
+
+
+def test_oldest_python():
+    """Its limited API is that of the oldest Python for which the package is."""
+    project = (TOP / "python" / "pyproject.toml").read_text(encoding="utf-8")
+    major, minor = map(int, re.search(r'requires-python = ">=(\d+)\.(\d+)"', project).groups())
+    source = (TOP / "python" / "exifnorm" / "_native.c").read_text(encoding="utf-8")
+    assert f"#define Py_LIMITED_API {major << 24 | minor << 16:#010x}\n" in source

@@ -1,0 +1,475 @@
+"""The package exifnorm: the exact result of each public call, by ctypes and by the extension module.
+
+The blocks were written by other tools, or come from meanings.py; reading.py judges them without the library.
+"""
+
+import array
+import ctypes
+import doctest
+import gc
+import hashlib
+import importlib
+import mmap
+import pickle
+import pkgutil
+import sys
+import tracemalloc
+from concurrent.futures import ThreadPoolExecutor
+
+import pytest
+
+import exifnorm
+import made_by_tools
+from exifnorm import Caption, Field, _calls, _library, _listings
+from kinds import small_kinds
+from meanings import LABELS, LIMIT, LONG, SHORT, Exif, Layout, Record, Value, laid
+from reading import said
+from small_blocks import CAPTION, LOOP, OF_BLOCK, ONE, long_form, outcome
+
+pytestmark = pytest.mark.usefixtures("way")
+
+
+def named(it):
+    """The id of a parameter."""
+    return getattr(it, "__name__", None) or getattr(it, "tool", None)
+
+
+# ---- results
+
+
+@pytest.mark.parametrize("made", made_by_tools.ALL, ids=lambda it: f"{it.tool}, {it.kind}")
+def test_blocks_of_tools(made):
+    meaning = said(made.block)
+    form = meaning.normal()
+    assert exifnorm.kind(made.block) == made.kind
+    assert exifnorm.normal(made.block) == form and type(exifnorm.normal(made.block)) is bytes
+    assert exifnorm.digest(made.block) == hashlib.sha256(form).hexdigest()
+    assert exifnorm.show(made.block) == meaning.listing()
+    assert exifnorm.captions(made.block) == [Caption(*it) for it in made.captions]
+    assert exifnorm.same(made.block, form) is True
+    assert exifnorm.same(form, ONE) is False
+    found = exifnorm.fields(made.block)
+    assert found == [Field(*it) for it in made.fields] and type(found) is list
+    ratios = [it for field in found if field.type.endswith("RATIONAL") for it in field.values]
+    assert {type(it) for it in found} | {type(it) for it in ratios} <= {Field, exifnorm.Ratio}
+
+
+@pytest.mark.parametrize("call", OF_BLOCK, ids=named)
+def test_refusals_of_tools(call):
+    assert outcome(call, made_by_tools.PIEXIF_REFUSED) == ("Refused", *made_by_tools.PIEXIF_FAULT, None)
+
+
+@pytest.mark.parametrize("kind", [*small_kinds()], ids=lambda it: it.name)
+def test_fields_of_each_kind(kind):
+    """The fields from the form are those of the expected listing, for blocks with each type, directory and thumbnail."""
+    expected, form = _listings.fields_of_listing(kind.meaning.listing()), kind.meaning.normal()
+    for block in kind.blocks:
+        assert exifnorm.fields(block) == expected
+        assert exifnorm.normal(block) == form
+
+
+def test_one_tag_in_five_directories():
+    """Tags that have a role in some directories only."""
+    inside = {0x0100: Value(LONG, [7]), 0xA002: Value(LONG, [8]), 0x83BB: Value(7, CAPTION)}
+    expected = []
+    for name in ("main", "exif", "interop", "gps", "thumb"):
+        expected.append(Field(name, 0x0100, "WHOLE" if name in ("main", "thumb") else "LONG", (7,)))
+        expected += [] if name == "main" else [Field(name, 0x83BB, "UNDEFINED", CAPTION)]
+        expected.append(Field(name, 0xA002, "WHOLE" if name == "exif" else "LONG", (8,)))
+        expected += [Field("record", 0x0278, "DATASET", b"Vase")] if name == "main" else []
+    assert exifnorm.fields(laid(Exif(*(dict(inside) for _ in range(5))), Layout("<"))) == expected
+
+
+def test_rows_and_heights():
+    rows = laid(Exif({0x0116: Value(LONG, [7])}, {0xA003: Value(LONG, [8])}, thumb={0x0116: Value(SHORT, [9])}), Layout(">"))
+    expected = [Field("main", 0x0116, "WHOLE", (7,)), Field("exif", 0xA003, "WHOLE", (8,)), Field("thumb", 0x0116, "WHOLE", (9,))]
+    assert exifnorm.fields(rows) == expected
+
+
+@pytest.mark.parametrize("octets, form", [(b"\x1c\x02\x78\x00\x09Vase", 7), (CAPTION, 2), (b"", 7), (ONE, 7), (b"\x1c", 1)])
+def test_bytes_that_are_nearly_a_record(octets, form):
+    found = exifnorm.fields(laid(Exif({0x83BB: Value(form, octets)}), Layout(">")))
+    assert [(it.directory, it.tag, it.values) for it in found] == [("main", 0x83BB, octets)]
+
+
+def test_records():
+    record = laid(Exif({0x83BB: Value(1, CAPTION + b"\0")}), Layout(">"))
+    assert exifnorm.fields(record) == [Field("record", 0x0278, "DATASET", b"Vase")], "a record of type BYTE"
+    long = Record([(2, 120, bytes(40_000)), (2, 25, b"")]).spelled()
+    expected = [Field("record", 0x0219, "DATASET", b""), Field("record", 0x0278, "DATASET", bytes(40_000))]
+    assert exifnorm.fields(long) == expected
+
+
+def test_thumbnail_with_a_jpeg_and_strips():
+    head = "4d4d002a 00000008 0001 0112 0003 00000001 00010000 0000001a 0004"
+    strips = "0111 0003 00000002 00500053  0117 0003 00000002 00030001"
+    jpeg = "0201 0004 00000001 00000054  0202 0004 00000001 00000002"
+    expected = [
+        Field("main", 0x0112, "SHORT", (1,)),
+        Field("thumb", 0x0201, "JPEG", b"\xff\xd8"),
+        Field("thumb", 0x0111, "STRIPS", (b"ABC", b"X")),
+    ]
+    assert exifnorm.fields(bytes.fromhex(f"{head} {strips} {jpeg} 00000000 414243 58 ffd8")) == expected
+
+
+def test_forms_that_are_too_long():
+    block = long_form()
+    assert exifnorm.kind(block) == "exif"
+    assert outcome(exifnorm.normal, block) == ("NormalTooLong",)
+    assert outcome(exifnorm.digest, block) == ("NormalTooLong",)
+    assert exifnorm.fields(block) == [Field("main", 0x0116, "WHOLE", (*range(1000), *bytes(LIMIT // 4)))]
+    assert exifnorm.captions(block) == []
+    assert exifnorm.same(block, block) is True
+
+
+@pytest.mark.parametrize("as_given", [bytes, bytearray])
+def test_blocks_about_the_limit(as_given):
+    for head in (b"", b"Exif\0\0"):
+        assert exifnorm.kind(as_given(head + ONE + bytes(LIMIT - len(ONE)))) == "exif"
+        assert outcome(exifnorm.kind, as_given(head + ONE + bytes(LIMIT - len(ONE) + 1))) == ("Refused", "TooLong", LIMIT, None)
+    too_long = as_given(bytes(LIMIT + 1000))
+    assert outcome(exifnorm.same, ONE, too_long) == ("Refused", "TooLong", LIMIT, 2)
+    assert outcome(exifnorm.same, too_long, LOOP) == ("Refused", "TooLong", LIMIT, 1)
+
+
+# ---- captions
+
+
+@pytest.mark.parametrize("repeats", [1, 2])
+def test_each_caption_is_returned_once(repeats):
+    labels = {number: label for _, them in LABELS for number, label in them.items()}
+    datasets = [(2, number, label.encode()) for number, label in reversed(list(labels.items()))]
+    found = [(it.label, it.data) for it in exifnorm.captions(Record(datasets * repeats).spelled())]
+    assert {it: found.count(it) for it in found} == {(label, label.encode()): repeats for label in labels.values()}
+
+
+def test_captions_of_texts_and_a_record():
+    texts = {0x010E: Value(2, b"d\xc3\xa9\0"), 0x013B: Value(129, b"\xc3\xa9\0"), 0x8298: Value(2, b"no zero")}
+    record = Record([(1, 90, b"\x1b%G"), (2, 120, b"\xc3\xa9"), (2, 5, b"\xff")])
+    assert exifnorm.captions(laid(Exif(texts, record=record), Layout("<"))) == [
+        Caption("description", b"d\xc3\xa9\0", None),
+        Caption("artist", b"\xc3\xa9\0", "é"),
+        Caption("copyright", b"no zero", "no zero"),
+        Caption("title", b"\xff", None),
+        Caption("caption", b"\xc3\xa9", "é"),
+    ]
+
+
+@pytest.mark.parametrize(
+    "declared, octets, text",
+    [
+        (b"", b"\xc3\xbc", None),
+        (b"", b"plain", None),
+        (b"\x1b%G", b"\xc3\xbc", "ü"),
+        (b"\x1b%G", b"\xc3A", None),
+    ],
+)
+def test_text_of_a_record(declared, octets, text):
+    datasets = [(1, 90, declared)] if declared else []
+    assert [it.text for it in exifnorm.captions(Record([*datasets, (2, 5, octets)]).spelled())] == [text]
+
+
+def test_text_of_exif_fields():
+    zeros = exifnorm.captions(laid(Exif({0x013B: Value(2, b"two\0\0")}), Layout("<")))
+    assert [it.text for it in zeros] == ["two\0"], "a text with two zeros loses one"
+    others = Exif({0x013B: Value(2, b"\xc3\xa9\0")}, thumb={0x013B: Value(129, b"\xc3\xa9\0")})
+    found = exifnorm.captions(laid(others, Layout("<")))
+    assert found == [Caption("artist", b"\xc3\xa9\0", None)], "the type of the thumbnail's text is no matter"
+
+
+@pytest.mark.parametrize("octets", [bytes(range(256)), b"charset: a: b", b"", b"\\0a\n"])
+def test_bytes_of_a_caption(octets):
+    found = exifnorm.captions(Record([(2, 120, octets)]).spelled())
+    assert [(it.label, it.data) for it in found] == [("caption", octets)]
+
+
+@pytest.mark.parametrize("count", [1, 1000, 24_000, 60_000])
+def test_captions_that_are_longer_than_expected(count):
+    """Each byte that is not printable takes three: the library is asked again, with more bytes."""
+    assert exifnorm.captions(Record([(2, 120, bytes(count))]).spelled()) == [Caption("caption", bytes(count), None)]
+
+
+# ---- digests
+
+
+@pytest.mark.parametrize("algorithm", ["sha256", "md5", "sha1", "sha512", "sha3_256", "blake2b"])
+def test_digests(algorithm):
+    expected = hashlib.new(algorithm, CAPTION).hexdigest()
+    assert exifnorm.digest(CAPTION, algorithm) == exifnorm.digest(CAPTION, algorithm=algorithm) == expected
+
+
+@pytest.mark.parametrize("algorithm", ["no such", "shake_128", "shake_256"])
+def test_digests_without_a_length(algorithm):
+    with pytest.raises(ValueError, match=algorithm):
+        exifnorm.digest(CAPTION, algorithm)
+
+
+# ---- arguments
+
+
+class Own(bytes):
+    """A subclass of bytes that lies about its length."""
+
+    def __len__(self):
+        return 3
+
+
+def mapped(block):
+    it = mmap.mmap(-1, len(block))
+    it[:] = block
+    return it
+
+
+WAYS = {
+    "bytearray": bytearray,
+    "memoryview": lambda block: memoryview(b"xx" + block + b"yy")[2:-2],
+    "memoryview of numbers": lambda block: memoryview(array.array("H", block)),
+    "memoryview of rows": lambda block: memoryview(block).cast("B", (2, len(block) // 2)),
+    "array": lambda block: array.array("H", block),
+    "mmap": mapped,
+    "subclass of bytes": Own,
+    "ctypes": lambda block: (ctypes.c_char * len(block)).from_buffer_copy(block),
+}
+
+
+@pytest.mark.parametrize("given", WAYS.values(), ids=WAYS)
+def test_ways_to_give_a_block(given):
+    """Any object with contiguous bytes."""
+    for block in (ONE, LOOP):
+        assert [outcome(call, given(block)) for call in OF_BLOCK] == [outcome(call, block) for call in OF_BLOCK]
+    assert exifnorm.same(given(ONE), ONE) is True and exifnorm.same(ONE, given(ONE)) is True
+    assert outcome(exifnorm.same, ONE, given(LOOP)) == ("Refused", "Loop", 22, 2)
+
+
+def test_an_object_can_be_changed_after_a_call():
+    """Also after a call that fails: nothing holds its bytes."""
+    for block in (bytearray(ONE), bytearray(LOOP), bytearray(long_form()), bytearray(LIMIT + 1000)):
+        for call in OF_BLOCK if len(block) < 1000 else (exifnorm.normal,):
+            outcome(call, block)
+            outcome(exifnorm.same, block, block)
+            block.append(0)  # raises BufferError if a view of it is left
+            block.pop()
+
+
+@pytest.mark.parametrize("wrong", [None, 5, "MM", 1.5, [77, 77], {}, bytes], ids=repr)
+def test_what_is_no_block(wrong):
+    for call in OF_BLOCK:
+        assert outcome(call, wrong)[0] == "TypeError"
+    assert outcome(exifnorm.same, wrong, ONE)[0] == outcome(exifnorm.same, ONE, wrong)[0] == "TypeError"
+
+
+def test_bytes_that_are_not_contiguous():
+    apart = memoryview(ONE * 2)[::2]
+    assert [outcome(call, apart)[0] for call in OF_BLOCK] == ["BufferError"] * len(OF_BLOCK)
+    assert outcome(exifnorm.same, apart, ONE)[0] == outcome(exifnorm.same, ONE, apart)[0] == "BufferError"
+
+
+@pytest.mark.parametrize("empty", [b"", bytearray(), memoryview(b""), array.array("B")], ids=lambda it: type(it).__name__)
+def test_blocks_of_no_bytes(empty, watch):
+    """The library gets no null pointer: watched.c ends the process at one."""
+    assert {outcome(call, empty) for call in OF_BLOCK} == {("Refused", "UnknownKind", 0, None)}
+    assert outcome(exifnorm.same, empty, ONE) == ("Refused", "UnknownKind", 0, 1)
+    assert outcome(exifnorm.same, ONE, empty) == ("Refused", "UnknownKind", 0, 2)
+
+
+# ---- exceptions, objects and examples
+
+
+@pytest.mark.parametrize(
+    "first, second, expected",
+    [
+        (LOOP, ONE, ("Loop", 22, 1, "Loop at 22 in block 1")),
+        (ONE, LOOP, ("Loop", 22, 2, "Loop at 22 in block 2")),
+        (LOOP, CAPTION[:3], ("Loop", 22, 1, "Loop at 22 in block 1")),
+        (CAPTION, CAPTION[:3], ("DataSetCut", 0, 2, "DataSetCut at 0 in block 2")),
+    ],
+)
+def test_refusals_of_two_blocks(first, second, expected):
+    with pytest.raises(exifnorm.Refused) as raised:
+        exifnorm.same(first, second)
+    why = raised.value
+    assert (why.cause, why.place, why.side, str(why)) == expected
+    again = pickle.loads(pickle.dumps(why))
+    assert (again.cause, again.place, again.side, str(again)) == expected, "pickled"
+
+
+def test_place_of_a_fault_after_six_bytes():
+    with pytest.raises(exifnorm.Refused) as raised:
+        exifnorm.kind(b"Exif\0\0" + LOOP)
+    assert (raised.value.place, str(raised.value)) == (22, "Loop at 22")
+
+
+def test_classes_of_exceptions():
+    assert issubclass(exifnorm.Refused, ValueError) and issubclass(exifnorm.NormalTooLong, ValueError)
+    assert issubclass(exifnorm.LibraryMissing, OSError)
+
+
+def test_objects_are_pickled_and_can_not_be_changed():
+    field, caption = exifnorm.fields(ONE)[0], Caption("title", b"T", None)
+    for it, name in ((field, "tag"), (caption, "label"), (exifnorm.Ratio(1, 0), "numerator")):
+        assert pickle.loads(pickle.dumps(it)) == it and hash(it) == hash(pickle.loads(pickle.dumps(it)))
+        with pytest.raises(AttributeError):
+            setattr(it, name, 1)
+
+
+MODULES = [
+    exifnorm,
+    *(importlib.import_module(f"exifnorm.{it.name}") for it in pkgutil.iter_modules(exifnorm.__path__) if it.name != "_native"),
+]
+
+
+@pytest.mark.parametrize("module", MODULES, ids=named)
+def test_examples(module):
+    found = doctest.testmod(module)
+    assert found.attempted and not found.failed
+
+
+def test_public_names_are_exported():
+    public = {name for name, it in vars(exifnorm).items() if not name.startswith("_") and not hasattr(it, "__path__")}
+    assert public == {*exifnorm.__all__}
+
+
+def test_version():
+    assert exifnorm.version() == exifnorm.__version__
+
+
+# ---- what the calls cost
+
+
+BY_CALL = {
+    "kind": ({"check": 1}, exifnorm.kind, ONE),
+    "kind of a refused block": ({"check": 1, "cause_name": 1}, exifnorm.kind, LOOP),
+    "normal": ({"normalise": 1}, exifnorm.normal, ONE),
+    "normal of a bytearray": ({"normalise": 1}, exifnorm.normal, bytearray(ONE)),
+    "normal of a large block": ({"normalise": 1}, exifnorm.normal, laid(Exif({0x9999: Value(7, bytes(100_000))}), Layout("<"))),
+    "normal of a refused block": ({"normalise": 1, "cause_name": 1}, exifnorm.normal, LOOP),
+    "digest": ({"normalise": 1}, exifnorm.digest, ONE),
+    "same": ({"compare": 1}, exifnorm.same, ONE, CAPTION),
+    "show": ({"show": 1}, exifnorm.show, ONE),
+    "show of a large block": ({"show": 1}, exifnorm.show, laid(Exif({0x9999: Value(7, bytes(100_000))}), Layout("<"))),
+    "captions": ({"captions": 1}, exifnorm.captions, CAPTION),
+    "captions that are longer than expected": ({"captions": 2}, exifnorm.captions, Record([(2, 120, bytes(60_000))]).spelled()),
+    "fields": ({"normalise": 1}, exifnorm.fields, ONE),
+    "fields with a record": ({"normalise": 1, "check": 1}, exifnorm.fields, laid(Exif({}, record=Record([(2, 5, b"T")])), Layout(">"))),
+    "version": ({"version": 1}, exifnorm.version),
+}
+
+
+@pytest.mark.parametrize("row", BY_CALL.values(), ids=BY_CALL)
+def test_calls_of_the_library(watch, row):
+    """Each call of the package calls the library once, where that is enough."""
+    expected, call, *arguments = row
+    assert watch.of(call, *arguments) == expected
+
+
+def test_forms_of_twice_as_many_bytes_take_at_most_two_calls(watch, way):
+    block = laid(Exif({0x0116: Value(SHORT, [1] * 40_000)}), Layout("<"))
+    assert watch.of(exifnorm.normal, block) == {"normalise": 1 if way == "extension" else 2}
+
+
+def test_fields_of_a_form_that_is_too_long_take_two_calls(watch):
+    assert watch.of(exifnorm.fields, long_form()) == {"normalise": 1, "show": 1}
+
+
+def test_the_library_is_loaded_once(shared, monkeypatch):
+    opened, plain = [], ctypes.CDLL
+    _library.library.cache_clear()
+    monkeypatch.setattr(_library.ctypes, "CDLL", lambda place: opened.append(place) or plain(place))
+    for _ in range(10):
+        exifnorm.kind(ONE), exifnorm.normal(ONE), exifnorm.fields(ONE), exifnorm.version()
+    assert opened == [str(shared)]
+
+
+def peak(call, *arguments):
+    """The most bytes that Python allocates during a call."""
+    call(*arguments)
+    gc.collect()
+    tracemalloc.start()
+    try:
+        before = tracemalloc.get_traced_memory()[0]
+        call(*arguments)
+        return tracemalloc.get_traced_memory()[1] - before
+    finally:
+        tracemalloc.stop()
+
+
+@pytest.fixture(scope="module")
+def large():
+    """A block of 4 MB."""
+    return laid(Exif({0x9999: Value(7, bytes(4_000_000))}), Layout("<"))
+
+
+@pytest.mark.parametrize("as_given, copies", [(bytes, 0), (bytearray, 1), (memoryview, 1)])
+def test_memory_of_a_large_block(large, as_given, copies):
+    """Bytes are not copied, and other objects once. A form needs a buffer of twice the block's size while it is made."""
+    block, size = as_given(large), len(large)
+    assert peak(exifnorm.kind, block) < copies * size + 10_000
+    assert peak(exifnorm.same, block, block) < 2 * copies * size + 10_000
+    assert size < peak(exifnorm.normal, block) < (copies + 3) * size + 10_000
+
+
+def test_memory_of_what_is_too_long():
+    """However long an object is, no more of it is copied than the longest block has."""
+    assert peak(outcome, exifnorm.kind, bytearray(4 * LIMIT)) < LIMIT + 100_000
+
+
+def test_a_form_has_its_own_bytes_alone(large):
+    exifnorm.normal(large)
+    tracemalloc.start()
+    try:
+        form = exifnorm.normal(large)
+        assert len(form) <= tracemalloc.get_traced_memory()[0] < len(form) + 10_000
+    finally:
+        tracemalloc.stop()
+
+
+def test_nothing_stays_allocated():
+    blocks = ONE, LOOP, ONE + bytes(50_000), bytearray(ONE)
+    counts = [sys.getrefcount(it) for it in blocks]
+    tracemalloc.start()
+    try:
+        for turn in range(200):
+            for block in blocks:
+                for call in OF_BLOCK:
+                    outcome(call, block)
+                outcome(exifnorm.same, block, ONE)
+            if turn == 20:
+                gc.collect()
+                before = tracemalloc.get_traced_memory()[0]
+        del block
+        gc.collect()
+        grown = tracemalloc.get_traced_memory()[0] - before
+    finally:
+        tracemalloc.stop()
+    assert grown < 50_000
+    assert [sys.getrefcount(it) for it in blocks] == counts
+
+
+# ---- threads
+
+
+def test_sixteen_threads(monkeypatch):
+    """Sixteen threads at once get the same results as one, for blocks whose forms differ in each byte."""
+    blocks = [Record([(2, 120, bytes([it]) * (it % 7 + 1) * 900)]).spelled(extended=4) for it in range(16)]
+    blocks += [it.block for it in made_by_tools.ALL] + [made_by_tools.PIEXIF_REFUSED, LOOP, b""]
+    jobs = [(call, block) for block in blocks for call in OF_BLOCK]
+    expected = [outcome(*it) for it in jobs]
+    kept = sys.getswitchinterval()
+    sys.setswitchinterval(1e-6)
+    try:
+        with ThreadPoolExecutor(16) as pool:
+            rounds = list(pool.map(lambda _: [outcome(*it) for it in jobs], range(16)))
+    finally:
+        sys.setswitchinterval(kept)
+    for found in rounds:
+        assert found == expected
+
+
+@pytest.mark.parametrize("call", [exifnorm.kind, exifnorm.normal, exifnorm.show, _calls.captions_text, lambda it: exifnorm.same(it, it)])
+def test_calls_at_once(watch, monkeypatch, call):
+    """A call doesn't block other threads: sixteen of them are inside the library at the same time."""
+    expected = call(ONE)
+    monkeypatch.setenv("MEET", "16")
+    with ThreadPoolExecutor(16) as pool:
+        assert list(pool.map(lambda _: call(ONE), range(16))) == [expected] * 16
+    assert watch.inside.value == 16
