@@ -6,7 +6,7 @@
  *   calls refused JOBS    each call with the first allocation failing, then the second, and so on until none fails; only if this
  *                         file is compiled with REFUSES_GROWTHS and linked with --wrap for malloc, calloc, realloc and free
  *
- * library.py writes the file of jobs, with the results of the built program. Its numbers have four bytes, least significant first.
+ * judged.py writes the file of jobs, with the results of the independent reader. Its numbers have four bytes, least significant first.
  * Each printed line is a failure, except the last one, which has the number of checks.
  */
 #define _POSIX_C_SOURCE 200809L

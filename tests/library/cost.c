@@ -1,5 +1,5 @@
 /* What one call of the library costs: cost CALL FILE, where CALL is check, normalise, show, captions or compare (with itself). It prints the
- * most bytes that the call has allocated at once, the number of its allocations, and how many of these made something longer. costs.py runs
+ * most bytes that the call has allocated at once, the number of its allocations, and how many of these made something longer. test_costs.py runs
  * it, also under callgrind, which counts the instructions of the call. */
 #include "fuzz/memory.h"
 #include <exifnorm.h>

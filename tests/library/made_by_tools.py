@@ -122,9 +122,7 @@ EXIV2 = Made(
 # exiftool -IPTC:Caption-Abstract=Vase -IPTC:Keywords=a -IPTC:Keywords=b -IPTC:ObjectName=T made.jpg
 EXIFTOOL_RECORD = Made(
     "ExifTool 12.57",
-    bytes.fromhex(
-        "1c02050001541c02190001611c02190001621c02780004566173651c020000020004"
-    ),
+    bytes.fromhex("1c02050001541c02190001611c02190001621c02780004566173651c020000020004"),
     kind="iim",
     fields=[
         ("record", 0x0200, "DATASET", b"\0\4"),
@@ -141,9 +139,7 @@ EXIFTOOL_RECORD = Made(
 #     -M'set Iptc.Application2.Byline String Lee' made.jpg
 EXIV2_RECORD = Made(
     "exiv2 0.27.6",
-    bytes.fromhex(
-        "1c015a00031b25471c027800075ac3bc726963681c02190004636c61791c0219000375726e1c025000034c6565"
-    ),
+    bytes.fromhex("1c015a00031b25471c027800075ac3bc726963681c02190004636c61791c0219000375726e1c025000034c6565"),
     kind="iim",
     fields=[
         ("record", 0x015A, "DATASET", b"\x1b%G"),

@@ -127,7 +127,7 @@ static struct answer compare(const unsigned char *one, size_t one_length, const 
     return it;
 }
 
-/* The causes for which a record and an Exif block can be refused. fuzz.py knows which numbers are causes. */
+/* The causes for which a record and an Exif block can be refused. test_laws.py knows which numbers are causes. */
 static int is_cause_of(uint32_t cause, int is_record) {
     int of_record = cause >= EXIFNORM_CAUSE_NO_MARKER && cause <= EXIFNORM_CAUSE_DATASET_CUT;
     return cause > EXIFNORM_CAUSE_TOO_LONG && of_record == is_record;

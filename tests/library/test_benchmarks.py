@@ -1,0 +1,134 @@
+"""The benchmarks of bench/: each driver compiles without a warning, and each benchmark makes one small round and prints its measurements.
+
+Peers need not be installed: their drivers are compiled against what they use of their headers.
+"""
+
+import importlib
+import importlib.util
+import re
+import shutil
+import subprocess
+import sys
+import sysconfig
+from pathlib import Path
+from unittest import mock
+
+import pytest
+
+from compiling import HEADERS, TOP, need, run
+from peer_headers import PEER_HEADERS
+
+PEERS = TOP / "bench" / "peers"
+STRICT = ["-Wall", "-Wextra", "-Werror", "-fsyntax-only", "-I", HEADERS]
+
+
+def load(name):
+    """A module of bench/, by its path there."""
+    described = importlib.util.spec_from_file_location(f"bench_{Path(name).parent.name}_{Path(name).stem}", TOP / "bench" / name)
+    module = sys.modules[described.name] = importlib.util.module_from_spec(described)
+    described.loader.exec_module(module)
+    return module
+
+
+def benchmark(name, *words, **environment):
+    """What a benchmark prints."""
+    return run(sys.executable, "-B", TOP / "bench" / name, *words, **environment)
+
+
+def numbers_of(pattern, text):
+    """The numbers of each place where a text has this pattern, each of which must be positive."""
+    found = [tuple(float(number.replace(",", "")) for number in it.groups()) for it in re.finditer(pattern, text, re.M)]
+    assert found and all(number > 0 for numbers in found for number in numbers), f"{pattern} in {text}"
+    return found
+
+
+# ---- drivers
+
+
+def test_own_drivers_compile(library, folder):
+    drivers = load("peers/drivers.py")
+    with mock.patch.object(drivers, "must_compile") as compiled:
+        drivers.own_drivers(folder, library)
+    for call in compiled.call_args_list:
+        run(*call.args, *STRICT)
+
+
+@pytest.mark.parametrize("driver", ["libexif.c", "libiptcdata.c", "exiv2.cpp"])
+def test_drivers_of_peers_compile(driver, folder):
+    for name, text in PEER_HEADERS.items():
+        path = folder / name
+        path.parent.mkdir(parents=True, exist_ok=True)
+        path.write_text(f"#pragma once\n{text}", encoding="utf-8")
+    compiler = ["c++", "-std=c++11"] if driver.endswith(".cpp") else ["cc", "-std=c99", "-D_POSIX_C_SOURCE=200809L"]
+    run(*compiler, *STRICT, "-I", folder, PEERS / driver)
+
+
+@pytest.mark.parametrize("count", [0, 1, 70_000, 3 << 20])
+def test_a_whole_file_is_copied(count, folder):
+    """By the C program beside which the filter is timed."""
+    whole, file = load("peers/drivers.py").whole_copy(folder), folder / "copied"
+    file.write_bytes((bytes(it * it % 251 for it in range(70_000)) * (count // 70_000 + 1))[:count])
+    with file.open("rb") as given:
+        assert subprocess.run([whole], stdin=given, capture_output=True, check=True).stdout == file.read_bytes()
+    with file.open("rb") as given, open("/dev/full", "wb") as full:
+        assert count == 0 or subprocess.run([whole], stdin=given, stdout=full, check=False).returncode == 1, "nothing can be written"
+
+
+# ---- rounds
+
+
+def test_library_beside_plain_c(library, program, folder):
+    """On blocks of both kinds and a large one, without peers."""
+    without_peers = {"PKG_CONFIG_LIBDIR": str(folder), "KAMADAK": str(folder)}
+    words = ["peers/run.py", library, program, "--rounds", "1", "--seconds", "0.001"]
+    small = benchmark(*words, "--only", "one inline field", "--only", "25 DataSets", **without_peers)
+    assert len(numbers_of(r"^  (?:parse|write): ([\d.,]+) microseconds; ([\d.,]+) of C", small)) == 4
+    assert len(re.findall(r"^  memory of (?:parse|write), over the block: exifnorm [\d.]+, C [\d.]+", small, re.M)) == 4
+    large = benchmark(*words, "--only", "16 MB of bytes", "--no-peers")
+    numbers_of(r"^  filter: ([\d.]+) ms, ([\d.]+) of cat, ([\d.]+) of C", large)
+
+
+def test_plain_c_and_the_library_agree(library, program):
+    """On changed blocks, some of which are accepted."""
+    printed = benchmark("peers/run.py", library, program, "--changed", "1")
+    ((blocks, accepted),) = numbers_of(r"^([\d,]+) blocks, of which ([\d,]+) are accepted: C and the library agree on each$", printed)
+    assert accepted < blocks
+
+
+def test_least_time_of_all_rounds():
+    """A driver that failed is not run again."""
+    with mock.patch.object(sys, "path", [str(PEERS), *sys.path]):
+        race = importlib.import_module("race")
+    times = {
+        ("parse", "C"): [2.0, 1.0, 3.0],
+        ("write", "C"): [4.0, 6.0, 5.0],
+        ("parse", "libexif"): [3.0, None],
+        ("write", "libexif"): [None],
+    }
+    left = {key: iter(it) for key, it in times.items()}
+    with mock.patch.object(race, "microseconds", lambda driver, mode, *_: next(left[mode, driver])):
+        least = race.least_times({"C": "C", "libexif": "libexif"}, Path("a"), 3, 0.1)
+    assert (least["parse", "C"], least["write", "C"], least["parse", "libexif"]) == (1.0, 4.0, None)
+    assert [list(it) for it in left.values()] == [[]] * 4
+
+
+def test_python_package(library):
+    if not Path(sysconfig.get_paths()["include"], "Python.h").is_file():
+        pytest.skip("there is no Python.h (Debian's package python3-dev)")
+    printed = benchmark("python/run.py", library, "--rounds", "1")
+    timed = re.findall(r"^  ([^:]+(?:: \w+)?): [\d.,]+ microseconds$", printed, re.M)
+    assert {"C: normalise", "exifnorm.normal", "normalise by ctypes", "normalise by the extension module"} <= {*timed}
+    numbers_of(r"^  exifnorm.normal over C: normalise: ([\d.]+)$", printed)
+
+
+def test_commands_on_pictures(library, folder):
+    """With exiftool alone on the path: pictures of another format, Chromium and Valgrind take long."""
+    for name in ("exiftool", "perl"):
+        need(name)
+        (folder / name).symlink_to(shutil.which(name))
+    few = [word for name in ("pictures", "rows", "compared") for word in (f"--{name}", "5")]
+    printed = benchmark("pictures/run.py", library, "--rounds", "1", *few, PATH=str(folder))
+    rows = [line.split(" | ") for line in printed.splitlines()[2:]]
+    assert [row for row in rows if not re.search(r"\d", row[1])] == [], "each measurement has a result"
+    for name in ("`index`", "memory of `same`", "memory of `changed`", "page of `report`"):
+        assert any(name in row[0] for row in rows), name

@@ -1,0 +1,225 @@
+"""What calls of the built library cost, in numbers that don't depend on the machine: the bytes that they allocate at most, the number of
+their allocations, and the instructions that valgrind counts, for orders that are made to be slow beside the usual one."""
+
+import re
+from collections import Counter, namedtuple
+from random import Random
+
+import pytest
+
+import orders
+from compiling import C99, HERE, need, run
+from kinds import ORIENTATION, OfStrips, bad_orders, many_datasets, random_records
+from meanings import RATIONAL, SHORT, Exif, Layout, Record, Value, laid
+
+# The bytes of a DataSet; more DataSets than FEW are sorted, in a second list or with four bytes for each group.
+ITEM, FEW, COUNTERS = 24, 64, 4 * 65536
+SMALL, SLACK = 1024, 1.03  # bytes of small lists; 3 % more than is allocated now
+LONG = 300_000  # DataSets, of which a text takes long to make
+# The instructions for a strip at most, in the usual order and in others: an eighth more than now.
+STRIP = {"check": (18, 52), "normalise": (181, 216), "compare": (152, 220)}
+SAME, SORTED = 1.3, 3.0  # how often the instructions of the usual order an unusual one takes, and one that has to be sorted
+PIECE = 8192  # bytes of the output buffer
+
+Counts = namedtuple("Counts", "peak allocations growths")
+
+
+class Costs:
+    """cost.c, which calls the library once."""
+
+    def __init__(self, program, folder):
+        self.program, self.path = program, folder / "block"
+
+    def counts(self, call, block):
+        """The most bytes that a call has allocated at once, its allocations, and how many of these made a list longer."""
+        self.path.write_bytes(block)
+        return Counts(*map(int, run(self.program, call, self.path).split()))
+
+    def instructions(self, call, block):
+        """Those of the call alone."""
+        need("valgrind")
+        self.path.write_bytes(block)
+        words = ["valgrind", "--tool=callgrind", "--callgrind-out-file=/dev/null", f"--toggle-collect=exifnorm_{call}", self.program]
+        found = int(re.search(r"Collected : (\d+)", run(*words, call, self.path))[1])
+        assert found > 100, "the call was not counted"
+        return found
+
+    def see_that_orders_are_alike(self, call, blocks, most):
+        """No order takes more than so many times the instructions of the first one."""
+        usual, *others = blocks
+        count = self.instructions(call, blocks[usual])
+        for name in others:
+            more = self.instructions(call, blocks[name]) / count
+            assert more <= most, f"{call}: the order {name} takes {more:.2f} times the instructions"
+
+
+@pytest.fixture(scope="session")
+def cost_program(session_folder, archive):
+    path = session_folder / "cost"
+    run(*C99, "-I", HERE, HERE / "cost.c", HERE / "fuzz" / "memory.c", archive, "-o", path)
+    return path
+
+
+@pytest.fixture
+def costs(cost_program, folder):
+    return Costs(cost_program, folder)
+
+
+# ---- memory
+
+
+def memory_of_record(call, record):
+    """The bytes that a call takes for an IIM block: one list of exactly its DataSets, and a second one or counters while it is sorted. A
+    text is made in a list of its own, which may double. Nothing is kept of a block that is only checked."""
+    count = len(record.datasets)
+    if call == "check":
+        return 0
+    text = 2 * len({"show": record.listing, "captions": record.captions}.get(call, str)())
+    sorting = min(COUNTERS, ITEM * count) if count > FEW else 0
+    return (2 if call == "compare" else 1) * ITEM * count + sorting + text
+
+
+@pytest.mark.parametrize("kinds", [many_datasets, bad_orders, random_records], ids=lambda it: it.__name__)
+def test_memory_of_records(costs, kinds):
+    """In proportion to the DataSets, in any order of them."""
+    for kind in (it for it in kinds() if isinstance(it.meaning, Record)):
+        texts = ("show", "captions") if len(kind.meaning.datasets) < LONG else ()
+        for call in ("check", "normalise", "compare", *texts):
+            took, most = costs.counts(call, kind.blocks[0]).peak, memory_of_record(call, kind.meaning)
+            assert took <= SLACK * (most + SMALL), f"{call} of {kind.name}"
+
+
+def strips(order, count):
+    """A thumbnail with strips of one byte: ascending, descending, or in random order (1, -1, 0)."""
+    layout = Layout(">") if order > 0 else Layout(">", shuffled=True, chance=OfStrips(count, order))
+    return laid(Exif(dict(ORIENTATION), thumb={}, strips=[b"x"] * count), layout)
+
+
+@pytest.mark.parametrize("order", [1, -1, 0], ids=["ascending", "descending", "random"])
+def test_memory_of_strips(costs, order):
+    """A bit for each byte of the block."""
+    block = strips(order, 400_000)
+    for call in ("check", "normalise", "captions", "compare"):
+        assert costs.counts(call, block).peak <= SLACK * (len(block) / 8 + SMALL), call
+
+
+def test_memory_of_fields_that_are_checked(costs):
+    """A check keeps no field of these directories."""
+    fields = {tag: Value(SHORT, [1]) for tag in range(0x1000, 0x2000)}
+    block = laid(Exif(fields, exif=fields, interop=fields, gps=fields), Layout("<"))
+    assert costs.counts("check", block).peak <= SLACK * (len(block) / 8 + SMALL)
+
+
+FIELDS = {tag: Value(SHORT, [1]) for tag in range(0x1000, 0x1064)}
+# Meanings, each with the number of lists of a check, and of a meaning that is read (docs/DECISIONS.md). The claimed ranges of an Exif block
+# are one list of bits, and a check keeps nothing else but the fields of the thumbnail directory. The meaning has a list for the fields of
+# each directory, and one for the DataSets of a record. A check of an IIM block keeps nothing. Up to 64 DataSets, or more in order, take one
+# list. Others are sorted from list to list, or into a list by counters, which are a list too.
+LISTS = {
+    "one field": (Exif(dict(ORIENTATION)), 1, 1 + 1),
+    "100 fields": (Exif(FIELDS), 1, 1 + 1),
+    "1,000 fields": (Exif({tag: Value(SHORT, [1]) for tag in range(0x1000, 0x13E8)}), 1, 1 + 1),
+    "two directories": (Exif(dict(ORIENTATION), exif=FIELDS), 1, 1 + 2),
+    "five directories": (Exif(FIELDS, exif=FIELDS, interop=FIELDS, gps=FIELDS, thumb=FIELDS, jpeg=b"jpeg"), 1 + 1, 1 + 5),
+    "five directories of one field": (Exif(*[dict(ORIENTATION)] * 5, jpeg=b"jpeg"), 1 + 1, 1 + 5),
+    "strips": (Exif(dict(ORIENTATION), thumb={}, strips=[b"x"] * 100), 1 + 1, 1 + 2),
+    "captions in an Exif block": (Exif(dict(ORIENTATION), record=orders.captions()), 1, 1 + 1 + 1),
+    "captions": (orders.captions(), 0, 1),
+    "one DataSet": (orders.record(orders.descending(1)), 0, 1),
+    "64 DataSets, descending": (orders.record(orders.descending(FEW)), 0, 1),
+    "65 DataSets, descending": (orders.record(orders.descending(FEW + 1)), 0, 2),
+    "10,922 DataSets, descending": (orders.record(orders.descending(COUNTERS // ITEM)), 0, 2),
+    "10,923 DataSets, descending": (orders.record(orders.descending(COUNTERS // ITEM + 1)), 0, 2),
+    "20,000 DataSets in order": (orders.record(orders.ascending(20_000)), 0, 1),
+}
+
+
+def growths(text):
+    """How often the list of a text grows: each piece of a text is appended as it is, and the list doubles."""
+    return (-(-len(text) // PIECE) - 1).bit_length()
+
+
+@pytest.mark.parametrize("meaning, checked, read", LISTS.values(), ids=LISTS)
+def test_one_allocation_for_each_list(costs, meaning, checked, read):
+    """The space for a list is allocated at once, so that none grows while a block is read: a list of 100 fields that had space for 99
+    would be one more allocation. A text is a list that grows. A form is written into the caller's memory."""
+    block = laid(meaning, Layout("<")) if isinstance(meaning, Exif) else meaning.spelled()
+    shown, captions = growths(meaning.listing()), growths(meaning.captions())
+    calls = {
+        "check": (checked, 0),
+        "normalise": (read, 0),
+        "show": (read + 1 + shown, shown),
+        "captions": (read + 1 + captions, captions),
+        "compare": (2 * read, 0),
+    }
+    assert {call: costs.counts(call, block)[1:] for call in calls} == calls
+
+
+# ---- instructions
+
+
+def iim(names):
+    return orders.record(names, b"octets 1").spelled()
+
+
+@pytest.mark.parametrize("call", ["check", "normalise"])
+def test_instructions_of_values_in_another_order(costs, call):
+    fields = Exif({tag: Value(RATIONAL, [(tag, 7)]) for tag in range(0x1000, 0x3000)})
+    blocks = {"usual": laid(fields, Layout("<")), "shuffled": laid(fields, Layout("<", shuffled=True))}
+    costs.see_that_orders_are_alike(call, blocks, SAME)
+
+
+@pytest.mark.parametrize("call", STRIP)
+@pytest.mark.parametrize("count", [50_000, 140_000], ids=["in the first megabyte", "after the first megabyte"])
+def test_instructions_for_each_strip(costs, count, call):
+    """Strips in the usual order are judged by one look at their whole span, and others one by one. A limit that is more than twice what a
+    strip takes would notice no slower body."""
+    each = {
+        name: costs.instructions(call, strips(order, count)) / count
+        for name, order in (("ascending", 1), ("descending", -1), ("random", 0))
+    }
+    for name, instructions in each.items():
+        most = STRIP[call][name != "ascending"]
+        assert most / 2 <= instructions <= most, f"{instructions:.1f} instructions for each strip in {name} order"
+        assert instructions / each["ascending"] <= (SAME if call == "normalise" else SORTED), f"{name} order"
+
+
+@pytest.mark.parametrize("call, most", [("check", 1.0), ("normalise", SORTED), ("captions", SORTED), ("compare", SORTED)])
+def test_instructions_of_groups_in_another_order(costs, call, most):
+    names = list(orders.ascending(orders.ALL))
+    blocks = {"usual": iim(names), "descending": iim(names[::-1]), "random": iim(orders.shuffled())}
+    costs.see_that_orders_are_alike(call, blocks, most)
+
+
+@pytest.mark.parametrize("count", [FEW, FEW + 1, 1000, COUNTERS // ITEM, COUNTERS // ITEM + 1])
+def test_instructions_of_few_groups_in_another_order(costs, count):
+    names = sorted(Random(1).sample(list(orders.ascending(orders.ALL)), count))
+    blocks = {"usual": iim(names), "descending": iim(names[::-1]), "random": iim(Random(2).sample(names, count))}
+    costs.see_that_orders_are_alike("check", blocks, 1.0)
+    costs.see_that_orders_are_alike("normalise", blocks, SORTED)
+
+
+@pytest.mark.parametrize("call, most", [("check", 1.0), ("normalise", SORTED), ("captions", SORTED), ("compare", SORTED)])
+def test_instructions_of_random_records(costs, call, most):
+    names = list(orders.random(200_000))
+    in_order = [name for name, count in sorted(Counter(names).items()) for _ in range(count)]
+    costs.see_that_orders_are_alike(call, {"usual": iim(in_order), "random": iim(names)}, most)
+
+
+# Meanings whose values are swapped in the normal form, each with the instructions for each byte of the form at most: an eighth more than
+# now, or a twentieth for the shortest. The buffer of a short form is small, because it is cleared. A value is swapped directly into the
+# output buffer if it fits there, and a long one directly into the caller's memory. The lengths of strips are written as one value.
+SWAPPED = {
+    "one SHORT": (Exif(dict(ORIENTATION)), 205),  # about 506, if 8,192 bytes are cleared
+    "1,000 values of 500 SHORTs": (Exif({tag: Value(SHORT, range(500)) for tag in range(0x1000, 0x13E8)}), 1.11),
+    "a megabyte of SHORTs": (Exif({0x1000: Value(SHORT, [it % 65_536 for it in range(1 << 19)])}), 0.65),
+    "50,000 strips": (Exif(dict(ORIENTATION), thumb={}, strips=[b"x"] * 50_000), 19.6),
+}
+
+
+@pytest.mark.parametrize("meaning, most", SWAPPED.values(), ids=SWAPPED)
+def test_instructions_for_each_byte_of_a_form(costs, meaning, most):
+    """A limit that is more than twice what a form takes would notice no slower body."""
+    block = laid(meaning, Layout("<"))
+    each = costs.instructions("normalise", block) / len(block)
+    assert most / 2 <= each <= most, f"{each:.3f} instructions for each byte"

@@ -1,0 +1,130 @@
+"""The C interface: the header against the sources, the manual page, the exports and the declarations in Python, and calls whose arguments
+are at the limits of what is allowed."""
+
+import re
+import shlex
+
+import pytest
+
+import exifnorm
+from compiling import HEADERS, HERE, STRICT, need, run, text_of
+from exifnorm import _library
+from judged import NAMES
+from meanings import LIMIT
+
+FOR_CPP = [it for it in STRICT if it != "-Wstrict-prototypes"]
+HEADER = (HEADERS / "exifnorm.h").read_text(encoding="utf-8")
+PAGE = text_of("docs", "exifnorm.3")
+VERSION = re.search(r'VERSION: &str = "(.*)";', text_of("crates", "px_engine", "src", "version.rt"))[1]
+STATUSES = dict(re.findall(r"pub const (\w+): u32 = (\d+);", text_of("crates", "px_c", "src", "statuses.rt")))
+
+
+def prototypes(text):
+    """Each function of a C text, with its type and its parameters."""
+    plain = re.sub(r"\s+", " ", re.sub(r"/\*.*?\*/", "", text, flags=re.S))
+    found = re.findall(r"(\w+) (exifnorm_\w+)\(([^()]*)\);", plain)
+    return {name: (kind, [it.strip() for it in parameters.split(",")]) for kind, name, parameters in found}
+
+
+def page_prototypes():
+    """The prototypes in the manual page's synopsis."""
+    synopsis = re.search(r"^\.SH SYNOPSIS\n(.*?)^\.SH", PAGE, re.M | re.S)[1]
+    # the words of a line with .BI are printed without the spaces that separate them
+    return prototypes(" ".join("".join(shlex.split(it[4:])) for it in synopsis.splitlines() if it.startswith(".BI ")))
+
+
+def numbers_of_the_sources():
+    """The numbers that the header's names must have, from the sources in Rattle."""
+    table = text_of("crates", "px_bytes", "src", "causes.rt")
+    causes = re.findall(r"^ +(\d+) => Some\(Cause::(\w+)\),$", table, re.M)
+    assert [name for _, name in causes] == re.findall(r'^ +Cause::\w+ => b"(\w+)",$', table, re.M) == NAMES
+    in_capitals = {name: re.sub(r"(?<!^)(?=[A-Z])", "_", name.replace("DataSet", "Dataset")).upper() for _, name in causes}
+    known = {f"EXIFNORM_{name}": int(number) for name, number in STATUSES.items()}
+    known.update((f"EXIFNORM_CAUSE_{in_capitals[name]}", int(number)) for number, name in causes)
+    return {**known, "EXIFNORM_LIMIT": LIMIT, "EXIFNORM_EXIF": 1, "EXIFNORM_IIM": 2, "EXIFNORM_NAME_ROOM": 32}
+
+
+def test_exports_are_those_of_the_header(shared, archive):
+    names = set(prototypes(HEADER))
+    shown = run("nm", "-D", "--defined-only", shared).splitlines()
+    assert {it.split()[-1] for it in shown} == {"EXIFNORM_1", *(f"{it}@@EXIFNORM_1" for it in names)}
+    shown = run("nm", "-g", "--defined-only", archive).splitlines()
+    assert {it.split()[-1] for it in shown if " T " in it or " D " in it} == names
+
+
+def test_needs_the_c_library_alone_and_is_hardened(shared):
+    dynamic, segments = run("readelf", "-dW", shared), run("readelf", "-lW", shared)
+    assert re.findall(r"\(NEEDED\).*\[(.*)\]", dynamic) == ["libc.so.6"]
+    assert re.search(r"SONAME.*\[libexifnorm\.so\.1\]", dynamic)
+    assert "BIND_NOW" in dynamic or re.search(r"FLAGS_1.*NOW", dynamic)
+    assert "GNU_RELRO" in segments and re.search(r"GNU_STACK .* RW +0x", segments)
+
+
+@pytest.mark.parametrize("compiler", [["cc", "-std=c99"], ["cc", "-std=c11"], ["c++", "-std=c++11", "-x", "c++"]], ids=lambda it: it[1][5:])
+def test_header_has_the_numbers_of_the_sources(compiler, folder):
+    """It is included twice, and its struct is that of the library."""
+    need(compiler[0])
+    names = sorted(set(re.findall(r"^(?:#define | +)(EXIFNORM_[A-Z_]+)(?= = | \d)", HEADER, re.M)))
+    printed = [f'    printf("%s %lld\\n", "{it}", (long long){it});' for it in names]
+    fault = "(int)sizeof(struct exifnorm_fault), (int)offsetof(struct exifnorm_fault, cause), (int)offsetof(struct exifnorm_fault, place)"
+    source = folder / "names.c"
+    lines = ["#include <exifnorm.h>", "#include <exifnorm.h>", "#include <stdio.h>", "int main(void) {", *printed]
+    source.write_text("\n".join([*lines, f'    printf("fault %d%d%d\\n", {fault});', "    return 0;", "}", ""]), encoding="ascii")
+    run(*compiler, *(FOR_CPP if compiler[0] == "c++" else [*STRICT, "-Wundef", "-Wstrict-prototypes"]), source, "-o", folder / "names")
+    found = {name: int(number) for name, number in (it.split() for it in run(folder / "names").splitlines())}
+    assert found.pop("fault") == 804, "size, and the offsets of cause and place"
+    assert found == numbers_of_the_sources()
+
+
+def test_manual_page_has_the_same_prototypes_statuses_and_kinds():
+    assert page_prototypes() == prototypes(HEADER)
+    listed = dict(re.findall(r'^\.BR EXIFNORM_(\w+) " \((\d+)\)\.?"', PAGE, re.MULTILINE))
+    assert listed == {**STATUSES, "EXIF": "1", "IIM": "2"}
+    assert set(re.findall(r"\bEXIFNORM_[A-Z_]+\b", PAGE)) <= set(re.findall(r"\bEXIFNORM_[A-Z_]+\b", HEADER))
+
+
+def test_stack_size_is_the_one_that_tests_run_with():
+    (stated,) = {*re.findall(r"stack of (\d+) KiB", HEADER + PAGE)}
+    assert f"ulimit -s {stated} &&" in text_of("tests", "library", "test_all_blocks.py")
+    assert f"STACK = {stated} * 1024 " in text_of("tests", "library", "calls.c")
+
+
+def test_python_has_the_same_statuses_causes_and_version(way):
+    assert {it.name: str(it.value) for it in exifnorm.Status} == STATUSES
+    assert [_library.library().cause_name(at + 1) for at in range(len(NAMES) + 1)] == [*NAMES, ""]
+    assert (exifnorm.LIMIT, exifnorm.version(), exifnorm.__version__) == (LIMIT, VERSION, VERSION)
+
+
+# The names that ctypes has for the types of the header on this machine.
+IN_PYTHON = {
+    "const unsigned char *": "c_char_p",
+    "unsigned char *": "LP_c_char",
+    "char *": "LP_c_char",
+    "size_t": "c_ulong",
+    "size_t *": "LP_c_ulong",
+    "uint32_t": "c_uint",
+    "uint32_t *": "LP_c_uint",
+    "struct exifnorm_fault *": "LP_Fault",
+}
+
+
+@pytest.mark.parametrize("name", [*prototypes(HEADER)])
+def test_python_declares_the_prototype(name):
+    kind, parameters = prototypes(HEADER)[name]
+    call = getattr(_library.library()._library, name)
+    assert call.restype.__name__ == IN_PYTHON[kind]
+    assert [it.__name__ for it in call.argtypes] == [IN_PYTHON[re.sub(r"\w+$", "", it).strip()] for it in parameters]
+
+
+def test_is_called_from_cpp(archive, folder):
+    need("c++")
+    run("c++", *FOR_CPP, "-x", "c++", HERE / "examples" / "compare.c", "-x", "none", archive, "-o", folder / "plus")
+    assert run(folder / "plus") == "same\n"
+
+
+@pytest.mark.parametrize("kind", ["shared", "static"])
+def test_arguments_at_their_limits(kind, shared, archive, folder):
+    """Empty and largest blocks, outputs of each length, and each status; edges.c prints a line for each failure."""
+    library = [shared, f"-Wl,-rpath,{shared.parent}"] if kind == "shared" else [archive]
+    run("cc", "-std=c99", "-O1", *STRICT, HERE / "edges.c", "-o", folder / "edges", *library)
+    assert re.fullmatch(r"[1-9]\d* checks\n", run(folder / "edges", VERSION, *NAMES))

@@ -1,0 +1,175 @@
+"""Laws of the library's results that hold for any block, over hundreds of thousands of blocks that fuzz.c makes by chance; and wrong
+libraries, each of which must break the laws that are there to find it.
+
+FUZZ_BLOCKS and FUZZ_SEED of the environment are the number of blocks and the seed that determines them (docs/FUZZING.md).
+"""
+
+import os
+import re
+import shlex
+import shutil
+import signal
+import subprocess
+from dataclasses import dataclass, field
+
+import pytest
+
+from compiling import HEADERS, HERE, TOP, run, text_of
+from fuzz import write_corpus, write_files
+from reading import CAUSES
+
+BLOCKS, SEED = int(os.environ.get("FUZZ_BLOCKS", 400_000)), int(os.environ.get("FUZZ_SEED", 1))
+PARTS = 4  # processes that share the blocks
+FOR_WRONG = 8_000  # blocks for each wrong library
+CC = ["cc", "-std=c99", "-Wall", "-Wextra", "-Werror", "-O2", "-I", HEADERS, "-I", HERE]
+
+LAWS = dict(re.findall(r'^ +LAW\((\w+), "(.*)"\)', text_of("tests", "library", "fuzz", "laws.h"), re.M))
+MISTAKES = dict(re.findall(r'^ +MISTAKE\((\w+), "(.*)"\)', text_of("tests", "library", "fuzz", "wrong.c"), re.M))
+# The laws, each with mistakes that it must find by itself, whatever other laws find.
+FINDS = {
+    "ANSWERS": "ODD_STATUS",
+    "KIND": "OTHER_KIND",
+    "FAULT": "NEXT_CAUSE PLACE_OUTSIDE",
+    "UNTOUCHED": "KIND_OF_REFUSED FAULT_OF_ACCEPTED FORM_WRITES_REFUSED",
+    "AGAIN": "FORGETS",
+    "READ_ONLY": "WRITES_BLOCK",
+    "NORMALISE": "FORM_FAULT WEAK_CHECK",
+    "LENGTH": "FORM_TOO_LONG",
+    "BEHIND": "FORM_BEHIND",
+    "FORM": "FORM_LESS_A_BIT",
+    "FORM_KIND": "FORM_CUT",
+    "HEADER": "FORM_IS_BLOCK FORM_CUT",
+    "SAME": "SAME_BYTES SAME_ONE_WAY",
+    "ITSELF": "NEVER_SAME",
+    "SYMMETRIC": "SAME_ONE_WAY",
+    "FORMS_TELL": "ALWAYS_SAME NEVER_SAME SAME_LENGTH",
+    "KINDS_DIFFER": "SAME_KINDS",
+    "FIRST": "FIRST_IS_SECOND",
+    "SECOND": "SECOND_IS_FIRST SECOND_UNJUDGED",
+    "LITTLE_ROOM": "ROOM_IS_ENOUGH ROOM_LENGTH ROOM_OF_TEXT",
+    "MORE_ROOM": "FORM_IS_BLOCK",
+    "SHOW": "SHOW_ACCEPTS",
+    "LISTING": "LISTING_EMPTY LISTING_UNENDED LISTING_BINARY",
+    "LISTINGS_TELL": "LISTING_EMPTY LISTING_OF_PLACES",
+    "FORM_LISTING": "LISTING_OF_PLACES",
+    "CAPTIONS": "CAPTIONS_ACCEPT",
+    "LABELS": "CAPTIONS_UNLABELLED CAPTIONS_ODD",
+    "FORM_CAPTIONS": "CAPTIONS_OF_PLACES",
+    "PREFIX": "PLACE_BEHIND_PREFIX PREFIX_REFUSED",
+    "TAIL": "TAIL_REFUSED",
+    "ZEROS": "ZEROS_REFUSED THREE_ZEROS_REFUSED ZEROS_ACCEPTED FAULT_AT_END",
+    "JOINED": "FORM_WITH_ZEROS",
+    "FREED": "LEAKS",
+    "LITTLE": "TAKES_MUCH",
+    "NO_MEMORY": "IGNORES_NULL SETS_WITHOUT_MEMORY",
+    "ORDER": "FAULT_AT_END",
+}
+
+
+@dataclass
+class Report:
+    """What the laws saw."""
+
+    status: int
+    text: str
+    broken: set = field(default_factory=set)  # the names of the laws
+    looked: dict = field(default_factory=dict)  # how often each law was looked at, by its text
+    causes: dict = field(default_factory=dict)  # how often each cause was met
+    blocks: int = 0
+    accepted: int = 0
+    records: int = 0
+
+
+def read_report(status, text):
+    report = Report(status, text)
+    report.broken = {name for name, law in LAWS.items() if f"BROKEN {law}: " in text}
+    report.looked = {law: int(count) for count, law in re.findall(r"^law (\d+) \d+ (.*)$", text, re.M)}
+    report.causes = {int(cause): int(count) for cause, count in re.findall(r"^cause (\d+) (\d+)$", text, re.M)}
+    found = re.search(r"^blocks (\d+) accepted (\d+) records (\d+)$", text, re.M)
+    if found:
+        report.blocks, report.accepted, report.records = map(int, found.groups())
+    return report
+
+
+class Fuzz:
+    """The compiled laws, the known blocks, and a library that is loaded before the built one and changes its results on request."""
+
+    def __init__(self, shared, folder):
+        self.shared, self.corpus, self.program, self.wrong = shared, folder / "corpus", folder / "fuzz", folder / "wrong"
+        write_corpus(self.corpus)
+        self.wrong.mkdir()
+        sources = [HERE / it for it in ("fuzz.c", "fuzz/laws.c", "fuzz/changes.c", "fuzz/memory.c")]
+        run(*CC, "-rdynamic", "-o", self.program, *sources, shared)
+        wrong = self.wrong / "libexifnorm.so.1"
+        run(*CC, "-shared", "-fPIC", "-Wl,-soname,libexifnorm.so.1", "-o", wrong, HERE / "fuzz" / "wrong.c", "-ldl")
+
+    def environment(self, mistake):
+        if not mistake:
+            return {"LD_LIBRARY_PATH": str(self.shared.parent), "LANG": "C"}
+        return {"LD_LIBRARY_PATH": str(self.wrong), "LANG": "C", "WRONG": mistake, "RIGHT": str(self.shared)}
+
+    def report(self, seed, blocks, mistake=""):
+        words = [self.program, self.corpus, str(seed), str(blocks)]
+        ran = subprocess.run(words, env=self.environment(mistake), capture_output=True, text=True, check=False)
+        return read_report(ran.returncode, ran.stdout + ran.stderr)
+
+
+@pytest.fixture(scope="session")
+def fuzz(shared, session_folder):
+    folder = session_folder / "fuzz of the library"
+    folder.mkdir()
+    return Fuzz(shared, folder)
+
+
+@pytest.mark.timeout(0)  # FUZZ_BLOCKS may ask for hours
+@pytest.mark.parametrize("part", range(PARTS))
+def test_laws_hold(fuzz, part):
+    """For all blocks. Each law is looked at often, and each cause of a refusal is met, but the one that takes 16 MB."""
+    blocks = BLOCKS // PARTS
+    report = fuzz.report(SEED + part, blocks)
+    assert not report.broken and report.status == 0, report.text[-3000:]
+    assert report.blocks >= blocks
+    assert [law for law in LAWS.values() if report.looked[law] < blocks // 2000] == [], "they were hardly looked at"
+    met = {cause for cause, count in report.causes.items() if count}
+    assert met == {*range(2, len(CAUSES) + 1)}
+    assert report.accepted >= blocks // 5
+    assert report.records >= blocks // 100 and report.accepted - report.records >= blocks // 20
+
+
+def test_a_library_in_front_without_a_mistake_breaks_no_law(fuzz):
+    report = fuzz.report(7, FOR_WRONG, "NONE")
+    assert (report.broken, report.status) == (set(), 0) and report.blocks >= FOR_WRONG
+
+
+@pytest.mark.parametrize("name", MISTAKES)
+def test_a_wrong_library_is_found(fuzz, name):
+    report = fuzz.report(7, FOR_WRONG, name)
+    if name == "READS_BEHIND":  # after a block is a page that can't be read
+        assert report.status == -signal.SIGSEGV or report.broken
+    else:
+        assert report.status == 1 and report.broken, f"{MISTAKES[name]}: {report.text[-500:]}"
+    assert {law for law, names in FINDS.items() if name in names.split()} <= report.broken
+
+
+# ---- the targets of other fuzzers
+
+
+def document_command(tool):
+    """The words of the command with which docs/FUZZING.md compiles a target."""
+    found = re.search(rf"^    ({tool} (?:.*\\\n)*.*)$", text_of("docs", "FUZZING.md"), re.M)
+    return shlex.split(found[1].replace("\\\n", " "))
+
+
+@pytest.mark.parametrize("tool", ["clang", "afl-clang-fast"])
+def test_target_of_a_fuzzer(fuzz, tool, folder):
+    """It is compiled as in the document; it runs, and stops at a wrong library."""
+    if not shutil.which(tool):
+        pytest.skip(f"{tool} is not installed")
+    words, target, corpus = document_command(tool), folder / "target", folder / "known"
+    words[words.index("-o") + 1], words[-1] = str(target), str(fuzz.shared)
+    subprocess.run(words, cwd=TOP, check=True)
+    write_files(corpus)
+    options = ["-runs=20000", "-seed=1", "-max_len=4096", corpus] if tool == "clang" else [corpus / "known-0000"]
+    for mistake in ("", "FORM_CUT"):
+        ran = subprocess.run([target, *options], cwd=folder, env=fuzz.environment(mistake), capture_output=True, text=True, check=False)
+        assert (ran.returncode != 0, "BROKEN" in ran.stdout) == (bool(mistake), bool(mistake)), (ran.stdout + ran.stderr)[-500:]
