@@ -23,7 +23,7 @@ TOP = Path(__file__).resolve().parent.parent
 WORK, MADE = TOP / "out" / "releasing", TOP / "out" / "release"
 TOKEN = "OWNER-" + "FILLS-IN"  # marks what only the owner of the repository knows; in two parts, so that it doesn't mark this line
 PYTHON = "/usr/bin/python3"  # that of the packages
-TOOLS = {"dpkg-buildpackage": "dpkg-dev", "dh": "debhelper", "dh_python3": "dh-python", "rt": "the Rattle kit", "git": "git", "gpg": "gpg"}
+TOOLS = {"dpkg-buildpackage": "dpkg-dev", "dh": "debhelper", "dh_python3": "dh-python", "rt": "the Rattle kit", "git": "git"}
 KEPT = ("px_cli", "libpx_c.a", "*.made-from")  # of out/proved: with these nothing is proved again
 
 
@@ -56,7 +56,8 @@ def missing() -> Iterator[str]:
 
 def check(key: str) -> None:
     """Reports what is missing. Without it, or with changes that aren't committed, nothing is signed."""
-    lacking = sorted(package for tool, package in TOOLS.items() if not shutil.which(tool))
+    needed = {**TOOLS, "gpg": "gnupg"} if key else TOOLS
+    lacking = sorted(package for tool, package in needed.items() if not shutil.which(tool))
     if lacking:
         raise Failed(f"to build the packages, install {', '.join(lacking)}")
     found = list(missing())
