@@ -10,6 +10,7 @@ bytes. The folder out/release is replaced at the end, if everything was made.
 
 from __future__ import annotations
 
+import fcntl
 import hashlib
 import os
 import platform
@@ -145,7 +146,10 @@ def main(words: list[str]) -> int:
     if len(words) not in (2, 3):
         sys.exit(__doc__)
     try:
-        release(words[0], int(words[1]), "".join(words[2:]))
+        WORK.parent.mkdir(exist_ok=True)
+        with open(WORK.with_suffix(".lock"), "wb") as lock:
+            fcntl.flock(lock, fcntl.LOCK_EX)  # another run uses the same folder, so it is waited for
+            release(words[0], int(words[1]), "".join(words[2:]))
     except (Failed, OSError, subprocess.SubprocessError) as why:
         print(f"release: {why}", file=sys.stderr)
         return 1

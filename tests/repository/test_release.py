@@ -5,6 +5,9 @@ import re
 import shutil
 import subprocess
 import sys
+import threading
+import time
+from concurrent.futures import ThreadPoolExecutor
 from pathlib import Path
 
 import pytest
@@ -306,6 +309,25 @@ def test_a_release_that_fails_keeps_the_earlier_one(small, monkeypatch, capfd, w
         with pytest.raises(KeyboardInterrupt):
             release.main(["1.0", "0"])
     assert {it.name: it.read_bytes() for it in (small / "out/release").iterdir()} == before
+
+
+def test_two_releases_at_once_come_one_after_the_other(small, monkeypatch):
+    """Both would otherwise build in one folder."""
+    runs, begun, built = [], threading.Event(), release.build
+
+    def slow(*words):
+        runs.append("begin")
+        begun.set()
+        time.sleep(0.5)
+        runs.append("end")
+        return built(*words)
+
+    monkeypatch.setattr(release, "build", slow)
+    with ThreadPoolExecutor() as pool:
+        first = pool.submit(release.main, ["1.0", "0"])
+        begun.wait(60)
+        assert [release.main(["1.0", "0"]), first.result()] == [0, 0]
+    assert runs == ["begin", "end", "begin", "end"]
 
 
 def test_without_a_tool_the_package_is_named(small, monkeypatch, capfd):
