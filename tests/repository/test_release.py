@@ -274,12 +274,14 @@ def test_the_sums_are_signed(small, key):
     assert release.main(["1.0", "0", key]) == 0
     run("gpg", "--verify", "SHA256SUMS.asc", "SHA256SUMS", cwd=small / "out/release")
     run("sha256sum", "--check", "--strict", "SHA256SUMS", cwd=small / "out/release")
+    names = {it.name for it in (small / "out/release").iterdir()}
+    assert set(re.findall("(?m)  (.*)$", (small / "out/release/SHA256SUMS").read_text())) == names - {"SHA256SUMS", "SHA256SUMS.asc"}
 
 
-def test_what_the_owner_has_to_fill_in_is_printed_and_nothing_is_signed(small, capfd):
+def test_what_the_owner_has_to_fill_in_is_printed_and_nothing_is_signed(small, key, capfd):
     (small / "page.md").write_text(f"one\nWrite to {release.TOKEN}.\n")
     run("git", "-c", "user.name=a", "-c", "user.email=a@b", "commit", "-qam", "two", cwd=small)
-    assert release.main(["1.0", "0", "KEY"]) == 1
+    assert release.main(["1.0", "0", key]) == 1
     assert f"page.md:2: Write to {release.TOKEN}." in capfd.readouterr().err
     assert not (small / "out/release").exists()
     assert release.main(["1.0", "0"]) == 0
@@ -287,9 +289,9 @@ def test_what_the_owner_has_to_fill_in_is_printed_and_nothing_is_signed(small, c
     assert not (small / "out/release/SHA256SUMS.asc").exists()
 
 
-def test_a_change_that_is_not_committed_is_not_signed(small, capfd):
+def test_a_change_that_is_not_committed_is_not_signed(small, key, capfd):
     (small / "page.md").write_text("two\n")
-    assert release.main(["1.0", "0", "KEY"]) == 1
+    assert release.main(["1.0", "0", key]) == 1
     assert "not every change is committed" in capfd.readouterr().err
 
 
