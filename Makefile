@@ -57,11 +57,13 @@ stage = out/stage
 
 all: program library
 
-# ./exifnorm builds the program if a source has changed.
+# What was compiled without its proofs is refused here, before anything is installed or packaged.
 program:
-	@./exifnorm --help >/dev/null
+	@./exifnorm --prove
+	@python3 build/guard.py "$(program)"
 
 library: $(built)/libexifnorm.a $(built)/libexifnorm.so $(built)/exifnorm.h
+	@python3 build/guard.py $(built)/libexifnorm.a $(built)/$(SONAME)
 
 .PHONY: FORCE
 # build/store.py knows what has to be proved and built again, as for the program. What is up to date keeps its time.

@@ -38,6 +38,7 @@ from verdict import refused_handles, refused_verdict, starts
 MEMORY = 3 << 30
 SIDE_BY_SIDE, JOBS = 3, 4
 
+NO_TOOLCHAIN = "this has to be built, and there is no command rt: put the Rattle toolchain's bin folder on the PATH"
 STOPS = (signal.SIGHUP, signal.SIGINT, signal.SIGTERM)
 
 # The system may give a signal to a thread that waits for a compiler. What is to be done then is done by the main thread, which that
@@ -124,12 +125,16 @@ def listen() -> None:
             signal.signal(it, stop)
 
 
+<<<<<<< HEAD
 def take_lock(lock: IO[str]) -> None:
+=======
+def take_lock(lock: IO, waiting: str) -> None:
+>>>>>>> f247adf (./exifnorm and ./exifnorm-pictures compile without proofs at first)
     """Blocks until no other build runs here, nor a compiler that one left. The system frees a lock whose process has ended."""
     try:
         fcntl.flock(lock, fcntl.LOCK_EX | fcntl.LOCK_NB)
     except BlockingIOError:
-        say("another build proves these crates: waiting for it")
+        say(waiting)
         fcntl.flock(lock, fcntl.LOCK_EX)
 
 
@@ -146,10 +151,10 @@ def build(crate: str, store: Store) -> None:
     if store.is_current(crate):
         return
     if not store.version:
-        raise NotBuilt("the crates have to be proved, and there is no command rt: put the Rattle toolchain's bin folder on the PATH")
+        raise NotBuilt(NO_TOOLCHAIN)
     store.folder.mkdir(parents=True, exist_ok=True)
     with open(store.folder / "lock", "w", encoding="ascii") as lock:
-        take_lock(lock)
+        take_lock(lock, "another build proves these crates: waiting for it")
         store.clear()
         if gate.take(crates, crate, store):
             say(f"taking what was just proved of {crate}")

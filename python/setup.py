@@ -61,6 +61,7 @@ class BuildWithLibrary(build_py):
     def run(self) -> None:
         if not LIBRARY.exists():
             raise SystemExit(f"{LIBRARY} is missing: run `make` first, which builds it")
+        subprocess.run([sys.executable, TOP / "build" / "guard.py", LIBRARY], check=True)
         super().run()
         target = Path(self.build_lib, "exifnorm", LIBRARY.name)
         shutil.copyfile(LIBRARY, target)

@@ -88,11 +88,11 @@ def test_a_full_disk_ends_no_call_where_all_is_built(room):
     """Only what the quick check compares would be written, and the next call can do that."""
     made = small(room, "built")
     made.settle()
-    (made.top / "out/looked").unlink()
+    made.seen.unlink()
     (made.folder / "fault").write_text("full 1")
     ran = made.call("a")
     assert (ran.returncode, ran.stdout, ran.stderr) == (0, "one: a\n", ""), ran
-    assert not (made.top / "out/looked").exists(), "it was written"
+    assert not made.seen.exists(), "it was written"
 
 
 def test_a_file_that_cannot_grow_is_an_error(room):
@@ -118,7 +118,7 @@ def test_what_is_left_behind_is_no_obstacle(room):
     (proved / "lock").write_text("99999999\n")
     os.symlink("99999999", room.top / "out/building")
     os.symlink("99999999", room.top / "out/sweeping")
-    (room.top / "out/looked").write_text("")
+    room.seen.write_text("")
     (room.top / "out/exifnorm").mkdir()
     ran = room.call("a")
     assert ran.returncode == 70, ran

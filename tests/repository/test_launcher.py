@@ -126,7 +126,7 @@ def test_a_change_of_what_is_no_source_of_a_crate_is_noticed(room):
 
 def test_a_look_is_noted_of_nothing_that_has_just_changed(room):
     room.call()
-    looked = room.top / "out" / "looked"
+    looked = room.seen
     for it in (room.main, room.top / "crates.txt", room.rt):
         room.settle()
         looked.unlink()
@@ -210,8 +210,8 @@ def test_a_built_program_runs_without_the_toolchain(room):
     assert (ran.returncode, ran.stdout, ran.stderr) == (0, "one: a\n", ""), ran
     room.main.write_text("two")
     ran = room.call("a", has_rt=False)
-    toolchain = "the crates have to be proved, and there is no command rt: put the Rattle toolchain's bin folder on the PATH"
-    assert (ran.returncode, ran.stdout, ran.stderr) == (70, "", f"{FIRST}\nexifnorm: {toolchain}\n"), ran
+    toolchain = "this has to be built, and there is no command rt: put the Rattle toolchain's bin folder on the PATH"
+    assert (ran.returncode, ran.stdout, ran.stderr) == (70, "", f"exifnorm: {toolchain}\n"), ran
 
 
 def test_a_call_without_python_runs_what_is_built_and_builds_nothing(room):
@@ -383,7 +383,7 @@ def test_it_prints_where_the_built_program_is(room):
         room.settle()
         assert room.call("--where", cwd="/").stdout == ran.stdout, "another call says another place"
         for words in (("--where", "a"), ("--where", ""), ("", "--where"), ("--where a",)):
-            is_quick or (room.top / "out/looked").unlink(missing_ok=True)
+            is_quick or room.seen.unlink(missing_ok=True)
             assert room.call(*words).stdout == f"one: {' '.join(words)}\n", "beside other arguments it is the program's"
 
 
@@ -461,7 +461,7 @@ def nobody(room: Room) -> dict:
 def test_a_built_program_is_for_all_users(room):
     """A call of theirs can note no quick look."""
     room.call()
-    looked = room.top / "out/looked"
+    looked = room.seen
     looked.unlink(missing_ok=True)
     how = nobody(room)
     if not how:

@@ -1,0 +1,11 @@
+"""Runs exifnorm-pictures with the packages of this folder. ./exifnorm-pictures calls it, with the library in EXIFNORM_LIBRARY."""
+
+import sys
+from pathlib import Path
+
+sys.path[0] = str(Path(__file__).resolve().parent.parent / "python")  # which was build/
+
+from exifnorm_pictures.main import main
+
+if __name__ == "__main__":
+    sys.exit(main())
