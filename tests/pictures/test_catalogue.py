@@ -8,6 +8,7 @@ import subprocess
 import sys
 import time
 
+import exifnorm
 from in_process import InFolder
 from made_blocks import BLOCKS, LONG, MAKE, MODEL, block, with_exif
 from studio import SMALL_JPEG, Studio, WithPictures, needs, read, run, tool, write
@@ -55,15 +56,16 @@ class Archive(InFolder):
 
     @needs("exiftool", "exiv2")
     def test_runs(self):
-        """Each run has its times in UTC, and the versions of the programs."""
+        """Each run has its times in UTC, and the versions of the library and of the programs."""
         before = time.strftime("%Y-%m-%dT%H:%M:%SZ", time.gmtime())
         self.run_again("--again", TZ="Asia/Tokyo")
         after = time.strftime("%Y-%m-%dT%H:%M:%SZ", time.gmtime())
         base = sqlite3.connect(self.path("c"))
-        (first, *_), (started, ended, exiftool, exiv2) = base.execute("SELECT started, ended, exiftool, exiv2 FROM runs ORDER BY id")
+        (first, *_), (started, ended, library, exiftool, exiv2) = base.execute("SELECT started, ended, exifnorm, exiftool, exiv2 FROM runs ORDER BY id")
         base.close()
         moments = [first, before, started, ended, after]
         self.assertEqual(moments, sorted(moments))
+        self.assertEqual(library, exifnorm.version())
         self.assertEqual(exiftool, tool(self.folder, "exiftool", "-ver").decode().strip())
         self.assertEqual(exiv2, tool(self.folder, "exiv2", "--version").decode().split()[1])
 

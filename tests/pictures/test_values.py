@@ -84,12 +84,13 @@ class RowsOfCatalogues(WithPictures):
         """Each is that of one run."""
         made = self.catalogue()
         later = made.begin_run("2001-02-03T04:05:06Z")
-        made.set_versions(later, "12.57", "0.27.6")
+        made.set_versions(later, "1.0.0-unproved", "12.57", "0.27.6")
         made.end_run(later, "2001-02-03T04:05:07Z")
         last = made.begin_run("2002-01-01T00:00:00Z")
-        made.set_versions(last, "13.00", None)
-        self.assertEqual(made.runs(), [("2000-01-01T00:00:00Z", None, None, None), ("2001-02-03T04:05:06Z", "2001-02-03T04:05:07Z", "12.57", "0.27.6"),
-                                       ("2002-01-01T00:00:00Z", None, "13.00", None)])  # fmt: skip
+        made.set_versions(last, "1.0.0", "13.00", None)
+        self.assertEqual(made.runs(), [("2000-01-01T00:00:00Z", None, None, None, None),
+                                       ("2001-02-03T04:05:06Z", "2001-02-03T04:05:07Z", "1.0.0-unproved", "12.57", "0.27.6"),
+                                       ("2002-01-01T00:00:00Z", None, "1.0.0", "13.00", None)])  # fmt: skip
 
     def test_a_copy_that_cannot_be_made(self):
         made = self.catalogue()

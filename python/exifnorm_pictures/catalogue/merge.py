@@ -7,7 +7,7 @@ from typing import Sequence
 
 from .store import Catalogue, NoCatalogue
 
-_RUNS = "INSERT INTO main.runs SELECT id + ?, started, ended, exiftool, exiv2 FROM other.runs"
+_RUNS = "INSERT INTO main.runs SELECT id + ?, started, ended, exifnorm, exiftool, exiv2 FROM other.runs"
 
 
 def merge(all_: Catalogue, names: Sequence[str]) -> int:

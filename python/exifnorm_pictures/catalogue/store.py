@@ -17,7 +17,7 @@ from ..extract.formats.found import NotRead
 from .records import Damaged, PictureRecord, Picture, Stamp, digests, has, not_read_of_row, picture_of_row
 
 APPLICATION = 0x45584E50  # 'EXNP', which distinguishes a catalogue from other SQLite files
-VERSION = 2
+VERSION = 3
 CACHE = 32_000  # kB of a catalogue that is written to: digests go into its index in no order
 PATIENCE = 200  # milliseconds that closing waits for other programs; while they read, the write-ahead log stays
 
@@ -26,6 +26,7 @@ CREATE TABLE runs (
     id INTEGER PRIMARY KEY,
     started TEXT NOT NULL,          -- UTC
     ended TEXT,                     -- missing where the run was stopped
+    exifnorm TEXT,                  -- the version of the library that made the digests; it ends with -unproved if that was not proved
     exiftool TEXT,                  -- versions of the programs
     exiv2 TEXT
 );
@@ -97,7 +98,8 @@ _ROWS = (
 )  # fmt: skip
 KEPT_BEFORE = ("Vanished", "Unreadable")  # what was known of a picture stays, if it can't be read now
 
-Run = Tuple[str, Optional[str], Optional[str], Optional[str]]  # when it began and ended, ExifTool's version, exiv2's
+# when it began and ended, the library's version, ExifTool's, exiv2's
+Run = Tuple[str, Optional[str], Optional[str], Optional[str], Optional[str]]
 Made = TypeVar("Made")
 
 
@@ -228,10 +230,10 @@ class Catalogue:
         with self.guarded():
             return int(self.base.execute("INSERT INTO runs (started) VALUES (?)", (started,)).lastrowid or 0)
 
-    def set_versions(self, run: int, exiftool: Optional[str], exiv2: Optional[str]) -> None:
-        """Keeps with which programs a run takes blocks."""
+    def set_versions(self, run: int, exifnorm: str, exiftool: Optional[str], exiv2: Optional[str]) -> None:
+        """Keeps which library makes the digests of a run, and with which programs it takes blocks."""
         with self.guarded():
-            self.base.execute("UPDATE runs SET exiftool = ?, exiv2 = ? WHERE id = ?", (exiftool, exiv2, run))
+            self.base.execute("UPDATE runs SET exifnorm = ?, exiftool = ?, exiv2 = ? WHERE id = ?", (exifnorm, exiftool, exiv2, run))
 
     def end_run(self, run: int, ended: str) -> None:
         """Records that a run is complete."""
@@ -321,7 +323,7 @@ class Catalogue:
 
     def runs(self) -> List[Run]:
         """Each run, the first one first."""
-        return list(self.rows("SELECT started, ended, exiftool, exiv2 FROM runs ORDER BY id", (), _run_of_row))
+        return list(self.rows("SELECT started, ended, exifnorm, exiftool, exiv2 FROM runs ORDER BY id", (), _run_of_row))
 
     def known(self, path: bytes) -> Optional[Known]:
         """The record of one picture."""

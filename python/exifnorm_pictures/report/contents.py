@@ -6,7 +6,7 @@ import heapq
 import json
 from collections import Counter
 from dataclasses import dataclass, field
-from typing import Any, Dict, Iterator, List, Optional, Set, Tuple
+from typing import Any, Dict, Iterator, List, Optional, Sequence, Set, Tuple
 
 from ..catalogue.records import WORDS, Picture, has, kind_of
 from ..catalogue.store import Catalogue, Run
@@ -110,6 +110,11 @@ def gather(about: About) -> Gathered:
     return found
 
 
+def unproved(runs: Sequence[Run]) -> List[str]:
+    """The versions of libraries without proofs that made digests."""
+    return sorted({it[2] for it in runs if it[2] and it[2].endswith("-unproved")})
+
+
 def _chosen(about: About) -> str:
     return f"problem IS NULL AND path IN {about.table()}" if about.table() else "problem IS NULL"
 
@@ -170,7 +175,8 @@ def members(about: About) -> Iterator[Members]:
     catalogue = about.catalogue
     states: "Counter[str]" = Counter(it.state for it in catalogue.pictures(about.table()))
     causes: "Counter[str]" = Counter(it.cause for it in _refused(about))
-    yield {"pictures": sum(states.values()), "states": dict(states), "causes": dict(causes)}
+    without_proof = unproved(catalogue.runs())
+    yield {"pictures": sum(states.values()), "states": dict(states), "causes": dict(causes), **({"unproved": without_proof} if without_proof else {})}
     for group in groups.groups(catalogue, only=about.table()):
         known = {"said": group.sentence(), "same_bytes": group.same_bytes, "wholly_read": not group.unread}
         yield {"same": [path_members(it) for it in group.pictures()], **known}

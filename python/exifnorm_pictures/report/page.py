@@ -13,7 +13,7 @@ from ..cli.output import shown_path
 from ..compare import changed, verdicts
 from ..extract.formats.found import PROBLEMS
 from ..refusals.causes import CAUSES
-from .contents import MOST_CHANGES, MOST_GROUPS, MOST_NAMES, MOST_OF_GROUP, MOST_REFUSED, EqualChanges, Gathered
+from .contents import MOST_CHANGES, MOST_GROUPS, MOST_NAMES, MOST_OF_GROUP, MOST_REFUSED, EqualChanges, Gathered, unproved
 from .style import STYLE
 from .thumbnails import small_pictures
 
@@ -59,13 +59,15 @@ def _name(path: bytes, roots: List[bytes]) -> str:
 def _head(found: Gathered, title: str) -> str:
     now = datetime.now(timezone.utc).strftime("%Y-%m-%d %H:%M UTC")
     folders = ", ".join(_text(shown_path(it)) for it in found.roots[:5]) + (" .." if len(found.roots) > 5 else "")
-    tool = f" &middot; ExifTool {_text(found.runs[-1][2])}" if found.runs and found.runs[-1][2] else ""
+    tool = f" &middot; ExifTool {_text(found.runs[-1][3])}" if found.runs and found.runs[-1][3] else ""
+    without_proof = unproved(found.runs)
+    doubt = f"\n<p>Results of exifnorm {_text(', '.join(without_proof))}, which is not proved</p>" if without_proof else ""
     return f"""<!DOCTYPE html>
 <html lang="en"><head><meta charset="utf-8">
 <meta http-equiv="Content-Security-Policy" content="default-src 'none'; img-src data:; style-src 'unsafe-inline'">
 <meta name="viewport" content="width=device-width, initial-scale=1"><title>{_text(title)}</title>
 <style>{STYLE}</style></head><body><header><h1>{_text(title)}</h1>
-<p>{found.total:,} files below {folders or "no folder"} &middot; {now}{tool}</p></header><main>
+<p>{found.total:,} files below {folders or "no folder"} &middot; {now}{tool}</p>{doubt}</header><main>
 """
 
 

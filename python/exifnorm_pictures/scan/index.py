@@ -165,7 +165,9 @@ class _Looking:
         """Looks at every picture that must be read."""
         if not self.work.to_read:
             return
-        self.catalogue.set_versions(self.run, _version("exiftool"), _version("exiv2"))
+        import exifnorm  # in most runs nothing has changed, and they don't load the library
+
+        self.catalogue.set_versions(self.run, exifnorm.version(), _version("exiftool"), _version("exiv2"))
         for it in self.options.look(self.work.to_read, self.options.how):
             self.ready.append(it)
             self.files += isinstance(it, Batch)
