@@ -134,7 +134,8 @@ class Products:
         for builds in range(3):
             seen = listing()
             if found := self.current():
-                note(seen, found)
+                if listing() == seen:  # `current` may have placed a link
+                    note(seen, found)
                 return found
             if not self.store.version:
                 raise NotBuilt(prove.NO_TOOLCHAIN)

@@ -118,6 +118,7 @@ def test_what_is_left_behind_is_no_obstacle(room):
     (proved / "lock").write_text("99999999\n")
     os.symlink("99999999", room.top / "out/building")
     os.symlink("99999999", room.top / "out/sweeping")
+    room.seen.parent.mkdir()
     room.seen.write_text("")
     (room.top / "out/exifnorm").mkdir()
     ran = room.call("a")
