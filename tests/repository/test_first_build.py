@@ -1,8 +1,8 @@
-"""Builds a small repository from nothing, as users build this one, with the toolchain itself: by the launcher and by make.
+"""Builds a small repository from nothing, as users do, with the toolchain itself: by the launcher and by make.
 
 ./test builds its program and its library over what `rt ci` has just proved, so the way from nothing is tested here: with a library of
-one function, two that are proved side by side over it, a program over all, and the same for C. Beside it ./test does what it does, and
-`rt lib` what it does, which have to make the same bytes.
+one function, two that are proved side by side over it, a program over all, and the same for C. Beside it `rt ci` proves them, as in
+./test, and `rt lib` builds the archive: all have to make the same bytes.
 """
 
 import os
@@ -21,18 +21,6 @@ HOURS = 4 * 3600  # what a command may take at most, also on a very busy machine
 pytestmark = [pytest.mark.proof, pytest.mark.timeout(2 * HOURS), pytest.mark.xdist_group("first_build")]
 
 PROGRAM, ARCHIVE = "crates/px_cli/out/px_cli", "out/proved/libpx_c.a"
-
-# The parts of ./test that this repository has: the crates, an edit less and a program more, and what is built.
-PARTS = """Part: rt
-Command: prove
-Minutes: 170
-Least: 5
-
-Part: build
-Command: build
-Minutes: 170
-Least: 2
-"""
 
 # A library over px_bytes.
 OVER = """// The same under another name.
@@ -156,10 +144,8 @@ class Project:
             source.write_text(UNIQUE + source.read_text(encoding="utf-8"), encoding="utf-8")
         shutil.copytree(TOP / "build", top / "build", ignore=shutil.ignore_patterns("__pycache__"))
         shutil.copytree(TOP / "packaging", top / "packaging")
-        for name in ("exifnorm", "Makefile", "test"):
+        for name in ("exifnorm", "Makefile"):
             shutil.copy(TOP / name, top / name)
-        (top / "tests").mkdir()
-        (top / "tests/parts.txt").write_text(PARTS, encoding="utf-8")
 
     def call(self, *words: str, folder: str = ".", **named: str) -> subprocess.CompletedProcess:
         environment = {key: value for key, value in os.environ.items() if not key.startswith(("RT_", "EXIFNORM_", "MAKE", "TEST_PARTS"))}
@@ -174,6 +160,7 @@ class FromNothing(Project):
     """The repository that is built as users do."""
 
     def build(self) -> "FromNothing":
+        self.proved = self.call("./exifnorm", "--prove")
         self.launched = self.call("./exifnorm", "a b")
         self.library = self.call("make", ARCHIVE)
         self.by_rt = self.call("rt", "lib", folder="crates/px_c")
@@ -181,50 +168,57 @@ class FromNothing(Project):
 
 
 class Gate(Project):
-    """The repository that ./test proves and builds."""
+    """The repository that `rt ci` proves, and make builds from its proofs."""
 
     def build(self) -> "Gate":
-        self.ran = self.call("./test")
+        self.prove()
         archive = self.top / ARCHIVE
         before = archive.stat().st_mtime_ns if archive.exists() else 0
         self.is_archived = self.call("make", ARCHIVE).returncode == 0 and archive.stat().st_mtime_ns == before
         self.again = again(self)
         return self
 
+    def prove(self) -> None:
+        """What ./test does before its tests."""
+        sums = self.call("python3", "build/gate.py")
+        (self.top / "out").mkdir(exist_ok=True)
+        (self.top / "out/proved-since").write_text(sums.stdout, encoding="utf-8")
+        self.checked = self.call("rt", "ci")
+        self.made = self.call("make", "program", ARCHIVE, EXIFNORM_PROVED=str(self.top / PROGRAM))
 
-def again(gate: Gate) -> subprocess.CompletedProcess:
-    """./test in a copy of the sources, which the toolchain proves no more where it has kept the proofs."""
+
+def again(gate: Gate) -> Gate:
+    """The same in a copy of the sources, which the toolchain proves no more where it has kept the proofs."""
     copy = Project.__new__(Gate)
     copy.top = gate.top.with_name("again")
     shutil.copytree(gate.top, copy.top, ignore=shutil.ignore_patterns("out"))
-    return copy.call("./test")
+    copy.prove()
+    return copy
 
 
 def test_the_launcher_proves_builds_and_runs(user, gate):
-    ran = user.launched
-    assert (ran.returncode, ran.stdout) == (0, "one: a b\n"), ran
-    assert "proving px_bytes (1 of 4, 3 left)" in ran.stderr, ran.stderr
+    assert (user.proved.returncode, user.proved.stdout) == (0, ""), user.proved
+    assert "proving px_bytes (1 of 4, 3 left)" in user.proved.stderr, user.proved
+    assert (user.launched.returncode, user.launched.stdout, user.launched.stderr) == (0, "one: a b\n", ""), user.launched
     for it in ("bytes", "one", "two", "cli"):
         assert (user.top / f"out/proved/px_{it}.made-from").exists(), "what was built isn't kept"
     assert "logic=proved" in (user.top / "out/build-px_bytes.log").read_text(encoding="utf-8"), "the log has no proof"
 
 
-def test_the_gate_proves_each_crate_once_and_builds(user, gate):
-    said = gate.ran.stdout + gate.ran.stderr
-    assert gate.ran.returncode == 0, said
-    assert gate.ran.stdout.endswith(" seconds\n7 passed, 0 failed\n"), said
-    assert (said.count("fn px_bytes::echo: proved\n"), said.count("fn px_cli::main: proved\n")) == (1, 1), said
-    assert "taking what was just proved of px_cli" in said, said
-    assert "proving px_bytes" not in said, said
-    assert "proving px_c (1 of 1, 0 left)" in said, said
+def test_each_crate_is_proved_once_by_the_gate(user, gate):
+    assert gate.checked.returncode == 0, gate.checked
+    assert gate.made.returncode == 0, gate.made
+    assert gate.checked.stdout.count("fn px_bytes::echo: proved\n") == 1, gate.checked
+    assert gate.checked.stdout.count("fn px_cli::main: proved\n") == 1, gate.checked
+    assert "taking what was just proved of px_cli" in gate.made.stderr, gate.made
+    assert "proving px_bytes" not in gate.made.stderr, gate.made
+    assert "proving px_c (1 of 1, 0 left)" in gate.made.stderr, gate.made
 
 
 def test_what_the_toolchain_kept_of_an_earlier_run_is_taken_too(user, gate):
-    said = gate.again.stdout + gate.again.stderr
-    assert gate.again.returncode == 0, said
-    assert gate.again.stdout.endswith(" seconds\n7 passed, 0 failed\n"), said
-    assert "taking what was just proved of px_cli" in said, said
-    assert "proving px_bytes" not in said, said
+    assert (gate.again.checked.returncode, gate.again.made.returncode) == (0, 0), vars(gate.again)
+    assert "taking what was just proved of px_cli" in gate.again.made.stderr, gate.again.made
+    assert "proving px_bytes" not in gate.again.made.stderr, gate.again.made
 
 
 def test_the_program_that_the_gate_proved_is_the_launcher_s(user, gate):

@@ -44,15 +44,15 @@ def small(room: Room, name: str) -> Room:
     return made
 
 
-def at_each_step(room: Room, how: str, begin) -> None:
-    """Builds with a fault at the first change of a file, then at the second, and so on. The next call must then be right."""
-    made, failed = small(room, how), 0
-    for step in range(1, 200):
+def at_each_step(made: Room, how: str, begin, printed: str = "{}: a\n", stride: int = 1) -> None:
+    """Builds with a fault at the first change of a file, then at a later one, and so on. The next call must then be right."""
+    failed = 0
+    for step in range(1, 200, stride):
         text = f"text {step}"
         begin(made, text)
         (made.folder / "fault").write_text(f"{how} {step}")
         ran = made.call("a")
-        assert (ran.returncode, ran.stdout) in ((0, f"{text}: a\n"), (70, ""), (-9, "")), (step, ran)
+        assert (ran.returncode, ran.stdout) in ((0, printed.format(text)), (70, ""), (-9, "")), (step, ran)
         assert how != "kill" or ran.returncode != 70, (step, ran)
         assert step > 1 or ran.returncode != 0, "no fault was made at the first step"
         failed += ran.returncode != 0
@@ -61,9 +61,9 @@ def at_each_step(room: Room, how: str, begin) -> None:
             made.main.write_text(f"{text}, edited")
             text = f"{text}, edited"
         again = made.call("a")
-        assert (again.returncode, again.stdout) == (0, f"{text}: a\n"), (step, ran, again)
+        assert (again.returncode, again.stdout) == (0, printed.format(text)), (step, ran, again)
         if ran.returncode == 0 and step > 20:
-            assert failed > 15, f"{failed} calls of {step} failed"
+            assert failed * stride > 15, f"{failed} calls of {step} failed"
             return
     raise AssertionError("a build that ends was not seen")
 
@@ -81,7 +81,15 @@ def after_an_edit(room: Room, text: str) -> None:
 @pytest.mark.parametrize("begin", (from_nothing, after_an_edit), ids=lambda it: it.__name__)
 @pytest.mark.parametrize("how", ("kill", "full"))
 def test_a_fault_at_each_step(room, how, begin):
-    at_each_step(room, how, begin)
+    at_each_step(small(room, how), how, begin)
+
+
+@pytest.mark.parametrize("how", ("kill", "full"))
+def test_a_fault_at_some_steps_of_a_compilation_without_proofs(room, how):
+    made = small(room, how)
+    made.compiles_first()
+    at_each_step(made, how, from_nothing, "quick {}: a\n", stride=3)
+    assert not [it for it in made.log() if it[1] == "build"], "a full disk is no reason to prove"
 
 
 def test_a_full_disk_ends_no_call_where_all_is_built(room):
