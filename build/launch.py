@@ -36,7 +36,7 @@ OUT = TOP / "out"
 PROGRAM, LIBRARY = OUT / "exifnorm", OUT / "lib" / "libexifnorm.so.1"  # the proved ones
 SECOND = 10**9
 # Names of files are bytes; this keeps them unchanged.
-TEXT = {"encoding": "utf-8", "errors": "surrogateescape"}
+ENCODING, ERRORS = "utf-8", "surrogateescape"
 
 
 def keep_streams_apart() -> None:
@@ -46,15 +46,10 @@ def keep_streams_apart() -> None:
 
 
 def listing() -> str:
-<<<<<<< HEAD
-    """The data of the launcher's quick check: a line for each source, for the program and for the toolchain's command."""
-    words = ["sh", str(TOP / "build" / "listing.sh")]
-=======
     """The data of the launcher's quick check: a line for each source, for what is built and for the toolchain's command."""
->>>>>>> f247adf (./exifnorm and ./exifnorm-pictures compile without proofs at first)
-    return subprocess.run(
-        words, stdin=subprocess.DEVNULL, stdout=subprocess.PIPE, check=False, encoding=TEXT["encoding"], errors=TEXT["errors"]
-    ).stdout
+    words = ["sh", str(TOP / "build" / "listing.sh")]
+    ran = subprocess.run(words, stdin=subprocess.DEVNULL, stdout=subprocess.PIPE, check=False, encoding=ENCODING, errors=ERRORS)
+    return ran.stdout
 
 
 def is_fresh(line: str) -> bool:
@@ -73,7 +68,7 @@ def note(seen: str, product: Path) -> None:
     try:
         if seen and not any(map(is_fresh, seen.splitlines())):
             file.parent.mkdir(parents=True, exist_ok=True)
-            aside.write_text(seen, **TEXT)
+            aside.write_text(seen, encoding=ENCODING, errors=ERRORS)
             os.replace(aside, file)
     except OSError:  # a read-only folder or a full disk: the next call checks again
         with contextlib.suppress(OSError):
@@ -152,16 +147,8 @@ class Products:
         raise AssertionError("unreachable")
 
 
-<<<<<<< HEAD
-def run(words: list[str]) -> None:
-    """Replaces this process by the program, with the signals that Python ignores as they were."""
-    if words == ["--where"]:
-        os.write(1, os.fsencode(f"{PROGRAM}\n"))
-        return
-=======
 def run(program: Path | str, words: list[str]) -> None:
     """Replaces this process by a program, with the signals that Python ignores as they were."""
->>>>>>> f247adf (./exifnorm and ./exifnorm-pictures compile without proofs at first)
     for it in (signal.SIGPIPE, signal.SIGXFSZ):
         signal.signal(it, signal.SIG_DFL)
     os.execv(program, [os.fspath(program), *words])

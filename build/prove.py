@@ -125,11 +125,7 @@ def listen() -> None:
             signal.signal(it, stop)
 
 
-<<<<<<< HEAD
-def take_lock(lock: IO[str]) -> None:
-=======
-def take_lock(lock: IO, waiting: str) -> None:
->>>>>>> f247adf (./exifnorm and ./exifnorm-pictures compile without proofs at first)
+def take_lock(lock: IO[str], waiting: str) -> None:
     """Blocks until no other build runs here, nor a compiler that one left. The system frees a lock whose process has ended."""
     try:
         fcntl.flock(lock, fcntl.LOCK_EX | fcntl.LOCK_NB)
