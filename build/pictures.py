@@ -5,7 +5,7 @@ from pathlib import Path
 
 sys.path[0] = str(Path(__file__).resolve().parent.parent / "python")  # which was build/
 
-from exifnorm_pictures.main import main
+from exifnorm_pictures.cli.main import main
 
 if __name__ == "__main__":
     sys.exit(main())

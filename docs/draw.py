@@ -10,12 +10,12 @@ import os
 import sys
 
 HERE = os.path.dirname(os.path.abspath(__file__))
-sys.path.insert(0, os.path.join(HERE, "..", "tests"))
+TESTS = os.path.join(HERE, "..", "tests")
+sys.path.insert(0, os.path.join(TESTS, "blocks"))
 sys.dont_write_bytecode = True
 
 import json
 
-import paths
 from blocks import Blocks
 
 PICTURE = os.path.join(HERE, "one-form.svg")
@@ -75,7 +75,7 @@ def main():
     words = argparse.ArgumentParser(description=__doc__, formatter_class=argparse.RawDescriptionHelpFormatter)
     words.add_argument("--check", action="store_true", help="compare, and write nothing")
     words = words.parse_args()
-    with open(paths.CASES / "cases" / "blocks.json", encoding="utf-8") as it:
+    with open(os.path.join(TESTS, "program", "cases", "blocks.json"), encoding="utf-8") as it:
         blocks = Blocks(json.load(it)["blocks"])
     names = ("ASCII before its directory", "ASCII at an even offset, least first", "ASCII in normal form")
     expected = picture(*map(blocks.named, names))

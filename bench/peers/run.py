@@ -22,10 +22,10 @@ from random import Random
 from typing import Dict, List
 
 HERE = Path(__file__).resolve().parent
-sys.path.insert(0, str(HERE.parent.parent / "tests"))
+TESTS = HERE.parent.parent / "tests"
+sys.path[:0] = [str(TESTS / it) for it in ("blocks", "program", "library")]
 sys.dont_write_bytecode = True
 
-import paths  # noqa: F401  # Python then finds the modules of tests
 from block_kinds import KINDS
 from changed import changed
 from drivers import OWN, Driver, all_drivers, own_drivers, whole_copy

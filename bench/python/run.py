@@ -23,10 +23,9 @@ from typing import Callable, Dict
 
 HERE = Path(__file__).resolve().parent
 TOP = HERE.parent.parent
-sys.path.insert(0, str(TOP / "tests"))
+sys.path.insert(0, str(TOP / "tests" / "blocks"))
 sys.dont_write_bytecode = True
 
-import paths  # noqa: F401  # Python then finds the modules of tests
 import kinds
 from meanings import Layout, laid
 

@@ -68,7 +68,7 @@ class Whole(unittest.TestCase):
             all_changed=303,
             fields=Counter({"main:Make": 30, "iptc:Keywords": 10, **{f"xmp:n{number:02}": 1 for number in range(19)}}),
             since=True,
-            runs=[("a", "b", "12.00", "0.1"), ("c", "d", "12.57<", "0.27.6")],
+            runs=[("a", "b", "1.0", "12.00", "0.1"), ("c", "d", "1.0-unproved", "12.57<", "0.27.6")],
             roots=[b"/p"],
         )  # fmt: skip
         self.golden("page.html", compact(made(found)))
@@ -77,7 +77,7 @@ class Whole(unittest.TestCase):
         """The first five of several; then each name is a whole path."""
         roots = [b"/a<", b"/b", b"/c", b"/d", b"/e"]
         for more, words in (([], "1 files below /a&lt;, /b, /c, /d, /e &middot;"), ([b"/f"], "1 files below /a&lt;, /b, /c, /d, /e .. &middot;")):
-            page = made(contents.Gathered(total=1, roots=roots + more, runs=[("a", None, None, None)], groups=[(2, "s", [b"/a</x", b"/f/y"])]))
+            page = made(contents.Gathered(total=1, roots=roots + more, runs=[("a", None, None, None, None)], groups=[(2, "s", [b"/a</x", b"/f/y"])]))
             self.assertIn(f"<p>{words} 2026-03-04 05:06 UTC</p>", page)
             self.assertEqual(re.findall(r'<span class="name">(.*?)</span>', page), ["/a&lt;/x", "/f/y"])
         for root, path, name in ((b"/", b"/x/y", "x/y"), (b"/a/", b"/a/y", "y"), (b"/a", b"/ab/y", "/ab/y"), (b"/a", b"/a", "/a")):

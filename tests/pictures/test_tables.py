@@ -336,7 +336,7 @@ class Reported(WithPictures):
                picture("r\udcff", {EXIF: "!Overlap", XMP: "!NoRDF"}, [UNKNOWN, NotRead("a chunk", "3" * 64)]), picture("u", problem="Unreadable"),
                picture("zero", {}), picture("part", {EXIF: "P"}, [KNOWN])]  # fmt: skip
         made = self.catalogue("now", *now)
-        made.set_versions(1, "12.57", "0.27.6")
+        made.set_versions(1, "1.0.0", "12.57", "0.27.6")
         made.end_run(1, "2000-01-01T00:00:09Z")
         self.about = contents.About(made, self.catalogue("old", *old))
 
@@ -346,6 +346,11 @@ class Reported(WithPictures):
         members = {**vars(found), "problems": [it.path for it in found.problems]}
         self.golden("report-gathered.txt", "".join(f"{name}: {pprint.pformat(it, width=140)}\n" for name, it in members.items()))
         self.golden("report-objects.txt", "".join(json.dumps(it) + "\n" for it in contents.members(self.about)))
+
+    def test_results_of_a_library_without_proofs(self):
+        self.assertNotIn("unproved", next(contents.members(self.about)))
+        self.about.catalogue.set_versions(1, "1.0.0-unproved", None, None)
+        self.assertEqual(next(contents.members(self.about))["unproved"], ["1.0.0-unproved"])
 
     def test_chosen_pictures(self):
         """Their counts, groups, refusals and unread parts alone."""
@@ -401,7 +406,7 @@ class File(WithPictures):
             with self.assertRaisesRegex(NoCatalogue, "attempt to write a readonly database$"):
                 made.begin_run("2000-01-01T00:00:00Z")
         with Catalogue(name, make=True) as made:
-            self.assertEqual(made.runs(), [("2000-01-01T00:00:00Z", None, None, None)])
+            self.assertEqual(made.runs(), [("2000-01-01T00:00:00Z", None, None, None, None)])
 
     def test_it_is_locked_before_its_tables_are_looked_for(self):
         """So if two runs make it at once, the second one waits for the first."""

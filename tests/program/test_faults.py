@@ -22,7 +22,7 @@ from typing import Dict, Iterator, List, Optional, Tuple
 
 import pytest
 from meanings import Record
-from reading import Fault, said
+from reading import said
 
 ONE = bytes.fromhex("4D4D002A00000008 0001 0112000300000001 00010000 00000000")
 TURNED = bytes.fromhex("49492A0008000000 0100 1201030001000000 01000000 00000000")

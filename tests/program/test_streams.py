@@ -12,7 +12,7 @@ import stat
 import subprocess
 import threading
 from pathlib import Path
-from typing import Dict, Iterator, Tuple
+from typing import Dict, Tuple
 
 import pytest
 from meanings import Record

@@ -11,7 +11,7 @@ import re
 from pathlib import Path
 from typing import Any, Iterator, Optional
 
-from crates import Crates, below
+from crates import Crates
 from store import Store
 
 TOP = Path(__file__).resolve().parent.parent.parent

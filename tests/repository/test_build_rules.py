@@ -11,7 +11,6 @@ from concurrent.futures import ThreadPoolExecutor
 from pathlib import Path
 from unittest import mock
 
-import paths
 import crates
 import machine
 import prove
@@ -20,6 +19,8 @@ from room import SIGNALS, Room, require_end, tick, wait_until
 from store import Store
 
 LEVELS = "px_low: byteorder\npx_middle: px_low\npx_high staticlib: px_middle\npx_aside: px_low\n"
+
+TOP = Path(__file__).resolve().parents[2]
 
 
 def test_the_examples_are_right():
@@ -499,7 +500,7 @@ def test_a_build_without_the_launcher_is_stopped_too(room):
 
 def of_build(code: str) -> str:
     """The output of code that may import the modules of build/."""
-    ran = subprocess.run([sys.executable, "-c", code], env={**os.environ, "PYTHONPATH": str(paths.TOP / "build")}, capture_output=True, text=True)
+    ran = subprocess.run([sys.executable, "-c", code], env={**os.environ, "PYTHONPATH": str(TOP / "build")}, capture_output=True, text=True)
     assert ran.returncode == 0, ran
     return ran.stdout
 

@@ -14,7 +14,8 @@ from pathlib import Path
 
 import pytest
 
-from paths import TOP
+TOP = Path(__file__).resolve().parents[2]
+
 
 HOURS = 4 * 3600  # what a command may take at most, also on a very busy machine
 

@@ -14,7 +14,8 @@ import pytest
 
 import next_steps
 import release
-from paths import TOP
+
+TOP = Path(__file__).resolve().parents[2]
 
 PYTHON = "/usr/bin/python3"
 SYSTEM_PATH = "/usr/sbin:/usr/bin:/sbin:/bin"

@@ -5,10 +5,12 @@ import json
 import re
 import subprocess
 import sys
+from pathlib import Path
 
 import pytest
 
-from paths import TOP
+TOP = Path(__file__).resolve().parents[2]
+
 
 SAMPLES = TOP / "samples"
 PYTHON = "/usr/bin/python3"
