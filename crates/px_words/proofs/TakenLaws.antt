@@ -1,5 +1,5 @@
 -- The command accepts every name of a file.
-use Rattle.std.proofs.Common.{◌≡◌, ◌==◌, ◌∷◌, [], false, codes, refl}
+use Rattle.std.proofs.Common.{◌∷◌, [], codes, refl}
 use Rattle.clap.specs.Words.{Text}
 use Rattle.clap.proofs.OnLiterals.{clap_on_literals}
 use Rattle.px_words.specs.Words.{AreTaken, IsName}

@@ -1,5 +1,5 @@
 -- When the result for the arguments is a text.
-use Rattle.std.proofs.Common.{◌≡◌, ℕ, inl, inr, List, [], Option, refl, subst}
+use Rattle.std.proofs.Common.{◌≡◌, inl, inr, List, [], Option, subst}
 use Rattle.clap.specs.Words.{Row, Text, kind_of}
 use Rattle.clap.specs.Kinds.{HasKind, IsAmong, Kinds}
 use Rattle.clap.specs.declared.error.Error.{Error}

@@ -95,6 +95,17 @@ TakesCommands = (file other : Text)
     × AreTaken (codes "captions" ∷ codes "--" ∷ file ∷ []) × AreTaken (codes "normalise" ∷ codes "--" ∷ file ∷ other ∷ [])
     × AreTaken (codes "compare" ∷ codes "--" ∷ file ∷ other ∷ [])
 
+-- the match of such arguments has the files that they name
+abbrev pub MatchesFiles : Type 0
+MatchesFiles = (file other : Text)
+    → (IsName file → Has (subcommand_of exifnorm (codes "show" ∷ file ∷ [])) (codes "show") (codes "FILE") file
+    × Has (subcommand_of exifnorm (codes "check" ∷ file ∷ [])) (codes "check") (codes "FILE") file
+    × Has (subcommand_of exifnorm (codes "captions" ∷ file ∷ [])) (codes "captions") (codes "FILE") file)
+    × (IsName file → IsName other
+    → HasBoth (subcommand_of exifnorm (codes "normalise" ∷ file ∷ other ∷ [])) (codes "normalise") (codes "FILE") file (codes "OUT") other
+    × HasBoth (subcommand_of exifnorm (codes "compare" ∷ file ∷ other ∷ [])) (codes "compare") (codes "FIRST") file (codes "SECOND")
+    other)
+
 -- clap returns a requested text, not a mistake in the arguments
 abbrev pub IsShown : ErrorKind → Type 0
 IsShown k = (k ≡ kind.DisplayHelp) ⊎ (k ≡ kind.DisplayVersion)

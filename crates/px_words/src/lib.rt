@@ -17,4 +17,4 @@ mod texts;
 mod words;
 
 pub use parser::{Clap, Parser};
-pub use words::{OUT_IS_FILE, One, Text, Words, commands_are_taken, parse};
+pub use words::{OUT_IS_FILE, One, Text, Words, commands_are_taken, files_are_matched, parse};

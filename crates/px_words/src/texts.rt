@@ -1,5 +1,5 @@
 // Texts for a terminal: without control characters, except line feeds.
-ghost use Rattle.std.specs.Prelude.{◌≡◌, IfOk, string_bytes};
+ghost use Rattle.std.specs.Prelude.{IfOk, string_bytes};
 ghost use Rattle.px_words.specs.Words.{IsPlain, IsPrintable};
 ghost use Rattle.px_bytes.specs.Lacking.{Lacks};
 

@@ -2,7 +2,7 @@
 ghost use Rattle.std.specs.Prelude.{◌≡◌, ◌↔◌, ◌⊎◌, Some, [], map, codes, IfOk};
 ghost use Rattle.clap.specs.Words.{fault_of, first_of, found_of, kind_of, rows_of, subcommand_of, subcommand_rows_of};
 ghost use Rattle.px_words.specs.declared.words.Words.TheVariants as words_of;
-ghost use Rattle.px_words.specs.Words.{exifnorm, name_of, Asks, AsksFiles, AreTaken, IsFor, TakesCommands, LacksWords};
+ghost use Rattle.px_words.specs.Words.{exifnorm, name_of, Asks, AsksFiles, AreTaken, IsFor, MatchesFiles, TakesCommands, LacksWords};
 ghost use Rattle.px_words.specs.Words.{IsPlain, ShowsPlain};
 ghost use Rattle.px_words.specs.calls.Met.{TellsKind, IsTold, AsksIn, IsMet, IsThere};
 ghost use Rattle.px_bytes.specs.Lacking.{Lacks};
@@ -228,6 +228,12 @@ fn read_error(memory: &mut Memory, error: &Error) -> Words
 /// does nothing: its contract is a law.
 pub fn commands_are_taken()
     ensures { TakesCommands }
+{}
+
+/// The match of such a command has the files that it names, in their order. It does nothing: its contract is a
+/// law.
+pub fn files_are_matched()
+    ensures { MatchesFiles }
 {}
 
 /// Parses the arguments; `version` is the version to print. Without arguments the result is `Filter`, and

@@ -1,4 +1,4 @@
-use Rattle.std.proofs.Common.{rules, refl}
+use Rattle.std.proofs.Common.{refl}
 use Rattle.px_cli.proofs.run.run_asked.Goals as goal
 
 -- the names of the two files are those of the request
