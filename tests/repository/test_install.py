@@ -11,6 +11,7 @@ import shutil
 import subprocess
 import sys
 from pathlib import Path
+from typing import Callable
 
 import pytest
 from installed import CALLS, DEBIAN_PYTHON, EXAMPLES, MAKE, TOP, VERSION, Tree, modules, need_headers, run, text_of, tree
@@ -246,6 +247,9 @@ class TestLibraries:
             assert self.pkg_config(it, "--modversion") == [VERSION]
             assert self.pkg_config(it, "--variable=libdir") == [str(it.at("lib"))]
 
+    def test_config_is_that_of_the_golden_file(self, usr: Tree, golden: Callable[[str, str], None]) -> None:
+        golden("exifnorm.pc", usr.at("lib/pkgconfig/exifnorm.pc").read_text(encoding="utf-8").replace(VERSION, "VERSION"))
+
     def test_a_program_is_built_by_the_line_of_the_manual_page(self, usr: Tree) -> None:
         line = re.search(r"^\.B (cc .*)$", text_of("docs", "exifnorm.3"), re.MULTILINE)[1].replace("\\-", "-")
         shutil.copy(EXAMPLES / "compare.c", self.work / "program.c")
@@ -366,6 +370,11 @@ class TestPython:
     def test_package_runs_its_example(self, usr: Tree, other: Tree) -> None:
         for it in (usr, other):
             assert self.python(it, EXAMPLES / "compare.py") == "same\n"
+
+    def test_metadata_is_that_of_the_golden_file(self, usr: Tree, golden: Callable[[str, str], None]) -> None:
+        """It is printed from python/pyproject.toml, for pip and for `importlib.metadata`."""
+        text = (usr.module_folder / f"exifnorm-{VERSION}.dist-info/METADATA").read_text(encoding="utf-8")
+        golden("METADATA", text.replace(VERSION, "VERSION"))
 
     def test_other_installers_leave_the_package_alone(self, usr: Tree) -> None:
         """By PEP 376, because its installer is another program."""
