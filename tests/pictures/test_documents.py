@@ -65,16 +65,6 @@ class Documents(WithPictures):
     def test_refusals(self):
         self.run_page("REFUSALS.md")
 
-    @needs("exiftool")
-    def test_the_first_example_of_the_readme(self):
-        """Each command succeeds, but the last one, which prints what the README shows, and ends with status 1."""
-        page = read(os.path.join(TOP, "README.md")).decode()
-        commands, printed = re.search(r"(?ms)^```sh\n(.*?)^```$.*?^```text\n(.*?)^```$", page).groups()
-        self.make_two_folders("pictures", "after")
-        ran = [subprocess.run(["bash", "-c", it], cwd=self.folder, capture_output=True, env=Studio.environment()) for it in commands.splitlines()]
-        self.assertEqual([it.returncode for it in ran], [0] * (len(ran) - 1) + [1], [it.stderr for it in ran])
-        self.assertEqual(ran[-1].stdout.decode(), printed)
-
     def make_two_folders(self, before, after):
         """Three pictures with an Exif block, and copies of them, of which one is edited."""
         os.mkdir(os.path.join(self.folder, before))
