@@ -61,7 +61,8 @@ pub(crate) fn normalise_in(
     written: &mut usize,
     fault: &mut ExifnormFault,
 ) -> u32
-    ensures known { (result ≡ status.done) ⊎ (result ≡ status.refused) ⊎ (result ≡ status.too_long) ⊎ (result ≡ status.no_memory) ⊎ (result ≡ status.too_little_room) }
+    ensures known { (result ≡ status.done) ⊎ (result ≡ status.refused) ⊎ (result ≡ status.too_long) ⊎ (result ≡ status.no_memory)
+        ⊎ (result ≡ status.too_little_room) }
     ensures done { result ≡ status.done → PutsForm file.now (Whole written.new) out.old out.new }
     ensures refused { result ≡ status.refused → Refuses file.now fault.new }
     ensures long { result ≡ status.too_long → IsUnwritten file.now 0 NormalTooLong }

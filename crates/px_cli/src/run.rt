@@ -89,7 +89,8 @@ pub fn run_words<'a, S: AsStr, P: Parser, O: Opens, I: Source, W: Sink, L: Sink>
     requires writing { CanFail (W.failed streams.old.out) }
     requires telling { CanFail (L.failed streams.old.lines) }
     ensures { Answers O.Reader.remaining O.Writer.contents O.opens O.makes O.closes
-        (P.lacks parser.now) (map S.text words.entry.now) files.old files.new memory.old memory.new result (over I.failed I.bytes_left streams.old.input streams.new.input)
+        (P.lacks parser.now) (map S.text words.entry.now) files.old files.new memory.old memory.new result
+        (over I.failed I.bytes_left streams.old.input streams.new.input)
         (over W.failed W.bytes_taken streams.old.out streams.new.out)
         (over L.failed L.bytes_taken streams.old.lines streams.new.lines) }
 {

@@ -4,17 +4,20 @@ use Rattle.clap.specs.Words.{Text, subcommand_of}
 use Rattle.clap.proofs.OnLiterals.{clap_on_literals}
 use Rattle.px_words.specs.Words.{Has, HasBoth, IsName, exifnorm}
 
-pub show_has : (file : Text) → IsName file → Has (subcommand_of exifnorm (codes "show" ∷ file ∷ [])) (codes "show") (codes "FILE") file
+pub show_has : (file : Text) → IsName file
+    → Has (subcommand_of exifnorm (codes "show" ∷ file ∷ [])) (codes "show") (codes "FILE") file
 unfolding clap_on_literals
 show_has [] name = (_, refl, refl)
 show_has (x ∷ xs) name = simp name (_, refl, refl)
 
-pub check_has : (file : Text) → IsName file → Has (subcommand_of exifnorm (codes "check" ∷ file ∷ [])) (codes "check") (codes "FILE") file
+pub check_has : (file : Text) → IsName file
+    → Has (subcommand_of exifnorm (codes "check" ∷ file ∷ [])) (codes "check") (codes "FILE") file
 unfolding clap_on_literals
 check_has [] name = (_, refl, refl)
 check_has (x ∷ xs) name = simp name (_, refl, refl)
 
-pub captions_has : (file : Text) → IsName file → Has (subcommand_of exifnorm (codes "captions" ∷ file ∷ [])) (codes "captions") (codes "FILE") file
+pub captions_has : (file : Text) → IsName file
+    → Has (subcommand_of exifnorm (codes "captions" ∷ file ∷ [])) (codes "captions") (codes "FILE") file
 unfolding clap_on_literals
 captions_has [] name = (_, refl, refl)
 captions_has (x ∷ xs) name = simp name (_, refl, refl)

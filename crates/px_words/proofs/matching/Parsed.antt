@@ -1,6 +1,6 @@
 -- What a parse of the command implies for the meaning of its arguments.
 use Rattle.std.proofs.Common.{◌≡◌, ◌∙◌, ◌==◌, ◌↔◌, Option, true, false, true≢false, List, [], ◌∷◌, length, map, ap, refl, subst, sym}
-use Rattle.clap.specs.Words.{App, HasMatchesOf, Row, Text, fault_of, is_simple, is_simple_and_free, kind_of}
+use Rattle.clap.specs.Words.{App, Row, Text, fault_of, is_simple_and_free, kind_of}
 use Rattle.clap.specs.Words.{subcommand_of, subcommand_rows_of}
 use Rattle.clap.specs.Kinds.{HasKind, Kinds}
 use Rattle.clap.specs.declared.error.Error.{Error}
@@ -15,10 +15,6 @@ use Rattle.px_words.proofs.WordLaws.{matched_files, of_error, of_match, of_none,
 use Rattle.px_words.proofs.matching.Whole.{requirement_met}
 
 -- the command is one whose matches and errors are specified
-is_simple_one : is_simple exifnorm ≡ true
-unfolding clap_on_literals
-is_simple_one = refl
-
 is_free : is_simple_and_free exifnorm ≡ true
 unfolding clap_on_literals
 is_free = refl
@@ -37,9 +33,6 @@ tells_no_filter w told is = subst IsTold is told
 
 -- what clap states of the command that it got, of the command by its definition
 module _ (ws : List Text) (app : App) (is : app ≡ exifnorm) where
-  pub rows_matched : (m : ArgMatches) → HasMatchesOf app ws m → subcommand_rows_of m ≡ subcommand_of exifnorm ws
-  rows_matched m has = (has (ap is_simple is ∙ is_simple_one)).1 ∙ ap (λ (a : App). subcommand_of a ws) is
-
   pub kinds_matched : (kinds : Kinds → Type 0) → (is_simple_and_free app ≡ true → kinds (fault_of app ws)) → kinds (fault_of exifnorm ws)
   kinds_matched kinds had = subst (λ (a : App). kinds (fault_of a ws)) is (had (ap is_simple_and_free is ∙ is_free))
 
