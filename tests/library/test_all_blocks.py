@@ -205,25 +205,26 @@ def changed_blocks(draw):
     block = bytearray(draw(st.sampled_from(SHORT_BLOCKS)))
     for _ in range(draw(st.integers(1, 4))):
         at, size = draw(st.integers(0, len(block))), draw(st.sampled_from([0, 1, 2, 4, 5, 8, 12, 24]))
-        new = draw(
-            st.one_of(
-                st.binary(max_size=12),
-                st.builds(lambda number, order: (number & 0xFFFFFFFF).to_bytes(4, order), NUMBERS, st.sampled_from(["big", "little"])),
-                st.builds(lambda number, order: (number & 0xFFFF).to_bytes(2, order), NUMBERS, st.sampled_from(["big", "little"])),
-                st.builds(lambda start, length: bytes(block[start : start + length]), st.integers(0, len(block)), st.integers(0, 24)),
-            )
-        )
+        change = draw(st.sampled_from(["bytes", "number", "copy"]))
+        if change == "bytes":
+            new = draw(st.binary(max_size=12))
+        elif change == "number":
+            width, order = draw(st.sampled_from([2, 4])), draw(st.sampled_from(["big", "little"]))
+            new = (draw(NUMBERS) % 256**width).to_bytes(width, order)
+        else:
+            start = draw(st.integers(0, len(block)))
+            new = bytes(block[start : start + draw(st.integers(0, 24))])
         block[at : at + size] = new
     return bytes(block)
 
 
-@settings(EACH_RUN_THE_SAME, max_examples=600)
+@settings(EACH_RUN_THE_SAME, max_examples=2000)
 @given(changed_blocks())
 def test_random_changes(block):
     see_that_both_agree(block)
 
 
-@settings(EACH_RUN_THE_SAME, max_examples=200)
+@settings(EACH_RUN_THE_SAME, max_examples=500)
 @given(changed_blocks(), changed_blocks())
 def test_comparisons_of_changed_blocks(first, second):
     one, other = judged(first), judged(second)

@@ -106,7 +106,8 @@ def resident():
 def test_memory_after_many_calls(loaded, name):
     """Nothing stays allocated or referred to, whether a call succeeds, fails, or gets a wrong argument."""
     call = getattr(loaded, name)
-    for block in (ONE, LOOP, None):
+    asked_again = Record([(2, 120, bytes(3000))]).spelled()  # its captions are longer than expected
+    for block in (ONE, LOOP, asked_again, None):
         arguments = (ONE, block) if name == "compare" else (block,)
         for _ in range(1000):
             outcome(call, *arguments)
@@ -126,7 +127,7 @@ def addresses(loaded):
 
 def test_functions_that_are_gone(loaded, native):
     where = addresses(loaded)
-    for turn in range(20_000):
+    for turn in range(100_000):
         functions = native.functions(*where)
         if turn == 1000:
             before = resident()
