@@ -357,7 +357,7 @@ class TestPython:
             assert str(it.at(f"lib/libexifnorm.so.{VERSION}")) in self.python(it, "-c", code)
 
     def test_package_uses_the_extension_module(self, usr: Tree, other: Tree) -> None:
-        code = "import exifnorm._library as l; print(l._native.__file__, l.library().short_normal(bytes.fromhex('1c02780004') + b'Vase'))"
+        code = "import exifnorm._library as l; print(l._native.__file__, l.library().normalise(bytes.fromhex('1c02780004') + b'Vase'))"
         for it in (usr, other):
             need_headers(it.python)
             path = it.module_folder / "exifnorm/_native.abi3.so"

@@ -115,7 +115,7 @@ class TestWheel:
 
     def test_package_runs_with_its_own_extension_module(self) -> None:
         need_headers(DEBIAN_PYTHON)
-        results = f"exifnorm.normal({BLOCK}) == {BLOCK} == l.library().short_normal({BLOCK})"
+        results = f"exifnorm.normal({BLOCK}) == {BLOCK} == l.library().normalise({BLOCK})"
         code = f"import exifnorm, exifnorm._library as l; print(l._native.__file__, {results})"
         assert python_of(self.unpacked, "-c", code) == f"{self.unpacked / EXTENSION} True\n"
         assert ".symtab" not in run("readelf", "-SW", self.unpacked / EXTENSION)
