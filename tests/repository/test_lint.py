@@ -4,31 +4,32 @@ import subprocess
 from pathlib import Path
 
 TOP = Path(__file__).resolve().parents[2]
-PYTHON = ("python", "build", "packaging", "tests", "bench")
-SHELL = ("test", "exifnorm", ".ci/run", *(str(it.relative_to(TOP)) for it in TOP.glob("build/*.sh")))
+PYTHON = ("python", "build", "packaging", "tests", "bench", "docs", "samples")
+SHELL = ("test", "exifnorm", "exifnorm-pictures", ".ci/run", *(str(it.relative_to(TOP)) for it in TOP.glob("build/*.sh")))
 TEXTS = ("python", "build", "packaging", "bench", "crates", "debian", "docs", "Makefile", *(it.name for it in TOP.glob("*.md")))
 
 
-def finds_nothing(*command):
+def finds_nothing(*command: str) -> None:
     done = subprocess.run(command, cwd=TOP, stdin=subprocess.DEVNULL, stdout=subprocess.PIPE, stderr=subprocess.STDOUT, text=True)
     assert done.returncode == 0, done.stdout
 
 
-def test_black():
+def test_black() -> None:
     finds_nothing("black", "--check", "--config", "pyproject.toml", *PYTHON)
 
 
-def test_mypy(tmp_path):
-    finds_nothing("mypy", "--cache-dir", tmp_path)
+def test_mypy(tmp_path: Path) -> None:
+    finds_nothing("mypy", "--cache-dir", str(tmp_path))
 
 
-def test_flake8():
+def test_flake8() -> None:
     finds_nothing("flake8", *PYTHON)
 
 
-def test_shellcheck():
+def test_shellcheck() -> None:
     finds_nothing("shellcheck", *SHELL)
 
 
-def test_codespell():
+def test_codespell() -> None:
+    assert [it for it in TEXTS if not (TOP / it).exists()] == []  # codespell skips what isn't there
     finds_nothing("codespell", *TEXTS)
