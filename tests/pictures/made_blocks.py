@@ -3,7 +3,7 @@
 import struct
 
 from meanings import ASCII, LONG, SHORT, UNDEFINED  # noqa: F401 (tests take these from here)
-from reading import CAUSES, HEADER, MAKE, MODEL, block, entry, table  # noqa: F401
+from reading import CAUSES, HEADER, MAKE, MODEL, block, entry, table  # noqa: F401 (tests take these from here)
 
 BLOCKS = {cause: made for cause, (made, _) in CAUSES.items()}
 
