@@ -15,7 +15,7 @@ import subprocess
 import time
 from typing import Callable, List, NamedTuple, Optional, Set
 
-from ..cli import signals as ends
+from ..cli import signals
 from ..cli.output import reason
 from ..cli.parser import SECONDS
 from ..cli.signals import Failure
@@ -113,7 +113,7 @@ def start(words: List[str], folder: Optional[str] = None, stdin: int = subproces
     """Starts a program in a process group of its own, which the system ends if this process is killed. Raises `Failed`."""
     started: "Optional[subprocess.Popen[bytes]]" = None
     try:
-        with ends.signals_held() as mask:
+        with signals.signals_held() as mask:
             started = _started(words, folder, stdin, mask)
         return started
     except OSError as error:
