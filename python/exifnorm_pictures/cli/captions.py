@@ -7,16 +7,16 @@ import argparse
 from ..catalogue.records import Block
 from ..extract.formats.found import XMP, FoundBlock
 from ..fields import caption_texts
-from .each_block import Said, each_block, with_kind
+from .each_block import Described, each_block, with_kind
 
 
 def run(arguments: argparse.Namespace) -> int:
     """Lists captions of Exif and IPTC blocks."""
 
-    def say(found: FoundBlock, it: Block) -> Said:
+    def describe(found: FoundBlock, it: Block) -> Described:
         if it.kind == XMP:
             return [], {}
         members = with_kind(caption_texts.captions_members(it.kind, found.data)) if arguments.json else {}
         return list(caption_texts.captions(found.data)), members
 
-    return each_block(arguments, say)
+    return each_block(arguments, describe)

@@ -15,7 +15,7 @@ from ..compare import changed as changes
 from ..files import tempdir
 from ..scan.batches import How
 from ..scan.index import IndexOptions, index
-from .exit_codes import DIFFERENT, FAILURE, SUCCESS, UNKNOWN
+from .exit_codes import DIFFERENCE, FAILURE, SUCCESS, UNKNOWN
 from .names import from_list
 from .output import Members, closed_folder, output, path_members, shown_path
 
@@ -48,7 +48,7 @@ def status_of(counts: "Counter[str]") -> int:
         return FAILURE
     if any(counts[it] for it in changes.OPEN):
         return UNKNOWN
-    return DIFFERENT if any(counts[it] for it in changes.DIFFERENCES) else SUCCESS
+    return DIFFERENCE if any(counts[it] for it in changes.DIFFERENCES) else SUCCESS
 
 
 def _side(name: str, arguments: argparse.Namespace, open_: contextlib.ExitStack) -> Catalogue:

@@ -19,8 +19,8 @@ from .output import Members, block_members, output, path_members, reason, shown_
 
 LONGEST = LIMIT + 7  # bytes of a block that are read: one more than any block and its six bytes in front can have
 
-Said = Tuple[List[str], Members]
-Say = Callable[[FoundBlock, Block], Said]
+Described = Tuple[List[str], Members]
+Describe = Callable[[FoundBlock, Block], Described]
 
 
 def _blocks(arguments: argparse.Namespace, name: bytes) -> Blocks:
@@ -45,7 +45,7 @@ def _blocks(arguments: argparse.Namespace, name: bytes) -> Blocks:
     return Blocks([FoundBlock(kind, octets, NAMES[kind], "the file")])
 
 
-def each_block(arguments: argparse.Namespace, say: Say, refused_too: bool = False) -> int:
+def each_block(arguments: argparse.Namespace, describe: Describe, refused_too: bool = False) -> int:
     """Prints something about each block of each picture. Returns the greatest status."""
     worst = SUCCESS
     names = list(dict.fromkeys(named(arguments, arguments.pictures)))
@@ -55,13 +55,13 @@ def each_block(arguments: argparse.Namespace, say: Say, refused_too: bool = Fals
         try:
             for name in names:
                 head = [f"== {shown_path(name)}"] if len(names) > 1 else []
-                worst = max(worst, _one(arguments, name, head, say, refused_too))
+                worst = max(worst, _one(arguments, name, head, describe, refused_too))
         finally:
             exiftool.finish()
     return worst
 
 
-def _one(arguments: argparse.Namespace, name: bytes, head: List[str], say: Say, refused_too: bool) -> int:
+def _one(arguments: argparse.Namespace, name: bytes, head: List[str], describe: Describe, refused_too: bool) -> int:
     blocks = _blocks(arguments, name)
     names = path_members(name)
     if blocks.problem:
@@ -72,7 +72,7 @@ def _one(arguments: argparse.Namespace, name: bytes, head: List[str], say: Say, 
     for it in judge_all(blocks, with_fields=True):
         if it.status != ACCEPTED:
             worst = UNKNOWN
-        lines, members = say(data[it.name], it) if it.status == ACCEPTED or refused_too else _refused(it)
+        lines, members = describe(data[it.name], it) if it.status == ACCEPTED or refused_too else _refused(it)
         if lines or (arguments.json and members):
             output(arguments, [*head, *lines], {**names, "name": it.name, **members})
             head = []
@@ -84,7 +84,7 @@ def _one(arguments: argparse.Namespace, name: bytes, head: List[str], say: Say, 
     return worst
 
 
-def _refused(it: Block) -> Said:
+def _refused(it: Block) -> Described:
     return [f"{it.name}: {it.line}"], block_members(it)
 
 

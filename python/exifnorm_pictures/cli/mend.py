@@ -9,7 +9,7 @@ from typing import Iterator, List, Tuple
 from ..extract import exiftool, programs
 from ..files import tempdir
 from ..refusals import mend
-from .exit_codes import DIFFERENT, FAILURE, SUCCESS, UNKNOWN
+from .exit_codes import DIFFERENCE, FAILURE, SUCCESS, UNKNOWN
 from .names import from_list
 from .output import Members, output, path_members, shown_path
 from .parser import parser
@@ -38,7 +38,7 @@ def _mend_one(arguments: argparse.Namespace, picture: bytes, out: bytes, room: s
         output(arguments, [line], {**path_members(picture), "problem": problem, "detail": str(error)})
         return FAILURE
     output(arguments, _mended_lines(picture, found), _mended_members(picture, found))
-    return FAILURE if found.problem else UNKNOWN if found.step == mend.NONE else DIFFERENT if found.lost else SUCCESS
+    return FAILURE if found.problem else UNKNOWN if found.step == mend.NONE else DIFFERENCE if found.lost else SUCCESS
 
 
 def _pairs(arguments: argparse.Namespace) -> Iterator[Tuple[bytes, bytes]]:

@@ -83,16 +83,16 @@ def _refusals(taken: Blocks) -> Dict[str, str]:
     return {it.name: it.line for it in judge_all(taken) if it.status != ACCEPTED}
 
 
-Result = Tuple[str, str, List[str], List[str]]
+Attempt = Tuple[str, str, List[str], List[str]]
 
 
-def _best(picture: bytes, room: str) -> Optional[Result]:
+def _best(picture: bytes, room: str) -> Optional[Attempt]:
     extension = re.search(rb"\.[A-Za-z0-9]{1,8}\Z", picture)
     suffix = extension[0].decode("ascii") if extension else ""
     first = os.path.join(room, "first" + suffix)
     shutil.copyfile(picture, os.fsencode(first))
     said = _printed(first)
-    best: Optional[Result] = None
+    best: Optional[Attempt] = None
     for step in STEPS:
         made = os.path.join(room, step + suffix)
         shutil.copyfile(first, made)

@@ -23,7 +23,7 @@ FILES = 8  # of batches, which SQLite attaches at once; it can attach ten
 GONE = ("Vanished", "Moved")
 NEEDED = {"NeedsExifTool": "exiftool", "NeedsExiv2": "exiv2"}
 
-Say = Callable[[str], None]
+PrintLine = Callable[[str], None]
 Look = Callable[[Sequence[FoundFile], How], Iterator[Result]]
 
 
@@ -41,7 +41,7 @@ class IndexOptions:
     again: bool = False  # also the pictures that haven't changed
     quiet: bool = False
     how: How = How()
-    say: Optional[Say] = None  # prints a line about a picture that was looked at, once it is committed
+    say: Optional[PrintLine] = None  # prints a line about a picture that was looked at, once it is committed
     look: Look = _looked
 
 
