@@ -1,4 +1,4 @@
--- version 2
+-- version 3
 CREATE TABLE blocks (
     picture INTEGER NOT NULL REFERENCES pictures(id) ON DELETE CASCADE,
     number INTEGER NOT NULL,        -- the order in the file
@@ -48,6 +48,7 @@ CREATE TABLE runs (
     id INTEGER PRIMARY KEY,
     started TEXT NOT NULL,          -- UTC
     ended TEXT,                     -- missing where the run was stopped
+    exifnorm TEXT,                  -- the version of the library that made the digests; it ends with -unproved if that was not proved
     exiftool TEXT,                  -- versions of the programs
     exiv2 TEXT
 );
