@@ -11,6 +11,7 @@ import shutil
 import stat
 import subprocess
 import threading
+import unicodedata
 from pathlib import Path
 from typing import Dict, Tuple
 
@@ -347,3 +348,12 @@ def test_odd_names(program, folder, checks):
         came = run(program, folder, ["normalise", "one", name])
         left = Path(os.fsdecode(os.fsencode(folder) + b"/" + name)).read_bytes()
         checks.check(f"OUT is {name!r}", (came, left) == ((3, b"refused words: they are not text\n"), b"old"), (came, left))
+
+
+@pytest.mark.parametrize("word", ["\x1b[31mX", "\x07", "\r", "\x7f", "\u009b31m", "--\x1b]0;title\x07"], ids=ascii)
+def test_a_wrong_argument_sends_no_control_character(word, program, folder):
+    """clap repeats the argument in its message, which a terminal prints."""
+    status, printed = run(program, folder, ["check", "loop", word], stderr=subprocess.STDOUT)
+    assert status == 3
+    text = printed.decode("utf-8", "replace")
+    assert [it for it in text if it != "\n" and unicodedata.category(it) == "Cc"] == []

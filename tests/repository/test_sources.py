@@ -91,7 +91,8 @@ MAKERS = {
     "crates/px_bytes/src/growing.rt: new",
     "crates/px_bytes/src/growing.rt: with_room_in",
     "crates/px_bytes/src/memory.rt: fresh",
-    "crates/px_cli/src/main.rt: run_given",
+    "crates/px_cli/src/main.rt: main",
+    "crates/px_words/src/texts.rt: new",
     "crates/px_iim/src/iim.rt: new_in",
     "crates/px_plans/src/plan.rt: new_in",
 }
@@ -106,18 +107,17 @@ ALLOCATES = re.compile(
 # The functions that call what allocates and are none of `Memory`: those over clap, which takes no `Memory`, and the one that copies the
 # program's arguments. px_devices and px_calls are only for tests.
 GROWERS = {
-    "crates/px_cli/src/main.rt: run_given",
+    "crates/px_cli/src/main.rt: given",
     "crates/px_words/src/grammar.rt: bare",
     "crates/px_words/src/grammar.rt: joined",
     "crates/px_words/src/grammar.rt: of_one",
     "crates/px_words/src/grammar.rt: of_two",
     "crates/px_words/src/grammar.rt: with_word",
-    "crates/px_words/src/words.rt: parse",
-    "crates/px_words/src/words.rt: read_error",
+    "crates/px_words/src/parser.rt: matches_of",
 }
 
 # The two lines of the program's run. No contract describes clap's result, so the run does nothing else.
-RUN = "let asked = parse(memory, rt.alloc(), words, VERSION); run_asked(rt, files, memory, asked, lines)"
+RUN = "let asked = parse(memory, parser, words, VERSION); run_asked(files, memory, asked, streams)"
 
 
 def is_one_line(name, takes, body):
