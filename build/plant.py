@@ -92,15 +92,15 @@ def mistakes(path: Path, lines: set[int] | None) -> Iterator[list[Mistake]]:
             yield found
 
 
-def tests_pass(tree: Path, words: list[str]) -> bool:
-    """Whether the tests pass in a copy of the tree. An endless loop is a failure."""
+def run_tests(tree: Path, words: list[str]) -> subprocess.CompletedProcess[str]:
+    """Runs tests in a copy of the tree. An endless loop is a failure."""
     command = [PYTHON, "-m", "pytest", "-x", "-q", "-o", "timeout=300", *words]
     with tempfile.TemporaryDirectory() as folder:
-        environment = {"PATH": os.environ["PATH"], "TMPDIR": folder, "HOME": folder}
+        environment = {**os.environ, "TMPDIR": folder}
         ran = subprocess.run(command, cwd=tree, env=environment, capture_output=True, text=True, stdin=subprocess.DEVNULL, check=False)
     if ran.returncode not in (0, 1):
         raise SystemExit(f"{' '.join(command)} ended with status {ran.returncode}:\n{ran.stdout[-2000:]}{ran.stderr[-2000:]}")
-    return ran.returncode == 0
+    return ran
 
 
 def try_all(chosen: list[Mistake], words: list[str], jobs: int) -> int:
@@ -114,15 +114,15 @@ def try_all(chosen: list[Mistake], words: list[str], jobs: int) -> int:
         def gets_through(it: Mistake) -> bool:
             tree, source = trees.get(), (TOP / it.path).read_bytes()
             (tree / it.path).write_bytes(source[: it.span.start] + it.text.encode() + source[it.span.stop :])
-            passed = tests_pass(tree, words)
+            passed = run_tests(tree, words).returncode == 0
             (tree / it.path).write_bytes(source)
             trees.put(tree)
             old = " ".join(source[it.span].decode().split())
             print(f"{'GOT THROUGH' if passed else 'found'}: {it.path}:{it.line}: {old} ==> {it.text}", flush=True)
             return passed
 
-        if not tests_pass(Path(folder, "0"), words):
-            raise SystemExit("a test fails without a mistake")
+        if (ran := run_tests(Path(folder, "0"), words)).returncode:
+            raise SystemExit(f"a test fails without a mistake:\n{ran.stdout[-3000:]}")
         return sum(pool.map(gets_through, chosen))
 
 
