@@ -96,6 +96,7 @@ def run_tests(tree: Path, words: list[str]) -> subprocess.CompletedProcess[str]:
     """Runs tests in a copy of the tree. An endless loop is a failure."""
     command = [PYTHON, "-m", "pytest", "-x", "-q", "-o", "timeout=300", *words]
     with tempfile.TemporaryDirectory() as folder:
+        os.chmod(folder, 0o755)  # some tests run commands as another user
         environment = {**os.environ, "TMPDIR": folder}
         ran = subprocess.run(command, cwd=tree, env=environment, capture_output=True, text=True, stdin=subprocess.DEVNULL, check=False)
     if ran.returncode not in (0, 1):
