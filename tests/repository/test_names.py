@@ -114,7 +114,7 @@ def test_examples_of_this_module() -> None:
 def test_paths_in_backticks(path: Path) -> None:
     named = {part.strip("(),;:'\"<>") for text in quoted(path.read_text(encoding="utf-8")) for part in text.split()}
     paths = [it for it in named if FILE.fullmatch(it) and not it.startswith(ELSEWHERE) and it not in MADE]
-    assert [it for it in paths if not is_there(it) and not is_there(f"specs/{it}")] == []
+    assert [it for it in paths if not is_there(it) and not is_there(f"specs/{it}") and not (path.parent / it).exists()] == []
 
 
 def test_lemmas_and_definitions_are_in_their_files() -> None:
