@@ -9,7 +9,6 @@
  */
 #include "fuzz/changes.h"
 #include "fuzz/laws.h"
-#include "fuzz/memory.h"
 #include <stdio.h>
 #include <stdlib.h>
 #include <string.h>
@@ -21,10 +20,6 @@ static void stop(const char *why) {
 
 #ifdef LIBFUZZER
 
-/* What the fuzzer is shown besides the branches of the laws: of each block the cause and the bits of what the laws saw, since the
- * library itself is compiled without counters. */
-__attribute__((section("__libfuzzer_extra_counters"))) static unsigned char features[CAUSES * 64];
-
 int LLVMFuzzerInitialize(int *count, char ***words) {
     (void)count;
     (void)words;
@@ -33,19 +28,10 @@ int LLVMFuzzerInitialize(int *count, char ***words) {
     return 0;
 }
 
-static unsigned kind_of_size(size_t size) {
-    unsigned bits = 0;
-    while (size >>= 1)
-        bits++;
-    return bits;
-}
-
 int LLVMFuzzerTestOneInput(const unsigned char *block, size_t length) {
     if (length == 0 || length > longest_block())
         return 0;
-    unsigned cause = judge(block, length);
-    features[(cause % CAUSES) * 64 + kind_of_size(length) % 16 * 4 + (block[0] == 0x1C) * 2 + (block[0] == 'I')] = 1;
-    features[(cause % CAUSES) * 64 + kind_of_size(memory.peak) % 64] = 1;
+    judge(block, length);
     for (int law = 0; law < LAW_COUNT; law++)
         if (seen.broken[law])
             abort();

@@ -6,16 +6,14 @@ FUZZ_BLOCKS and FUZZ_SEED of the environment are the number of blocks and the se
 
 import os
 import re
-import shlex
-import shutil
 import signal
 import subprocess
 from dataclasses import dataclass, field
 
 import pytest
 
-from compiling import HEADERS, HERE, TOP, run, text_of
-from fuzz import write_corpus, write_files
+from compiling import HEADERS, HERE, run, text_of
+from fuzz import write_corpus
 from reading import CAUSES
 
 BLOCKS, SEED = int(os.environ.get("FUZZ_BLOCKS", 400_000)), int(os.environ.get("FUZZ_SEED", 1))
@@ -149,27 +147,3 @@ def test_a_wrong_library_is_found(fuzz, name):
     else:
         assert report.status == 1 and report.broken, f"{MISTAKES[name]}: {report.text[-500:]}"
     assert {law for law, names in FINDS.items() if name in names.split()} <= report.broken
-
-
-# ---- the targets of other fuzzers
-
-
-def document_command(tool):
-    """The words of the command with which docs/FUZZING.md compiles a target."""
-    found = re.search(rf"^    ({tool} (?:.*\\\n)*.*)$", text_of("docs", "FUZZING.md"), re.M)
-    return shlex.split(found[1].replace("\\\n", " "))
-
-
-@pytest.mark.parametrize("tool", ["clang", "afl-clang-fast"])
-def test_target_of_a_fuzzer(fuzz, tool, folder):
-    """It is compiled as in the document; it runs, and stops at a wrong library."""
-    if not shutil.which(tool):
-        pytest.skip(f"{tool} is not installed")
-    words, target, corpus = document_command(tool), folder / "target", folder / "known"
-    words[words.index("-o") + 1], words[-1] = str(target), str(fuzz.shared)
-    subprocess.run(words, cwd=TOP, check=True)
-    write_files(corpus)
-    options = ["-runs=20000", "-seed=1", "-max_len=4096", corpus] if tool == "clang" else [corpus / "known-0000"]
-    for mistake in ("", "FORM_CUT"):
-        ran = subprocess.run([target, *options], cwd=folder, env=fuzz.environment(mistake), capture_output=True, text=True, check=False)
-        assert (ran.returncode != 0, "BROKEN" in ran.stdout) == (bool(mistake), bool(mistake)), (ran.stdout + ran.stderr)[-500:]

@@ -5,10 +5,19 @@
 struct memory memory;
 static int counts;
 
-void *__libc_malloc(size_t size);
-void *__libc_calloc(size_t count, size_t size);
-void *__libc_realloc(void *old, size_t size);
-void __libc_free(void *old);
+/* With -DWRAPPED the linker's --wrap puts these functions between the library and the malloc of a sanitizer. */
+#ifdef WRAPPED
+#define COUNTED(name) __wrap_##name
+#define SYSTEMS(name) __real_##name
+#else
+#define COUNTED(name) name
+#define SYSTEMS(name) __libc_##name
+#endif
+
+void *SYSTEMS(malloc)(size_t size);
+void *SYSTEMS(calloc)(size_t count, size_t size);
+void *SYSTEMS(realloc)(void *old, size_t size);
+void SYSTEMS(free)(void *old);
 
 void start_counting(long refuse) {
     counts = 1;
@@ -40,27 +49,27 @@ static void *took(void *got) {
     return got;
 }
 
-void *malloc(size_t size) {
-    return is_refused() ? NULL : took(__libc_malloc(size));
+void *COUNTED(malloc)(size_t size) {
+    return is_refused() ? NULL : took(SYSTEMS(malloc)(size));
 }
 
-void *calloc(size_t count, size_t size) {
-    return is_refused() ? NULL : took(__libc_calloc(count, size));
+void *COUNTED(calloc)(size_t count, size_t size) {
+    return is_refused() ? NULL : took(SYSTEMS(calloc)(count, size));
 }
 
-void *realloc(void *old, size_t size) {
+void *COUNTED(realloc)(void *old, size_t size) {
     if (is_refused())
         return NULL;
     if (old)
         memory.grown += counts;
     size_t held = old ? malloc_usable_size(old) : 0;
-    void *got = __libc_realloc(old, size);
+    void *got = SYSTEMS(realloc)(old, size);
     if (got)
         memory.live -= held;
     return took(got);
 }
 
-void free(void *old) {
+void COUNTED(free)(void *old) {
     memory.live -= old ? malloc_usable_size(old) : 0;
-    __libc_free(old);
+    SYSTEMS(free)(old);
 }

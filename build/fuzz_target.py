@@ -1,0 +1,177 @@
+#!/usr/bin/env python3
+"""Builds a target for a fuzzer: the laws of tests/library/fuzz/ over the built library, compiled once more with instrumentation.
+
+  build/fuzz_target.py KIND TARGET
+
+KIND is `guided` for libFuzzer with a counter for each branch of the library, `address` or `thread` for the same with a sanitizer, or `afl`
+for AFL++. TARGET.a is then the instrumented library. docs/FUZZING.md tells how to run a target.
+
+The toolchain builds only what is proved, from one module that it gives to clang and doesn't keep. So px_c is built again, over the proved
+libraries, with a toolchain folder whose clang also copies the module and its options. The archive that this makes must be that of
+`make library`, byte for byte. Then the module is the library's own code, and the toolchain's clang compiles it with the same options and
+those of the instrumentation. out/fuzz/ keeps the module, because building px_c takes about two minutes.
+"""
+
+from __future__ import annotations
+
+import filecmp
+import hashlib
+import os
+import shlex
+import shutil
+import subprocess
+import sys
+import tempfile
+from pathlib import Path
+from typing import NamedTuple
+
+sys.dont_write_bytecode = True
+
+import machine
+from compiler import Compiler
+from crates import Crates
+from prove import JOBS, NotBuilt, listen, say
+
+TOP = Path(__file__).resolve().parent.parent
+TESTS = TOP / "tests" / "library"
+CRATE = "px_c"
+CLANG = """#!/bin/sh
+cp module.bc {folder}/module.bc && printf '%s\\n' "$@" >{folder}/options || exit 1
+exec {clang} "$@"
+"""
+ATTRIBUTE = '"probe-stack"='  # each function of the module has it
+COUNTERS = "-fsanitize-coverage=inline-8bit-counters,pc-table,trace-cmp"
+LAWS = ["fuzz.c", "fuzz/laws.c", "fuzz/memory.c"]
+FLAGS = ["-g", "-O2", "-DLIBFUZZER", "-DWRAPPED", f"-I{TOP}/crates/px_c/include"]
+WRAPS = [f"-Wl,--wrap={it}" for it in ("malloc", "calloc", "realloc", "free")]
+# The toolchain's clang calls them for the thread sanitizer. That of Debian's older clang lacks them, but watches those of the C library.
+NEWER = [f"--redefine-sym=__tsan_{it}={it}" for it in ("memcpy", "memmove", "memset")]
+
+
+class Kind(NamedTuple):
+    """What a target is made of: the counters and the sanitizer of the library, the calling program, and how they are linked."""
+
+    counters: str
+    sanitizer: list[str]
+    sources: list[str]
+    link: list[str]
+
+
+KINDS = {
+    "guided": Kind(COUNTERS, [], LAWS, ["clang", "-fsanitize=fuzzer", *WRAPS]),
+    "address": Kind(COUNTERS, ["-fsanitize=address"], LAWS, ["clang", "-fsanitize=fuzzer,address", *WRAPS]),
+    "thread": Kind(COUNTERS, ["-fsanitize=thread"], ["fuzz/threads.c"], ["clang", "-fsanitize=fuzzer,thread"]),
+    "afl": Kind("-fsanitize-coverage=trace-pc-guard", [], LAWS, ["afl-clang-fast", "-fsanitize=fuzzer", *WRAPS]),
+}
+
+
+def run(*words: str | Path, folder: Path) -> None:
+    subprocess.run(words, cwd=folder, stdin=subprocess.DEVNULL, check=True)
+
+
+# ---- the module of the built library
+
+
+def copying_toolchain(toolchain: Path, folder: Path) -> Path:
+    """A folder like that of the toolchain, but its clang also copies what it is given into `folder`."""
+    copying = folder / "toolchain"
+    shutil.copytree(toolchain, copying, copy_function=os.symlink)
+    clang = copying / "bin" / "clang"
+    clang.unlink()
+    clang.write_text(CLANG.format(folder=shlex.quote(str(folder)), clang=shlex.quote(str(toolchain / "bin" / "clang"))), encoding="utf-8")
+    clang.chmod(0o755)
+    return copying
+
+
+def build(crates: Crates, archive: Path, folder: Path) -> None:
+    """Builds the library as `make library` does, and leaves its module and the options of clang in a folder."""
+    with open(folder / "log", "w", encoding="utf-8") as log:
+        compiler = Compiler(crates, archive.parent, log)
+        words = compiler.words(CRATE, folder / archive.name, min(JOBS, machine.processors()))
+        at = words.index("--toolchain") + 1
+        words[at] = str(copying_toolchain(Path(words[at]), folder))
+        try:
+            status = compiler.call(words, crates.folder(CRATE), log)
+        finally:
+            compiler.stop()
+    if status:
+        end = (folder / "log").read_text(encoding="utf-8", errors="replace")[-2000:]
+        raise NotBuilt(f"{end}\nexifnorm: the compiler ended with status {status}")
+    if not filecmp.cmp(folder / archive.name, archive, shallow=False):
+        raise NotBuilt(f"{archive} is not of the current sources: call `make library`")
+
+
+def kept(crates: Crates) -> Path:
+    """The folder with the module of the built library."""
+    archive = TOP / "out" / "proved" / crates.product(CRATE)
+    if not archive.exists():
+        raise NotBuilt(f"{archive} is missing: call `make library`")
+    folder = TOP / "out" / "fuzz" / hashlib.sha256(archive.read_bytes()).hexdigest()[:16]
+    if not folder.exists():
+        folder.parent.mkdir(exist_ok=True)
+        with tempfile.TemporaryDirectory(dir=folder.parent) as making:
+            say(f"building {CRATE} once more for its module, which takes about two minutes")
+            build(crates, archive, Path(making))
+            made = Path(making, "made")
+            made.mkdir()
+            for name in ("module.bc", "options"):
+                os.replace(Path(making, name), made / name)
+            if not folder.exists():  # nobody else has made it meanwhile
+                os.replace(made, folder)
+    return folder
+
+
+# ---- the instrumented library and the target
+
+
+def compile_module(module: Path, kind: Kind, clang: Path, folder: Path) -> Path:
+    """Compiles the module with the instrumentation of a kind, in a folder. Returns the object file."""
+    text, object_file = folder / "module.ll", folder / f"{CRATE}.o"
+    unchanged = ["-Xclang", "-disable-llvm-passes"]
+    run(clang, "--no-default-config", *unchanged, "-S", "-emit-llvm", "-x", "ir", module / "module.bc", "-o", text, folder=folder)
+    for it in kind.sanitizer:  # which clang gives only to functions that ask for it
+        asked = it.replace("-fsanitize=", "sanitize_")
+        text.write_text(text.read_text(encoding="utf-8").replace(ATTRIBUTE, f"{asked} {ATTRIBUTE}"), encoding="utf-8")
+    files = {"module.bc": str(text), "module.o": str(object_file)}
+    options = (module / "options").read_text(encoding="utf-8").splitlines()
+    run(clang, *(files.get(it, it) for it in options), kind.counters, *kind.sanitizer, folder=folder)
+    run("objcopy", *NEWER, object_file, folder=folder)
+    return object_file
+
+
+def build_library(kind: Kind, library: Path) -> None:
+    """Writes the library with the instrumentation of a kind."""
+    crates = Crates.read(TOP)
+    module, kit = kept(crates), Path(Compiler(crates, TOP, sys.stderr).kit)
+    tools = kit / "toolchain" / "bin"
+    with tempfile.TemporaryDirectory() as name:
+        object_file = compile_module(module, kind, tools / "clang", Path(name))
+        shutil.copyfile(kit / "c" / "liblibc_c.a", library)
+        run(tools / "llvm-ar", "r", library, object_file, folder=Path(name))
+
+
+def link(kind: Kind, library: Path, target: Path) -> None:
+    """Compiles the calling program without counters, so that those of the library alone are counted, and links the target."""
+    with tempfile.TemporaryDirectory() as name:
+        run("clang", *FLAGS, *kind.sanitizer, "-c", *(TESTS / it for it in kind.sources), folder=Path(name))
+        objects = [Path(it).with_suffix(".o").name for it in kind.sources]
+        run(*kind.link, "-o", target, *objects, library, folder=Path(name))
+
+
+def main(words: list[str]) -> int:
+    if len(words) != 2 or words[0] not in KINDS:
+        sys.exit(__doc__)
+    try:
+        listen()
+        kind, target = KINDS[words[0]], Path(words[1]).resolve()
+        library = Path(f"{target}.a")
+        build_library(kind, library)
+        link(kind, library, target)
+    except (NotBuilt, OSError, subprocess.SubprocessError) as why:
+        say(str(why))
+        return 1
+    return 0
+
+
+if __name__ == "__main__":
+    sys.exit(main(sys.argv[1:]))

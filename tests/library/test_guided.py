@@ -1,0 +1,208 @@
+"""Fuzzers over the library that is compiled once more with counters and sanitizers (docs/FUZZING.md): the kept blocks, a number of new
+ones, and libraries with a mistake. Building the first target takes about two minutes, unless out/fuzz/ has the library's module."""
+
+import re
+import subprocess
+import zipfile
+from pathlib import Path
+
+import fuzz_target
+import pytest
+from crates import Crates
+from fuzz import write_files
+from fuzz_target import KINDS, NotBuilt
+
+from compiling import HEADERS, HERE, need, run
+
+KEPT = HERE / "fuzz" / "corpus.zip"
+RUNS, SEED = 1_500_000, 1  # about a minute of a processor
+CALLS = ("check", "normalise", "show", "captions", "compare", "cause_name", "version")
+pytestmark = pytest.mark.xdist_group("fuzz targets")  # they are built once
+
+
+class Targets:
+    """The targets and instrumented libraries of each kind, in a folder. Each is built at the first call."""
+
+    def __init__(self, folder: Path) -> None:
+        self.folder = folder
+
+    def library(self, kind: str) -> Path:
+        path = self.folder / f"{kind}.a"
+        if not path.exists():
+            fuzz_target.build_library(KINDS[kind], path)
+        return path
+
+    def target(self, kind: str) -> Path:
+        path = self.folder / kind
+        if not path.exists():
+            fuzz_target.link(KINDS[kind], self.library(kind), path)
+        return path
+
+    def wrong_target(self, kind: str) -> Path:
+        """The target whose library makes the mistake of wrong.c that WRONG names in the environment."""
+        path, library, wrong = self.folder / f"wrong-{kind}", self.folder / f"wrong-{kind}.a", self.folder / "wrong.o"
+        if not path.exists():
+            run("objcopy", *(f"--redefine-sym=exifnorm_{it}=its_{it}" for it in CALLS), self.library(kind), library)
+            run("cc", "-std=c99", "-O2", "-DRIGHT_IS_LINKED", "-I", HEADERS, "-c", "-o", wrong, HERE / "fuzz" / "wrong.c")
+            run("ar", "r", library, wrong)
+            fuzz_target.link(KINDS[kind], library, path)
+        return path
+
+
+@pytest.fixture(scope="session")
+def targets(session_folder):
+    for tool in ("rt", "clang", "afl-clang-fast"):
+        need(tool)
+    folder = session_folder / "fuzz targets"
+    folder.mkdir()
+    return Targets(folder)
+
+
+@pytest.fixture(scope="session")
+def corpora(session_folder):
+    """The folders of the kept blocks and of the known ones."""
+    kept, known = session_folder / "kept blocks", session_folder / "known blocks"
+    with zipfile.ZipFile(KEPT) as it:
+        it.extractall(kept)
+    write_files(known)
+    return kept, known
+
+
+def fuzz(target, folder, *words, wrong=""):
+    """Runs a target in a folder, where it may write what it finds."""
+    environment = {"PATH": "/usr/bin:/bin", "WRONG": wrong}
+    return subprocess.run([target, *words], cwd=folder, env=environment, capture_output=True, text=True, check=False, errors="replace")
+
+
+def reached(ran):
+    """How many branches of the library were reached, and how many it has."""
+    every = re.search(r"Loaded 1 modules +\((\d+) inline 8-bit counters\)", ran.stderr)
+    last = re.findall(r" cov: (\d+) ", ran.stderr)
+    assert every and last, f"the library has no counters: {ran.stderr[-2000:]}"
+    return int(last[-1]), int(every[1])
+
+
+# ---- the library
+
+
+@pytest.mark.parametrize("kind", ["guided", "address", "thread"])
+def test_the_kept_blocks_break_no_law(targets, corpora, folder, kind):
+    ran = fuzz(targets.target(kind), folder, "-runs=0", corpora[0])
+    assert ran.returncode == 0, (ran.stdout + ran.stderr)[-3000:]
+    assert f"#{len([*corpora[0].iterdir()]) + 1}\t" in ran.stderr, "it has not read each of them"
+
+
+def test_the_kept_blocks_reach_more_than_the_known_ones(targets, corpora, folder):
+    """If this fails, the library has other branches than those for which the blocks were kept: keep others (docs/FUZZING.md)."""
+    kept, known = (reached(fuzz(targets.target("guided"), folder, "-runs=0", it))[0] for it in corpora)
+    assert kept > known
+
+
+@pytest.mark.timeout(1800)
+def test_no_block_that_is_made_of_them_breaks_a_law(targets, corpora, folder, record_property):
+    words = [f"-runs={RUNS}", f"-seed={SEED}", "-max_len=4096", "-print_final_stats=1", folder, *corpora]
+    ran = fuzz(targets.target("guided"), folder, *words)
+    assert ran.returncode == 0, (ran.stdout + ran.stderr)[-3000:]
+    assert f"stat::number_of_executed_units: {RUNS}" in ran.stderr
+    branches, of = reached(ran)
+    record_property("measured", f"the fuzzer reached {branches} of {of} branches of the library by {RUNS} blocks")
+    assert branches > of // 3, "it is hardly guided"
+
+
+# ---- libraries with a mistake, and calls that break a rule
+
+
+@pytest.mark.parametrize("mistake", ["NONE", "FORM_CUT", "LEAKS", "SAME_ONE_WAY", "CAPTIONS_OF_PLACES"])
+@pytest.mark.parametrize("kind", ["guided", "address"])
+def test_a_wrong_library_is_found(targets, corpora, folder, kind, mistake):
+    ran = fuzz(targets.wrong_target(kind), folder, "-runs=5000", f"-seed={SEED}", folder, corpora[0], wrong=mistake)
+    assert (ran.returncode != 0, "BROKEN" in ran.stdout) == (mistake != "NONE", mistake != "NONE"), (ran.stdout + ran.stderr)[-2000:]
+    assert bool([*folder.glob("crash-*")]) == (mistake != "NONE"), "the block is not kept"
+
+
+@pytest.mark.parametrize("mistake", ["NONE", "FORM_CUT"])
+def test_the_target_of_afl_stops_at_a_wrong_library(targets, corpora, folder, mistake):
+    block = next(it for it in sorted(corpora[1].iterdir()) if it.read_bytes()[:1] == b"\x1c")
+    ran = fuzz(targets.wrong_target("afl"), folder, block, wrong=mistake)
+    assert (ran.returncode != 0, "BROKEN" in ran.stdout) == (mistake != "NONE", mistake != "NONE"), (ran.stdout + ran.stderr)[-2000:]
+
+
+def test_afl_sees_the_branches_of_the_library(targets, corpora, folder):
+    blocks = sorted(corpora[0].iterdir())[:2]
+    maps = []
+    for at, block in enumerate(blocks):
+        run("afl-showmap", "-q", "-o", folder / str(at), "--", targets.target("afl"), block)
+        maps.append((folder / str(at)).read_text(encoding="ascii"))
+    assert maps[0].count("\n") > 50 and maps[0] != maps[1]
+
+
+@pytest.mark.parametrize("kind, error", [("address", "heap-buffer-overflow"), ("thread", "data race")])
+@pytest.mark.parametrize("lie", ["none", "address", "thread"])
+def test_a_sanitizer_watches_the_library(targets, folder, kind, error, lie):
+    """It finds a call that breaks a rule of the header, in code that only the library has."""
+    program = folder / "lies"
+    run("clang", "-O1", f"-fsanitize={kind}", "-I", HEADERS, "-o", program, HERE / "fuzz" / "lies.c", targets.library(kind), "-lpthread")
+    ran = fuzz(program, folder, lie)
+    assert (ran.returncode != 0, error in ran.stderr) == (lie == kind, lie == kind), ran.stderr[-2000:]
+
+
+# ---- which library it is
+
+
+class OtherCompiler:
+    """A compiler that writes an archive of its own, or fails."""
+
+    archive, status = b"another", 0
+
+    def __init__(self, *_):
+        pass
+
+    def words(self, _crate, made, _jobs):
+        self.made = made
+        return ["--toolchain", str(self.toolchain)]
+
+    def call(self, words, _folder, log):
+        log.write("so it is\n")
+        log.flush()
+        self.made.write_bytes(self.archive)
+        self.clang = Path(words[1], "bin", "clang")
+        return self.status
+
+    def stop(self):
+        pass
+
+
+@pytest.mark.parametrize(
+    "archive, status, why",
+    [(b"another", 0, "is not of the current sources"), (b"the same", 1, "so it is\n.* ended with status 1"), (b"the same", 0, "")],
+)
+def test_only_the_built_library_is_fuzzed(folder, monkeypatch, archive, status, why):
+    """The module of other sources is refused."""
+    (folder / "toolchain" / "bin").mkdir(parents=True)
+    (folder / "toolchain" / "bin" / "clang").touch()
+    (folder / "libpx_c.a").write_bytes(b"the same")
+    (folder / "making").mkdir()
+    monkeypatch.setattr(OtherCompiler, "toolchain", folder / "toolchain", raising=False)
+    monkeypatch.setattr(OtherCompiler, "archive", archive)
+    monkeypatch.setattr(OtherCompiler, "status", status)
+    monkeypatch.setattr(fuzz_target, "Compiler", OtherCompiler)
+    crates = Crates(folder, {"px_c": []}, {"px_c"})
+    if why:
+        with pytest.raises(NotBuilt, match=f"(?s){why}"):
+            fuzz_target.build(crates, folder / "libpx_c.a", folder / "making")
+    else:
+        fuzz_target.build(crates, folder / "libpx_c.a", folder / "making")
+
+
+def test_a_library_that_is_not_built(folder, monkeypatch, capsys):
+    monkeypatch.setattr(fuzz_target, "TOP", folder)
+    (folder / "crates.txt").write_text("px_c staticlib:\n", encoding="ascii")
+    assert fuzz_target.main(["guided", str(folder / "target")]) == 1
+    assert "libpx_c.a is missing: call `make library`" in capsys.readouterr().err
+    assert not (folder / "target").exists()
+
+
+@pytest.mark.parametrize("words", [(), ("guided",), ("memory", "target"), ("guided", "target", "more")])
+def test_wrong_words(words):
+    with pytest.raises(SystemExit, match="KIND TARGET"):
+        fuzz_target.main([*words])
