@@ -98,6 +98,12 @@ def test_the_kept_blocks_reach_more_than_the_known_ones(targets, corpora, folder
     assert kept > known
 
 
+def test_only_the_branches_of_the_library_are_counted(targets, corpora, folder):
+    sections = run("readelf", "-SW", targets.library("guided"))
+    counters = sum(int(it, 16) for it in re.findall(r"__sancov_cntrs +PROGBITS +\w+ +\w+ +(\w+)", sections))
+    assert reached(fuzz(targets.target("guided"), folder, "-runs=0", corpora[0]))[1] == counters
+
+
 @pytest.mark.timeout(1800)
 def test_no_block_that_is_made_of_them_breaks_a_law(targets, corpora, folder, record_property):
     words = [f"-runs={RUNS}", f"-seed={SEED}", "-max_len=4096", "-print_final_stats=1", folder, *corpora]
@@ -118,6 +124,12 @@ def test_a_wrong_library_is_found(targets, corpora, folder, kind, mistake):
     ran = fuzz(targets.wrong_target(kind), folder, "-runs=5000", f"-seed={SEED}", folder, corpora[0], wrong=mistake)
     assert (ran.returncode != 0, "BROKEN" in ran.stdout) == (mistake != "NONE", mistake != "NONE"), (ran.stdout + ran.stderr)[-2000:]
     assert bool([*folder.glob("crash-*")]) == (mistake != "NONE"), "the block is not kept"
+
+
+def test_a_library_with_memory_that_threads_share_is_found(targets, corpora, folder):
+    """This one keeps the last form."""
+    ran = fuzz(targets.wrong_target("thread"), folder, "-runs=100", f"-seed={SEED}", folder, corpora[0], wrong="FORM_OF_LAST")
+    assert ran.returncode != 0 and ("data race" in ran.stderr or "BROKEN threads" in ran.stderr), ran.stderr[-2000:]
 
 
 @pytest.mark.parametrize("mistake", ["NONE", "FORM_CUT"])
@@ -152,8 +164,6 @@ def test_a_sanitizer_watches_the_library(targets, folder, kind, error, lie):
 class OtherCompiler:
     """A compiler that writes an archive of its own, or fails."""
 
-    archive, status = b"another", 0
-
     def __init__(self, *_):
         pass
 
@@ -165,7 +175,7 @@ class OtherCompiler:
         log.write("so it is\n")
         log.flush()
         self.made.write_bytes(self.archive)
-        self.clang = Path(words[1], "bin", "clang")
+        assert Path(words[1], "bin", "clang").read_text(encoding="utf-8").startswith("#!/bin/sh"), "it keeps no module"
         return self.status
 
     def stop(self):
@@ -183,8 +193,8 @@ def test_only_the_built_library_is_fuzzed(folder, monkeypatch, archive, status, 
     (folder / "libpx_c.a").write_bytes(b"the same")
     (folder / "making").mkdir()
     monkeypatch.setattr(OtherCompiler, "toolchain", folder / "toolchain", raising=False)
-    monkeypatch.setattr(OtherCompiler, "archive", archive)
-    monkeypatch.setattr(OtherCompiler, "status", status)
+    monkeypatch.setattr(OtherCompiler, "archive", archive, raising=False)
+    monkeypatch.setattr(OtherCompiler, "status", status, raising=False)
     monkeypatch.setattr(fuzz_target, "Compiler", OtherCompiler)
     crates = Crates(folder, {"px_c": []}, {"px_c"})
     if why:
