@@ -18,6 +18,10 @@ SCRIPT = '''"""Runs exifnorm-pictures with the packages that were installed with
 import os
 import sys
 
+parts = os.environ.get("PYTHONPATH")
+for folder in parts.split(os.pathsep) if parts else ():
+    if not os.path.isabs(folder) and os.path.abspath(folder) in sys.path:
+        sys.path.remove(os.path.abspath(folder))  # the current folder, which may be a stranger's
 packages = os.path.normpath(os.path.join(os.path.dirname(os.path.realpath(__file__)), {way!r}))
 if packages not in sys.path:
     sys.path.insert(1, packages)

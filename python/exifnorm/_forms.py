@@ -154,10 +154,15 @@ class _Directories:
                 yield Field("thumb", tag, name, parts if tag == _STRIPS else parts[0])
 
 
+def each_field(form: bytes) -> Iterator[Field]:
+    """The fields of a normal form, one after another."""
+    return fields_of_record(form) if form[:1] == b"\x1c" else _Directories(form).fields()
+
+
 def fields_of_form(form: bytes) -> List[Field]:
     """The fields of a normal form.
 
     >>> fields_of_form(bytes.fromhex("4d4d002a00000008 0001 0112 0003 00000001 00060000 00000000"))
     [Field(directory='main', tag=274, type='SHORT', values=(6,))]
     """
-    return list(fields_of_record(form) if form[:1] == b"\x1c" else _Directories(form).fields())
+    return list(each_field(form))

@@ -3,9 +3,8 @@
 import os
 import sys
 
-# Python puts the current folder first, and a file there could be imported instead of one of Python's own modules.
-_HERE = os.path.dirname(os.path.dirname(os.path.abspath(__file__)))
-sys.path[:] = [it for it in sys.path if os.path.abspath(it) == _HERE or os.path.abspath(it) != os.getcwd()]
+if os.path.abspath(sys.path[0]) == os.getcwd() != os.path.dirname(os.path.dirname(os.path.abspath(__file__))):
+    del sys.path[0]  # the current folder, which Python puts first, and where a file could be imported in place of a module
 
 from .cli.main import main  # noqa: E402
 

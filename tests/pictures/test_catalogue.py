@@ -73,7 +73,7 @@ class Archive(InFolder):
     def test_a_program_that_was_installed_since(self):
         write(self.path("p", "g.gif"), GIF)
         bare = os.path.join(Studio.room, "bin")
-        self.assertEqual(self.run_again(status=4, PATH=bare), ({"g.gif": "NeedsExifTool"}, {"unchanged": 4, "NeedsExifTool": 1}))
+        self.assertEqual(self.run_again(status=2, PATH=bare), ({"g.gif": "NeedsExifTool"}, {"unchanged": 4, "NeedsExifTool": 1}))
         self.assertEqual(self.run_again(PATH=bare), ({}, {"unchanged": 5}))
         self.assertEqual(self.run_again(), ({"g.gif": "looked at"}, {"unchanged": 4, "no block": 1}))
 
@@ -132,8 +132,8 @@ class Archive(InFolder):
     def test_what_a_picture_meant_is_kept_where_it_cannot_be_read(self):
         os.remove(self.path("p", "b.jpg"))
         os.mkfifo(self.path("p", "b.jpg"))
-        self.assertEqual(self.run_again(status=4), ({"b.jpg": "Unreadable"}, {"unchanged": 3, "Unreadable": 1}))
-        self.assertEqual(self.changed_rows(), {"b.jpg": (self.before["b.jpg"], ("Unreadable", self.before["b.jpg"][1]))})
+        self.assertEqual(self.run_again(), ({"b.jpg": "NotAFile"}, {"unchanged": 3, "NotAFile": 1}))
+        self.assertEqual(self.changed_rows(), {"b.jpg": (self.before["b.jpg"], ("NotAFile", self.before["b.jpg"][1]))})
 
     def test_two_that_are_gone(self):
         """Of equal pictures each went where its name is, and to no place two."""
@@ -171,7 +171,7 @@ class Archive(InFolder):
 
     def test_a_folder_that_is_gone_and_back(self):
         os.rename(self.path("p"), self.path("away"))
-        lines = self.asked("index", "p", "--catalogue", "c", "--quiet", status=4)
+        lines = self.asked("index", "p", "--catalogue", "c", "--quiet", status=2)
         self.assertEqual((lines[0].startswith(f"{self.path('p')}: Unreadable: "), " 4 " in lines[0], lines[1:]), (True, True, ["1 Unreadable"]), lines)
         self.assertEqual(self.changed_rows(), {})
         os.rename(self.path("away"), self.path("p"))
@@ -185,7 +185,7 @@ class Archive(InFolder):
             os.close(here)
             here = below
         os.close(here)
-        named, counts = self.run_again(status=4)
+        named, counts = self.run_again(status=2)
         self.assertEqual(counts, {"unchanged": 4, "Unreadable": 1})
         subprocess.run(["rm", "-rf", self.path("p", "d" * 250)], check=True)
 
@@ -194,9 +194,9 @@ class Archive(InFolder):
         os.symlink("loop", self.path("p", "loop"))
         os.symlink("missing", self.path("p", "nowhere"))
         os.symlink(".", self.path("p", "sub", "self"))
-        named, counts = self.run_again(status=4)
-        self.assertEqual(named, {"a.jpg": "looked at", "loop": "Unreadable", "nowhere": "Vanished"})
-        self.assertEqual(self.run_again(status=4)[1]["unchanged"], 4)
+        named, counts = self.run_again()
+        self.assertEqual(named, {"a.jpg": "looked at", "loop": "LinkToNothing", "nowhere": "LinkToNothing"})
+        self.assertEqual(self.run_again()[1]["unchanged"], 4)
 
     def test_the_catalogue_inside_the_folder(self):
         for _ in range(2):
@@ -234,18 +234,18 @@ class Archive(InFolder):
         write(self.path("p", "trailer.jpg"), ONE + b"a trailer")
         shutil.copy(self.path("c"), self.path("d"))
         self.rows_by_path("c")
-        one, several = (self.asked("index", "p", "--catalogue", name, "--quiet", "--again", "--jobs", jobs, status=4)
+        one, several = (self.asked("index", "p", "--catalogue", name, "--quiet", "--again", "--jobs", jobs)
                         for name, jobs in (("c", "1"), ("d", "3")))  # fmt: skip
         self.assertEqual(one, several)
         self.assertEqual(sum("Moved: to " in it for it in one), 3)
-        self.assertIn(f"{self.path('p', 'trailer.jpg')}: not wholly read: trailer of 9 bytes", one)
+        self.assertEqual([it.split() for it in one[-3:-1]][1], ["1", "trailer"])
         rows = self.rows_by_path("d")
         self.assertEqual(self.rows_by_path("c"), rows)
         query = "SELECT exif, iptc, xmp, not_read FROM pictures WHERE path = ?"
         base = sqlite3.connect(self.path("d"))
         self.assertEqual(base.execute(query, (os.fsencode(self.path("p", "never.jpg")),)).fetchone(), (None,) * 4, "nothing is known")
         base.close()
-        again, of_several = (self.asked("index", "p", "--catalogue", name, "--quiet", "--json", "--again", "--jobs", jobs, status=4)
+        again, of_several = (self.asked("index", "p", "--catalogue", name, "--quiet", "--json", "--again", "--jobs", jobs)
                              for name, jobs in (("c", "1"), ("d", "3")))  # fmt: skip
         self.assertEqual(again, of_several)
 
@@ -380,7 +380,7 @@ class Rights(WithPictures):
         os.chmod(self.path("p", "b.jpg"), 0)
         os.chmod(self.path("p", "closed"), 0)
         done = self.as_nobody("index", "p", "--catalogue", "c", "--quiet", "--json")
-        self.assertEqual(done.returncode, 4, done)
+        self.assertEqual(done.returncode, 2, done)
         *found, counts = [json.loads(it) for it in done.stdout.splitlines()]
         said = {os.path.basename(it["path"]): (it["problem"], it["detail"]) for it in found}
         self.assertEqual(said, {"b.jpg": ("Unreadable", "permission denied"), "d.jpg": ("Vanished", PROBLEMS["Vanished"]),
@@ -427,15 +427,17 @@ class Kinds(InFolder):
             write(self.path(side, "a.jpg"), octets)
         return json.loads(self.asked("changed", "before", "after", "--json", "--all", status=status)[0])
 
-    def test_refused_pictures_are_in_no_group(self):
+    def test_refused_pictures_are_the_same_by_their_bytes_alone(self):
         os.mkdir(self.path("p"))
         for name in ("a.jpg", "b.jpg", "gone.jpg"):
             write(self.path("p", name), with_exif(SMALL_JPEG, BLOCKS["Overlap"]))
         self.asked("index", "p", "--catalogue", "c", "--quiet")
         os.remove(self.path("p", "gone.jpg"))
         self.asked("index", "p", "--catalogue", "c", "--quiet")
-        self.assertEqual(self.asked("same", "--catalogue", "c", "--json"), [])
-        self.assertEqual([it.split()[0] for it in self.asked("same", "--catalogue", "c")], ["2"])
+        (found,) = [json.loads(it) for it in self.asked("same", "--catalogue", "c", "--json")]
+        self.assertEqual((found["basis"], found["count"], found["digests"], found["wholly_read"]), ("bytes", 2, {"exif": ""}, False))
+        self.assertEqual([it["reason"] for it in found["pictures"]], ["Exif refused: Overlap"] * 2)
+        self.assertEqual(self.asked("same", "--catalogue", "c")[-1].split()[0], "2")
 
     def test_groups_in_order(self):
         """The largest comes first; pictures that differ in what was not read are in none."""
@@ -476,23 +478,28 @@ class Kinds(InFolder):
         lines = self.asked("changed", "before", "after", status=1)
         self.assertEqual(lines[1:3], ['  - main:Make: "Abc" -> -', '  + main:Model: - -> "Xyz"'])
 
-    def test_a_picture_that_cannot_be_read_is_a_failure(self):
+    def test_what_is_no_file_is_not_compared(self):
+        """A pipe, and a link that leads to no file, on one side or on both."""
         for side in ("before", "after"):
             os.mkdir(self.path(side))
             write(self.path(side, "a.jpg"), ONE)
+            os.mkfifo(self.path(side, "c.jpg"))
         os.mkfifo(self.path("before", "b.jpg"))
+        os.symlink("nothing", self.path("after", "d.jpg"))
         write(self.path("after", "b.jpg"), ONE)
-        lines = self.asked("changed", "before", "after", status=4)
-        self.assertEqual(lines, ["b.jpg: not read (before: Unreadable)", "1 same, 1 not read"])
+        lines = self.asked("changed", "before", "after", status=1)
+        self.assertEqual(lines, ["b.jpg: missing before", "1 same, 1 missing before"])
 
-    def test_what_was_never_compared_is_in_no_group(self):
+    def test_what_was_never_compared_is_the_same_by_its_bytes_alone(self):
         from made_files import page, tiff
 
         os.mkdir(self.path("p"))
         for name in ("a", "b"):
             write(self.path("p", name + ".tif"), tiff(page((0x0190, LONG, 8))))  # a pointer that is not followed
+        write(self.path("p", "other.tif"), tiff(page((0x0190, LONG, 9))))
         self.asked("index", "p", "--catalogue", "c", "--quiet")
-        self.assertEqual(self.asked("same", "--catalogue", "c", "--json"), [])
+        (found,) = [json.loads(it) for it in self.asked("same", "--catalogue", "c", "--json")]
+        self.assertEqual((found["basis"], [os.path.basename(it["path"]) for it in found["pictures"]]), ("bytes", ["a.tif", "b.tif"]))
 
     def test_equal_changes_are_listed_together(self):
         for side, artist in (("before", b"Old\0"), ("after", b"New\0")):

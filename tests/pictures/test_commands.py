@@ -77,9 +77,9 @@ class SameAndChanged(InFolder):
         names = [os.path.basename(it["path"]) for it in found[0]["pictures"]]
         self.assertEqual((sorted(names), found[0]["same_bytes"]), (["copy.jpg", "first.jpg", "turned.jpg"], False))
         lines = self.asked("same", "--catalogue", "c", "--kind", "iptc")
-        self.assertEqual(len(lines), 4)
+        self.assertEqual(len(lines), 5)
         named = os.fsencode(self.path("pictures", "first.jpg"))
-        self.assertEqual(self.asked("same", "--catalogue", "c", "--files-from", "-", given=named), [])
+        self.assertEqual(self.asked("same", "--catalogue", "c", "--files-from", "-", given=named), ["0 groups of 0 pictures"])
 
     def test_a_block_that_came(self):
         for side in ("before", "after"):
@@ -159,15 +159,20 @@ class Mend(InFolder):
         self.asked("explain", "out.jpg")
         return found
 
-    def test_touch(self):
-        self.assertEqual(self.mended("Overlap.jpg", step="touch")["lost"], [])
+    def test_repair(self):
+        """It loses nothing, and all of the file but the block stays as it was."""
+        found = self.mended("Overlap.jpg", step="repair")
+        self.assertEqual((found["lost"], found["gained"]), ([], []))
+        before, after = (read(it) for it in (os.path.join(refused(), "Overlap.jpg"), self.path("out.jpg")))
+        rest = before[before.index(b"Exif\0\0") + 6 + int.from_bytes(before[before.index(b"Exif\0\0") - 2 :][:2], "big") - 8 :]
+        self.assertTrue(after.endswith(rest))
 
     @needs("exiv2")
     def test_exiv2(self):
         self.assertEqual(self.mended("DataSetCut.jpg", step="exiv2")["lost"], [])
 
-    def test_rebuild_reports_what_is_lost(self):
-        found = self.mended("Doubled.jpg", step="rebuild", status=1)
+    def test_a_repair_reports_what_is_lost(self):
+        found = self.mended("Doubled.jpg", step="repair", status=1)
         self.assertEqual(found["lost"], ["[IFD0] Orientation : Rotate 90 CW"])
 
     def test_each_cause_that_a_jpeg_can_have(self):
@@ -186,7 +191,7 @@ class Mend(InFolder):
         tool(self.folder, interpreter_with("piexif"), "-c", call)
         self.assertIn("refused", self.asked("explain", "piexif.jpg", status=2)[0])
         found = json.loads(self.asked("mend", "--json", "piexif.jpg", "out.jpg")[0])
-        self.assertEqual((found["step"], found["lost"]), ("touch", []))
+        self.assertEqual((found["step"], found["lost"]), ("repair", []))
         self.asked("explain", "out.jpg")
 
     def test_nothing_is_overwritten(self):
@@ -194,14 +199,17 @@ class Mend(InFolder):
         self.asked("mend", "refused.jpg", "refused.jpg", status=4)
         self.asked("mend", "refused.jpg", "picture.jpg", status=4)
         self.assertEqual(read(self.path("picture.jpg")), read(os.path.join(collection(), "picture.jpg")))
-        self.asked("mend", "nothing.jpg", "out.jpg", status=4)
+        self.asked("mend", "nothing.jpg", "out.jpg", status=2)
         self.assertFalse(os.path.exists(self.path("out.jpg")))
 
     def test_many_into_a_folder(self):
         self.copied(collection())
         os.mkdir(self.path("out"))
-        self.asked("mend", "--files-from", "-", "out", given=b"refused.jpg\npicture.jpg\n")
-        self.assertEqual(sorted(os.listdir(self.path("out"))), ["picture.jpg", "refused.jpg"])
+        os.mkdir(self.path("sub"))
+        shutil.copy(self.path("picture.jpg"), self.path("sub", "refused.jpg"))
+        self.asked("mend", "--files-from", "-", "out", given=b"refused.jpg\nsub/refused.jpg\n" + os.fsencode(self.path("picture.jpg")))
+        for name in ("refused.jpg", "sub/refused.jpg", self.path("picture.jpg").lstrip("/")):
+            self.assertTrue(os.path.isfile(self.path("out", name)), name)
 
 
 class Words(WithPictures):
@@ -235,7 +243,7 @@ class Words(WithPictures):
         asked = self.without()
         for words in (["index", "a.gif", "--catalogue", "c"], ["show", "a.gif"], ["mend", "a.gif", "b.gif"]):
             done = asked(*words)
-            self.assertEqual(done.returncode, 4, done)
+            self.assertEqual(done.returncode, 2, done)
             self.assertIn(b"apt-get install libimage-exiftool-perl", done.stdout + done.stderr)
 
     @needs("exiftool")
@@ -243,5 +251,5 @@ class Words(WithPictures):
         self.copied(collection())
         os.rename(self.path("pictures", "scan.tif"), self.path("pictures", "scan.nef"))
         done = self.without("exiftool", "perl")("index", "pictures", "--catalogue", "c", "--quiet")
-        self.assertEqual(done.returncode, 4, done.stderr)
+        self.assertEqual(done.returncode, 2, done.stderr)
         self.assertIn(b"scan.nef: NeedsExiv2: ", done.stdout)

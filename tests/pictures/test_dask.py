@@ -91,7 +91,7 @@ class Cluster(WithPictures):
 
     def test_a_picture_that_kills_workers_is_a_line(self):
         write(self.path("p", "a.gif"), GIF)
-        lines = self.index("p", "--scheduler", self.cluster(PATH=self.deadly("true"), failures="0"), status=4)
+        lines = self.index("p", "--scheduler", self.cluster(PATH=self.deadly("true"), failures="0"), status=2)
         self.assertEqual(lines, [f"{self.path('p', 'a.gif')}: ToolFailed: the workers that looked at it died", "150 accepted, 1 ToolFailed"])
 
     def test_another_path_of_the_folder_on_the_workers(self):
@@ -100,7 +100,7 @@ class Cluster(WithPictures):
         for name in sorted(os.listdir(self.path("there"))):
             write(self.path("p", name), bytes(len(GOOD)))  # what is here isn't read
         write(self.path("p", "missing.jpg"), GOOD)
-        lines = self.index("p", "--scheduler", self.cluster(), "--elsewhere", self.path("there"), status=4)
+        lines = self.index("p", "--scheduler", self.cluster(), "--elsewhere", self.path("there"), status=2)
         self.assertEqual(lines[-1], "150 accepted, 1 Unreadable")
         self.assertIn("missing.jpg: Unreadable: the worker has no such file", lines[0])
         paths = sqlite3.connect(self.path("c")).execute("SELECT CAST(path AS TEXT) FROM pictures").fetchall()

@@ -78,6 +78,13 @@ class Documents(WithPictures):
         self.assertEqual(read(os.path.join(TOP, "docs", "REFUSALS.md")).decode(), causes.page())
         self.assertEqual(list(causes.CAUSES), list(BLOCKS))
 
+    def test_what_is_not_compared(self):
+        """The page lists the segments of a JPEG that the reader leaves out, and no other ones."""
+        from exifnorm_pictures.extract.formats.jpeg_segments import NOT_COMPARED
+
+        page = read(os.path.join(TOP, "docs", "RECIPES.md")).decode()
+        self.assertIn(f"these segments of a JPEG: {', '.join(words for _, _, words in NOT_COMPARED)}.\n", page)
+
     def test_examples_in_the_modules(self):
         for it in pkgutil.walk_packages(exifnorm_pictures.__path__, "exifnorm_pictures."):
             if not it.name.endswith("__main__"):

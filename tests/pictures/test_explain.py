@@ -66,9 +66,10 @@ class Explanations(unittest.TestCase):
     def test_a_packet(self):
         found = explain.explain("xmp", b"<x:xmpmeta xmlns:x='adobe:ns:meta/'/>")
         self.assertEqual((found.judgement.cause, found.octets, found.cause), ("NoRDF", [], None))
-        line = f"  {found.here[0]}"
-        self.assertEqual(found.lines(), ["xmp: unreadable: NoRDF", line])
-        self.assertEqual(found.members(), {"kind": "xmp", "status": "unreadable", "cause": "NoRDF", "place": None, "sentence": line.strip()})
+        line, remedy = (f"  {it}" for it in found.here)
+        self.assertEqual(found.lines(), ["xmp: unreadable: NoRDF", line, remedy])
+        remedy = remedy.partition("Remedy: ")[2]
+        self.assertEqual(found.members(), {"kind": "xmp", "status": "unreadable", "cause": "NoRDF", "place": None, "sentence": line.strip(), "remedy": remedy})
 
     def test_what_is_at_an_offset(self):
         """Of each block, of what is no block, and at the ends of records and directories: in golden/explain-here.txt."""

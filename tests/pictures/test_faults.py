@@ -74,32 +74,33 @@ class Tools(WithPictures):
                 limit = "2" if what == "silence" else "60"
                 environment = self.fake("exiftool", FAKE % answer)
                 lines = self.asked("index", "p", "--catalogue", "c", "--again", "--quiet", "--json", "--limit", limit,
-                                   status=4, **environment)  # fmt: skip
+                                   status=2, **environment)  # fmt: skip
                 found = {os.path.basename(it["path"]): it for it in map(json.loads, lines[:-1])}
-                self.assertEqual([found[it].get("problem") for it in ("a.gif", "bad.gif", "c.gif")], [None, "ToolFailed", None])
+                problem = "TooSlow" if what == "silence" else "ToolFailed"
+                self.assertEqual([found[it].get("problem") for it in ("a.gif", "bad.gif", "c.gif")], [None, problem, None])
                 self.assertIn(words, found["bad.gif"]["detail"])
 
     def test_a_file_at_which_a_program_failed_is_looked_at_again(self):
         self.pictures()
-        self.asked("index", "p", "--catalogue", "c", "--quiet", status=4, **self.fake("exiftool", FAKE % "exit 3"))
+        self.asked("index", "p", "--catalogue", "c", "--quiet", status=2, **self.fake("exiftool", FAKE % "exit 3"))
         mended = self.fake("exiftool", FAKE.replace("*/bad*)", "x)") % ":")
         self.assertEqual(self.asked("index", "p", "--catalogue", "c", "--quiet", **mended)[-1], "2 unchanged, 1 no block")
 
     def test_one_that_hangs_at_its_version(self):
         self.pictures()
         environment = self.fake("exiftool", "#!/bin/sh\nexec sleep 1000\n")
-        lines = self.asked("index", "p/a.gif", "--catalogue", "c", "--quiet", "--limit", "1", status=4, **environment)
-        self.assertIn("a.gif: ToolFailed: exiftool", lines[0])
-        self.asked("show", "p/a.gif", "--limit", "1", status=4, **environment)
-        self.asked("mend", "p/a.gif", "out", "--limit", "1", status=4, **environment)
+        lines = self.asked("index", "p/a.gif", "--catalogue", "c", "--quiet", "--limit", "1", status=2, **environment)
+        self.assertIn("a.gif: TooSlow: exiftool", lines[0])
+        self.asked("show", "p/a.gif", "--limit", "1", status=2, **environment)
+        self.asked("mend", "p/a.gif", "out", "--limit", "1", status=2, **environment)
         self.assertFalse(os.path.exists(self.path("out")))
 
     @needs("exiftool")
     def test_exiv2_that_hangs(self):
         write(self.path("a.nef"), b"II*\0\x08\0\0\0\0\0\0\0\0\0")
         environment = self.fake("exiv2", '#!/bin/sh\n[ "$1" = --version ] && echo exiv2 0.27.6 && exit\nexec sleep 1000\n')
-        lines = self.asked("index", "a.nef", "--catalogue", "c", "--quiet", "--limit", "2", status=4, **environment)
-        self.assertIn("a.nef: ToolFailed: exiv2", lines[0])
+        lines = self.asked("index", "a.nef", "--catalogue", "c", "--quiet", "--limit", "2", status=2, **environment)
+        self.assertIn("a.nef: TooSlow: exiv2", lines[0])
 
     @needs("exiftool")
     def test_each_wrong_result_of_exiv2_costs_one_file(self):
@@ -109,7 +110,7 @@ class Tools(WithPictures):
         for fault in ("exit 3", "kill -9 $$", 'echo garbage > "$4/picture.exv"', 'mkdir "$4/picture.exv"', "true"):
             with self.subTest(fault):
                 text = f'#!/bin/sh\n[ "$1" = --version ] && echo exiv2 0.27.6 && exit\n{fault}\n'
-                lines = self.asked("index", "a.nef", "bad.nef", "--catalogue", "c", "--again", "--quiet", "--json", status=4,
+                lines = self.asked("index", "a.nef", "bad.nef", "--catalogue", "c", "--again", "--quiet", "--json", status=2,
                                    **self.fake("exiv2", text))  # fmt: skip
                 found = [json.loads(it) for it in lines]
                 self.assertEqual([(it["problem"], "exiv2" in it["detail"]) for it in found[:-1]], [("ToolFailed", True)] * 2)
@@ -182,7 +183,7 @@ class Tools(WithPictures):
                     self.assertEqual(os.listdir(own), [])
 
     def test_processes_that_the_system_refuses(self):
-        """The message names what couldn't be started. Standard output has nothing to do with it."""
+        """The message names what couldn't be started. Standard output has nothing to do with it. Without further processes one does all."""
         self.pictures()
         os.mkdir(self.path("many"))
         for number in range(70):
@@ -193,13 +194,15 @@ class Tools(WithPictures):
             "os.fork = subprocess.Popen = refused\nsys.exit(main(sys.argv[1:]))"
         )
         environment = self.fake("exiftool", "#!/bin/sh\n")
-        for words, what in ((["index", "p/a.gif", "--catalogue", "c", "--quiet"], "exiftool"), (["show", "p/a.gif"], "exiftool"),
-                            (["mend", "p/a.gif", "out"], "exiftool"),
-                            (["index", "many", "--catalogue", "c", "--quiet", "--jobs", "2"], "a further process")):  # fmt: skip
+        for words, what, status in ((["index", "p/a.gif", "--catalogue", "c", "--quiet"], "exiftool", 2), (["show", "p/a.gif"], "exiftool", 2),
+                                    (["mend", "p/a.gif", "out"], "exiftool", 2),
+                                    (["index", "many", "--catalogue", "c", "--quiet", "--jobs", "2"], "a further process", 0)):  # fmt: skip
             with self.subTest(words):
                 done = run([sys.executable, "-c", call, *words], self.folder, **environment)
-                self.assertEqual(done.returncode, 4, done)
+                self.assertEqual(done.returncode, status, done)
                 self.assertRegex((done.stdout + done.stderr).decode(), rf"(?m)\b{what} .*resource temporarily unavailable$")
+                if status == 0:
+                    self.assertEqual(done.stdout.decode().splitlines()[-1], "70 no block")
                 self.assertNotIn(b"standard output", done.stderr)
 
     def test_a_library_that_is_missing(self):
@@ -303,7 +306,7 @@ class Catalogues(InFolder):
         for table in ("runs", "pictures", "blocks", "not_read"):
             shutil.copy(self.path("good"), self.path(f"no_{table}"))
             self.database(f"no_{table}", "PRAGMA foreign_keys = OFF", f"DROP TABLE {table}")
-            self.refused(f"no_{table}", f"no such table: {table}")
+            self.refused(f"no_{table}", "a table is missing")
         octets = read(self.path("good"))
         write(self.path("cut"), octets[: len(octets) // 2])
         for call in (["same", "--catalogue", "cut"], ["index", "p", "--catalogue", "cut", "--quiet"]):
@@ -536,9 +539,8 @@ class Arguments(WithPictures):
         self.assertEqual(self.asked("show", "a.jpg", "a.jpg"), self.asked("show", "a.jpg"), "one that is given twice is shown once")
 
     def test_a_name_that_leads_nowhere(self):
-        lines = self.asked("index", "typo", "--catalogue", "c", "--quiet", status=4)
-        self.assertEqual(lines, [f"{self.path('typo')}: Unreadable: no such file or directory", "1 Unreadable"])
-        self.assertEqual(sqlite3.connect(self.path("c")).execute("SELECT count(*) FROM pictures").fetchone(), (0,))
+        self.assertEqual(self.asked("index", "typo", "--catalogue", "c", "--quiet", status=3), [])
+        self.assertIn("no folder or file typo", self.complaint)
 
     def test_a_list_of_absolute_names(self):
         for side, artist in (("one", b"Abc\0"), ("two", b"Xyz\0")):

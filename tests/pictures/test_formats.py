@@ -19,6 +19,7 @@ from made_files import (
 )  # fmt: skip
 from studio import SMALL_JPEG, WithPictures, interpreter_with, needs, read, run, tool, write
 
+from exifnorm_pictures.extract import budgets
 from exifnorm_pictures.extract.formats import jpeg_tail
 from exifnorm_pictures.extract.formats.found import Broken, LeftToOthers
 
@@ -94,8 +95,12 @@ class Found(unittest.TestCase):
             found = found_in(head + rest)
             self.assertEqual((named(found), [it.what for it in found.not_read]), ([("exif", "Exif", A)], unread), rest)
         for rest in (b"\xff\xe0", b"\xff\xe0\x01", b"\xff\xe0\0\x01", b"\xff\0", b"no marker"):
+            found = found_in(head + rest)  # the blocks before the damage count, and the file is never wholly read
+            self.assertEqual(named(found), [("exif", "Exif", A)], rest)
+            self.assertIn("the rest of a damaged file", found.not_read[0].what)
+            self.assertEqual(found.not_read[0].digest, hashlib.sha256(head + rest).hexdigest())
             with self.assertRaises(Broken, msg=rest):
-                found_in(head + rest)
+                found_in(b"\xff\xd8" + segment(0xFE, b"c") + rest)
 
     def test_where_a_piece_of_the_file_ends(self):
         """The file is read in pieces of 8,192 bytes: wherever one ends, the segments are the same, and so is what is too short."""
@@ -159,6 +164,7 @@ class Found(unittest.TestCase):
             (jpeg(app1(A), behind=b"trailer"), "trailer of 7 bytes", b"trailer"),
             (jpeg(segment(0xE1, b"unknown")), "APP1 segment of an unknown kind", b"unknown"),
             (jpeg(segment(0xE3, b"Exif\0\0unknown")), "APP3 segment Meta", b"Exif\0\0unknown"),
+            (jpeg(segment(0xE3, b"unknown\0")), "APP3 segment unknown", b"unknown\0"),
             (jpeg(segment(0xE3, b"META\0\0unknown")), "APP3 segment Meta", b"META\0\0unknown"),
             (jpeg(segment(0xED, b"unknown")), "APP13 segment of an unknown kind", b"unknown"),
             (png(behind=b"trailer"), "trailer of 7 bytes", b"trailer"),
@@ -167,7 +173,7 @@ class Found(unittest.TestCase):
         ):
             found = found_in(octets).not_read
             self.assertEqual([(it.what, it.digest) for it in found], [(what, hashlib.sha256(data).hexdigest())])
-        for nothing in (segment(0xED, b"Adobe_CM" + bytes(6)), segment(0xE3, b"unknown"), segment(0xE2, b"ICC_PROFILE\0\1\1")):
+        for nothing in (segment(0xED, b"Adobe_CM" + bytes(6)), segment(0xE0, b"JFXX\0"), segment(0xE2, b"ICC_PROFILE\0\1\1")):
             self.assertEqual(found_in(jpeg(nothing)).not_read, [])
 
     def test_profiles_of_another_length(self):
@@ -459,7 +465,7 @@ class Markers(unittest.TestCase):
         at = min(at, len(octets))
         with mock.patch.object(jpeg_tail, "CHUNK", size):
             markers = jpeg_tail._Markers(io.BytesIO(octets), at, len(octets))
-            self.assertEqual(tuple(jpeg_tail._scanned(markers)), plain_search(octets, at))
+            self.assertEqual(jpeg_tail._scanned(markers)[:3], plain_search(octets, at))
 
 
 def plain_search(octets, at):
@@ -487,6 +493,13 @@ class Harm(unittest.TestCase):
             reader_of(octets)(stream, True)
         self.assertLess(stream.octets, (most or 4 * len(octets)) + 4096)
         return str(caught.exception)
+
+    def too_much(self, octets, what, most=None):
+        """The limit ends the reading of a file, and no other program reads it."""
+        stream = Counting(octets)
+        with self.assertRaisesRegex(budgets.TooMuch, f"^more than [0-9,]+ {what}$"):
+            reader_of(octets)(stream, True)
+        self.assertLess(stream.octets, (most or 4 * len(octets)) + 4096)
 
     def test_lengths(self):
         self.broken(b"\xff\xd8\xff\xe1\xff\xff" + b"Exif\0\0")
@@ -523,36 +536,40 @@ class Harm(unittest.TestCase):
         self.assertIn("below one another", self.broken(tiff(page((0x014A, LONG, below)))))
 
     def test_many_markers(self):
-        self.broken(b"\xff\xd8" + b"\xff\xe1\0\2" * 100_001)
-        self.broken(b"\xff\xd8" + b"\xff" * 200_000)
+        self.too_much(b"\xff\xd8" + b"\xff\xfe\0\2" * 100_001, budgets.SEGMENTS)
+        self.too_much(b"\xff\xd8" + b"\xff\xe1\0\2" * 100_001, budgets.NOT_READ)
+        self.too_much(b"\xff\xd8" + b"\xff" * 200_000, budgets.SEGMENTS)
         many = SMALL_JPEG[:-2] + b"\xff\xc0\0\2" * 200_000
         stream = Counting(many)
         self.assertEqual(reader_of(many)(stream, True).found, [])
         self.assertLess(stream.octets, 3 * len(many))
-        self.broken(SMALL_JPEG[:-2] + b"\xff\xe1\0\2" * 1001)
+        self.too_much(SMALL_JPEG[:-2] + b"\xff\xe1\0\2" * 1001, "metadata segments after the first scan")
 
     def test_values_that_are_read_again_and_again(self):
-        """400 pages whose XMP is the same megabyte."""
-        value = b"<" * (1 << 20)
-        octets = bytearray(b"MM\0*" + struct.pack(">I", 8 + len(value)) + value)
-        for number in range(400):
-            following = len(octets) + 18 if number < 399 else 0
-            octets += struct.pack(">HHHIII", 1, 0x02BC, 1, len(value), 8, following)
-        self.assertIn("bytes of values", self.broken(bytes(octets), most=300 << 20))
+        """400 pages with the same megabyte: as XMP it is a block, which is read once; as a text it is in the block of each page."""
+        for tag in (0x02BC, 0x010F):
+            value = b"<" * (1 << 20)
+            octets = bytearray(b"MM\0*" + struct.pack(">I", 8 + len(value)) + value)
+            for number in range(400):
+                following = len(octets) + 18 if number < 399 else 0
+                octets += struct.pack(">HHHIII", 1, tag, 2 if tag == 0x010F else 1, len(value), 8, following)
+            if tag == 0x02BC:
+                stream = Counting(bytes(octets))
+                self.assertEqual(len(reader_of(octets)(stream, True).found), 400)
+                self.assertLess(stream.octets, 2 * len(octets))
+            else:
+                self.too_much(bytes(octets), budgets.VALUE_BYTES, most=130 << 20)
 
     def test_compressed_texts_that_are_too_long(self):
-        from exifnorm_pictures.extract.formats import png as reader
-
-        bomb = chunk(b"zTXt", b"Raw profile type exif\0\0" + zlib.compress(bytes(reader.MOST_BYTES + 1), 9))
-        found = found_in(png(bomb))
-        self.assertEqual(found.found, [])
-        self.assertIn("cut or too long", found.not_read[0].what)
-        self.broken(png(bomb, bomb))
+        half = chunk(b"zTXt", b"Raw profile type exif\0\0" + zlib.compress(bytes(budgets.LIMITS[budgets.CHUNK_BYTES] // 2), 9))
+        self.assertIn("cannot be read", found_in(png(half)).not_read[0].what, "zeros are no profile")
+        self.too_much(png(half, half, half), budgets.CHUNK_BYTES)
+        self.too_much(png(chunk(b"zTXt", b"Raw profile type exif\0\0" + zlib.compress(bytes(1 << 30), 9))), budgets.CHUNK_BYTES)
 
     def test_an_index_of_pictures_in_one_another(self):
         inner = jpeg(*[app1_xmp(b"x" * 60000)] * 20)
         octets = mpf(app1(A), *[inner] * 60)
-        self.broken(octets, most=2 * len(octets))
+        self.too_much(octets, budgets.SEGMENT_BYTES, most=2 * len(octets))
 
 
 class Opened(WithPictures):
@@ -562,10 +579,10 @@ class Opened(WithPictures):
 
         os.mkfifo(self.path("pipe"))
         os.symlink("nothing", self.path("link"))
-        for name, problem in (("pipe", "Unreadable"), ("link", "Vanished"), (".", "Unreadable")):
+        for name, problem in (("pipe", "NotAFile"), ("link", "LinkToNothing"), (".", "NotAFile")):
             self.assertEqual(extraction.blocks_of(os.fsencode(self.path(name))).problem, problem)
         text = "os.open = None\nprint(*(extraction.blocks_of(it).problem for it in (b'pipe', b'link', b'.')))"
-        self.assertEqual(self.by_itself(text), ["Unreadable", "Vanished", "Unreadable"])
+        self.assertEqual(self.by_itself(text), ["NotAFile", "LinkToNothing", "NotAFile"])
 
     def by_itself(self, text):
         """The output of a Python program about this folder, which must end soon: after three seconds of processor time it is ended."""
@@ -582,11 +599,12 @@ class Opened(WithPictures):
             "opened, before = os.open, len(os.listdir('/proc/self/fd'))\nos.open = lambda path, *more: opened('pipe', *more)\n"
             "print(extraction.blocks_of(b'a.jpg').problem, len(os.listdir('/proc/self/fd')) - before)"
         )
-        self.assertEqual(self.by_itself(text), ["Unreadable", "0"])
+        self.assertEqual(self.by_itself(text), ["NotAFile", "0"])
 
     def test_a_file_that_becomes_shorter(self):
         write(self.path("a.jpg"), jpeg(app1(A), base=SMALL_JPEG[:-2] + b"\x11" * 400_000 + SMALL_JPEG[-2:]))
-        text = "file = extraction._opened(b'a.jpg')\nos.truncate('a.jpg', 100_000)\nfile.seek(90_000)\nprint(len(file.read(50_000)), file.size)"
+        text = "from exifnorm_pictures.extract.formats.streams import File\nfrom exifnorm_pictures.files.opening import opened\n"
+        text += "file = File(*opened(b'a.jpg'))\nos.truncate('a.jpg', 100_000)\nfile.seek(90_000)\nprint(len(file.read(50_000)), file.size)"
         self.assertEqual(self.by_itself(text), ["10000", str(len(jpeg(app1(A))) + 400_000)])
 
     def test_each_file_is_closed(self):

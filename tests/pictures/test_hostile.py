@@ -41,7 +41,7 @@ class Hostile(WithPictures):
         told = {bytes.fromhex(it["path_hex"]) if "path_hex" in it else it["path"].encode() for it in group["pictures"]}
         self.assertEqual({os.path.basename(it) for it in told}, set(NAMES))
         lines = self.asked("same", "--catalogue", "c")
-        self.assertEqual(len(lines), 1 + len(NAMES))
+        self.assertEqual(len([it for it in lines if "/p/" in it]), len(NAMES))
         for it in lines:
             self.assertTrue(it.isprintable(), lines)
         self.assertEqual([it.rpartition("/")[2] for it in lines if "back" in it], ["back\\\\slash.jpg"], "no two names look alike")
@@ -71,11 +71,11 @@ class Hostile(WithPictures):
         os.mkfifo(self.path("p", "pipe.jpg"))
         os.symlink("nowhere", self.path("p", "link.jpg"))
         os.mkdir(self.path("p", "folder.jpg"))
-        lines = self.asked("index", "p", "--catalogue", "c", "--json", "--quiet", status=4)
+        lines = self.asked("index", "p", "--catalogue", "c", "--json", "--quiet")
         found = {os.path.basename(it["path"]): it for it in map(json.loads, lines[:-1])}
         problems = {name: it.get("problem") for name, it in found.items()}
-        expected = {"empty.jpg": "NoPicture", "text.jpg": "NoPicture", "posing.json": "NoPicture", "pipe.jpg": "Unreadable"}
-        expected.update({"link.jpg": "Vanished", "good.jpg": None, "cut.jpg": None, "empty-block.jpg": None})
+        expected = {"empty.jpg": "NoPicture", "text.jpg": "NoPicture", "posing.json": "NoPicture", "pipe.jpg": "NotAFile"}
+        expected.update({"link.jpg": "LinkToNothing", "good.jpg": None, "cut.jpg": None, "empty-block.jpg": None})
         self.assertEqual(problems, expected)
 
     def test_a_text_never_passes_for_octets(self):
@@ -87,7 +87,7 @@ class Hostile(WithPictures):
 
     def test_cr3_is_refused_with_the_reason(self):
         write(self.path("a.cr3"), struct.pack(">I", 24) + b"ftypcrx \0\0\0\1crx isom" + struct.pack(">I", 8) + b"mdat")
-        lines = self.asked("show", "a.cr3", status=4)
+        lines = self.asked("show", "a.cr3", status=2)
         self.assertIn("SeveralBlocks", lines[0])
         self.assertIn("CMT1 to CMT4", lines[0])
 

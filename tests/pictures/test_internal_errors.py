@@ -143,9 +143,9 @@ def test_a_picture_at_which_we_fail(command, monkeypatch):
     """Others are looked at, the line has the place of the mistake, and the next run looks at it again."""
     with monkeypatch.context() as planted:
         planted.setattr(png, "read", mistake)
-        lines = command("index", "p", "--catalogue", "c", "--quiet", status=4).out.splitlines()
-        found = [json.loads(it) for it in command("show", "p/b.png", "p/a.jpg", "--json", status=4).out.splitlines()]
-        explained = command("explain", "p/b.png", "--debug", status=4)
+        lines = command("index", "p", "--catalogue", "c", "--quiet", status=2).out.splitlines()
+        found = [json.loads(it) for it in command("show", "p/b.png", "p/a.jpg", "--json", status=2).out.splitlines()]
+        explained = command("explain", "p/b.png", "--debug", status=2)
     assert [it.rpartition("/p/")[2].partition(":")[0] for it in lines[:-1]] == ["b.png"]
     assert "b.png: InternalError: " in lines[0] and f"TypeError: {FAULT} (exifnorm_pictures/extract/extraction.py, line " in lines[0]
     assert "1 InternalError" in lines[-1]
@@ -160,7 +160,7 @@ def test_the_state_of_a_picture_has_the_cause(command, monkeypatch, error, probl
         raise error
 
     monkeypatch.setattr(extraction, "blocks_of", fails)
-    lines = command("index", "p", "--catalogue", "c", "--quiet", status=4).out.splitlines()
+    lines = command("index", "p", "--catalogue", "c", "--quiet", status=2).out.splitlines()
     assert lines[-1] == f"2 {problem}"
 
 
@@ -172,5 +172,5 @@ def test_in_processes_of_their_own(tmp_path):
     call = ("import sys; from exifnorm_pictures.cli import main; from exifnorm_pictures.extract.formats import jpeg\n"
             "def mistake(*_): return None + 1\njpeg.read = mistake\nsys.exit(main.main(sys.argv[1:]))")  # fmt: skip
     done = run(["python3", "-c", call, "index", "p", "--catalogue", "c", "--quiet", "--jobs", "2", "--debug"], str(tmp_path))
-    assert (done.returncode, done.stdout.splitlines()[-1]) == (4, b"70 InternalError"), done.stderr
+    assert (done.returncode, done.stdout.splitlines()[-1]) == (2, b"70 InternalError"), done.stderr
     assert done.stderr.count(b"Traceback") == 70 and b"extraction.py" in done.stderr

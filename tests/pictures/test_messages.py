@@ -18,7 +18,7 @@ from studio import WithPictures, read, write
 from exifnorm_pictures.catalogue import records
 from exifnorm_pictures.cli import index, main, names, output, parser, report, signals
 from exifnorm_pictures.extract import exiftool, extraction, programs
-from exifnorm_pictures.files import atomic
+from exifnorm_pictures.files import atomic, opening
 from exifnorm_pictures.scan import progress, walk, workers
 from exifnorm_pictures.scan.batches import How
 from exifnorm_pictures.catalogue.records import Block, Damaged
@@ -236,13 +236,13 @@ class Messages(WithPictures):
 
     def test_of_exiftools_output(self):
         head = "ExifTool's answer isn't understood: "
-        for octets, text in ((b"[{]", "it is no JSON"), (b"[" * 100_000, "it is no JSON"), (b"{}", "it isn't one object"), (b"[]", "it isn't one object"),
-                             (b"[{},{}]", "it isn't one object"), (b'["a"]', "it isn't one object"), (b"[{}]", "it is about another file"),
+        for octets, text in ((b"[{]", "it is no JSON"), (b"[" * 100_000, "it is no JSON"), (b"{}", "it isn't one object for each file"), (b"[]", "it isn't one object for each file"),
+                             (b"[{},{}]", "it isn't one object for each file"), (b'["a"]', "it isn't one object for each file"), (b"[{}]", "it is about another file"),
                              (b'[{"SourceFile": "b"}]', "it is about another file"), (b'[{"SourceFile": "a", "b": []}]', "a value is neither a text nor a number"),
                              (b'[{"SourceFile": "a", "b": null}]', "a value is neither a text nor a number")):  # fmt: skip
-            self.assertEqual(self.raised(programs.Failed, exiftool._members, octets, b"a"), head + text)
-        self.assertEqual(exiftool._members(b'[{"SourceFile": "a", "b": 1, "c": "d", "e": 0.50}]', b"a"), {"b": "1", "c": "d", "e": "0.50"})
-        self.assertEqual(exiftool._members(b" \n", b"a"), {})
+            self.assertEqual(self.raised(programs.Failed, exiftool._members, octets, [b"a"]), head + text)
+        self.assertEqual(exiftool._members(b'[{"SourceFile": "a", "b": 1, "c": "d", "e": 0.50}]', [b"a"]), [{"b": "1", "c": "d", "e": "0.50"}])
+        self.assertEqual(exiftool._members(b" \n", [b"a", b"b"]), [{}, {}])
         self.assertEqual(self.raised(programs.Failed, exiftool.octets, "base64:abc"), head + "a block is no base64")
         self.assertEqual(self.raised(programs.Failed, exiftool.octets, "base64:ab=="[:-1] + "!"), head + "a block is no base64")
         self.assertEqual(self.raised(programs.Failed, exiftool.octets, "base64:HA*I="), head + "a block is no base64")
@@ -256,17 +256,17 @@ class Messages(WithPictures):
             os.chmod(self.path("exiftool"), 0o755)
             with mock.patch.object(programs, "needed", lambda _: self.path("exiftool")):
                 it = exiftool.Session(self.path("room"))
-                self.assertEqual(self.raised(programs.Failed, it.ask, b"a", []), text)
+                self.assertEqual(self.raised(programs.Failed, it.ask, [b"a"], [], ()), text)
                 it.close()
         with mock.patch.object(programs, "needed", lambda _: shutil.which("true")):
             it = exiftool.Session(self.path("room"))
             it.process.wait()
-            self.assertEqual(self.raised(programs.Failed, it.ask, b"a", ["x" * 100_000]), "ExifTool ended before it was asked")
+            self.assertEqual(self.raised(programs.Failed, it.ask, [b"a"], ["x" * 100_000], ()), "ExifTool ended before it was asked")
             it.close()
 
     def test_of_files(self):
         found = FoundFile(b"/a", b"/", Stamp(1, 2, 3, 4))
-        at, rest = PictureRecord(b"/a", b"/", None), {"digests": (None, None, None, None, "", "", "")}
+        at, rest = PictureRecord(b"/a", b"/", None), {"digests": (None, None, None, None, None, "", "", "", None, "")}
         marked = at._replace(stamp=found.stamp)
         for why, expected in (
             (programs.Failed("exiv2 failed"), marked._replace(problem="ToolFailed", detail="exiv2 failed", extractor="own", **rest)),
@@ -274,9 +274,9 @@ class Messages(WithPictures):
             (programs.Missing("exiftool"), marked._replace(problem="NeedsExifTool", detail=str(programs.Missing("exiftool")), extractor="own", **rest)),
         ):
             with mock.patch.object(workers.extraction, "blocks_of", mock.Mock(side_effect=why)):
-                self.assertEqual(workers.look(found, False), expected)
-        self.assertEqual(self.raised(OSError, extraction._opened, os.fsencode(self.folder)), "it is no regular file")
-        for name, problem, detail in ((self.folder, "Unreadable", "it is no regular file"), (self.path("a"), "Vanished", PROBLEMS["Vanished"])):
+                self.assertEqual(workers.look(found, How()), expected)
+        self.assertEqual(self.raised(OSError, opening.opened, os.fsencode(self.folder)), f"[Errno 22] it is no regular file: {os.fsencode(self.folder)!r}")
+        for name, problem, detail in ((self.folder, "NotAFile", PROBLEMS["NotAFile"]), (self.path("a"), "NoFile", PROBLEMS["NoFile"])):
             it = extraction.blocks_of(os.fsencode(name))
             self.assertEqual((it.problem, it.detail, it.found, it.not_read), (problem, detail, [], []))
 
@@ -340,13 +340,13 @@ class OfPictures(unittest.TestCase):
             ({"blocks": (good,)}, [], {"blocks": [{"kind": "iptc", "name": "IPTC", "status": "accepted", "digest": digest, "length": 7}], "not_read": []}),
             ({"problem": "NoPicture", "detail": "text"}, [], {"problem": "NoPicture", "detail": "text", "blocks": [], "not_read": []}),
             ({"problem": "Unreadable", "detail": "why"}, ["Unreadable: why"], {"problem": "Unreadable", "detail": "why", "blocks": [], "not_read": []}),
-            ({"not_read": parts}, ["not wholly read: a trailer, a chunk"], {"blocks": [], "not_read": ["a trailer", "a chunk"]}),
+            ({"not_read": parts}, [], {"blocks": [], "not_read": ["a trailer", "a chunk"]}),
             ({"blocks": (at_0, good, packet), "not_read": parts[:1]},
-             ["Exif: refused: Overlap at 0", "XMP: refused: NoRDF", "not wholly read: a trailer"],
+             ["Exif: refused: Overlap at 0", "XMP: unreadable: NoRDF"],
              {"blocks": [{**common, "name": "Exif", "status": "refused", "cause": "Overlap", "place": 0},
                          {"kind": "iptc", "name": "IPTC", "status": "accepted", "digest": digest, "length": 7},
                          {"kind": "xmp", "name": "XMP", "status": "unreadable", "cause": "NoRDF", "length": 9}], "not_read": ["a trailer"]}),
-            ({"blocks": (failed, long)}, ["second Exif: failed: OutOfMemory", "second Exif: refused: NormalTooLong"],
+            ({"blocks": (failed, long)}, ["second Exif: failed: OutOfMemory", "second Exif: too long: NormalTooLong"],
              {"blocks": [{**common, "status": "failed", "cause": "OutOfMemory"}, {**common, "status": "too long", "cause": "NormalTooLong"}], "not_read": []}),
         ):  # fmt: skip
             it = PictureRecord(b"/a\n\xff", b"/", type="JPEG")._replace(**more)

@@ -84,13 +84,13 @@ class Files(WithPictures):
         what = "what ExifTool does not extract from a GIF file"
         for most, whole, why, expected in ((3, False, "", (what, digest)), (2, False, "", (what, "")), (2, True, "", (what, digest)),
                                            (3, False, "broken: no marker at 2", (f"{what} (broken: no marker at 2)", digest))):  # fmt: skip
-            with mock.patch.object(exiftool, "MOST", most):
+            with mock.patch.object(exiftool, "WHOLE_FILE", most):
                 found = self.read([answer], whole=whole, why=why)
             self.assertEqual(([tuple(it) for it in found.not_read], self.asked), ([expected], [(b"a.x", ASKED)]))
             self.assertEqual(seen(found), [("xmp", "XMP", b"<x>", "GIF file", "exiftool")])
         found = self.read([{"FileType": "TXT", "MIMEType": "text/plain"}])
         self.assertEqual((found.problem, found.not_read), ("NoPicture", []))
-        self.assertEqual(exiftool.MOST, 16 << 20)
+        self.assertEqual(exiftool.WHOLE_FILE, 16 << 20)
 
     def test_raw_pictures(self):
         """exiv2 extracts their Exif block into a file, from which ExifTool takes it."""

@@ -341,16 +341,16 @@ class Others(Pairs):
         base = jpeg(app1(A))
         words = self.not_same(base[: 2 + 4 + 6 + len(A)] + b"\0\0" + base[40:], base[: 2 + 4 + 6 + len(A)] + b"\0\1" + base[40:],
                               "not wholly read")  # fmt: skip
-        self.assertIn("broken: no marker", words)
+        self.assertIn("not wholly read: the rest of a damaged file (no marker", words)
 
     def test_long_broken_jpeg(self):
         """It has a digest however long it is, as any part of it may be what was not read."""
         from exifnorm_pictures.extract import exiftool
 
-        octets = jpeg(app1(A))[: 2 + 4 + 6 + len(A)] + b"\0\0" + bytes(exiftool.MOST)
+        octets = jpeg(app1(A))[: 2 + 4 + 6 + len(A)] + b"\0\0" + bytes(exiftool.WHOLE_FILE)
         write(self.path("a.jpg"), octets)
         _, (rest,) = sides(self.path("a.jpg"))
-        self.assertIn("broken: no marker", rest.what)
+        self.assertIn("no marker", rest.what)
         self.assertEqual(rest.digest, hashlib.sha256(octets).hexdigest())
 
     def test_iptc_in_a_trailer(self):
@@ -394,13 +394,15 @@ class Explained(WithPictures):
             self.assertIn("This is a BigTIFF", self.explained("exif", octets))
 
     def test_packets(self):
-        self.assertEqual(self.explained("xmp", b"<x"), "xmp: unreadable: NotWellFormed\n  The packet is not well-formed XML.")
+        lines = self.explained("xmp", b"<x").splitlines()
+        self.assertEqual(lines[:2], ["xmp: unreadable: NotWellFormed", "  The packet is not well-formed XML."])
+        self.assertIn("Remedy: `exifnorm-pictures mend`", lines[2])
         self.assertEqual(self.explained("xmp", T), "xmp: ok xmp")
 
     def test_of_a_picture(self):
         write(self.path("a.jpg"), jpeg(app1(A), app1_xmp(b"<x")))
         lines = self.asked("explain", "a.jpg", status=2)
-        self.assertEqual(lines, ["XMP: unreadable: NotWellFormed", "  The packet is not well-formed XML.", "Exif: ok"])
+        self.assertEqual([*lines[:2], lines[3]], ["XMP: unreadable: NotWellFormed", "  The packet is not well-formed XML.", "Exif: ok"])
         found = json.loads(self.asked("explain", "--json", "a.jpg", status=2)[0])
         self.assertEqual((found["kind"], found["sentence"]), ("xmp", "The packet is not well-formed XML."))
 

@@ -75,8 +75,8 @@ class Shown(unittest.TestCase):
             ([field("structure", 1, '{dc:a="1"}')], 'structure[1] {dc:a="1"}'),
             ([field("UNDEFINED", 99, f"0x00.. sha256:{digits(b'abc')}")], f"undefined[99] 0x00.. sha256:{digits(b'abc', 12)}"),
         ):  # fmt: skip
-            self.assertEqual(listing.changes(fields, []), [("xmp:dc:a", text, None)])
-            self.assertEqual(listing.changes([], fields), [("xmp:dc:a", None, text)])
+            self.assertEqual([tuple(it)[:3] for it in listing.changes(fields, [])], [("xmp:dc:a", text, None)])
+            self.assertEqual([tuple(it)[:3] for it in listing.changes([], fields)], [("xmp:dc:a", None, text)])
             self.assertEqual(listing.changes(fields, fields), [])
         other = [field("ASCII", 2, '"a"', "exif", "927c"), field("SHORT", 1, "1", "main", "0112")]
         self.assertEqual([listing.only_maker_note(*it) for it in ((other, other[1:]), (other, other), (other, other[:1]))], [True, False, False])
@@ -92,7 +92,7 @@ class Shown(unittest.TestCase):
 
     def test_xmp(self):
         def shown(inside, attributes=""):
-            found = xmp.statements(packet_of(inside, attributes), {}, set())
+            found = xmp.statements(packet_of(inside, attributes), xmp.Extensions({}), set())
             return [(it.key, it.type, it.elements, it.shown) for it in xmp.fields(found)]
 
         lists = "".join(f"<dc:{name}><rdf:{kind}><rdf:li>b</rdf:li><rdf:li xml:lang='DE'>a</rdf:li></rdf:{kind}></dc:{name}>"
@@ -101,7 +101,7 @@ class Shown(unittest.TestCase):
                                         ("dc:title", "Alt", 2, 'Alt["b", "a"@de]')])  # fmt: skip
         self.assertEqual(shown("<xmp:x rdf:resource='http://a/'/><xmp:y rdf:parseType='Resource'><dc:b>1</dc:b><dc:a>2\"</dc:a></xmp:y>", "xmp:z='&#10;'"), [
             ("xmp:x", "URI", 1, "<http://a/>"), ("xmp:y", "structure", 2, '{dc:a="2\\"", dc:b="1"}'), ("xmp:z", "text", 1, '"\\n"')])  # fmt: skip
-        self.assertEqual(shown("<dc:a>2</dc:a><dc:a>1</dc:a><dc:a>1</dc:a>"), [("dc:a", "text", 2, '"1", "2"')])
+        self.assertEqual(shown("<dc:a>2</dc:a><dc:a>1</dc:a><dc:a>1</dc:a>"), [("dc:a", "text", 2, '"2", "1"')], "in their order")
         self.assertEqual(shown("", "dc:a='" + "x" * 398 + "'")[0][3], f'"{"x" * 398}"')
         long = "x" * 399
         self.assertEqual(shown("", f"dc:a='{long}'")[0][3], f'"{long[:59]}.. sha256:' + digits(f'"0:0:{long}'.encode()))
@@ -138,10 +138,11 @@ class Results(unittest.TestCase):
 
     def test_sides(self):
         def block(name, status="accepted", text="d", octets="o", kind="exif"):
-            return SimpleNamespace(kind=kind, name=name, status=status, digest=text, octets=octets)
+            return SimpleNamespace(kind=kind, name=name, status=status, digest=text, octets=octets, meaning=text)
 
         self.assertEqual(verdicts.side_of([]), Side("absent", "", ""))
         self.assertEqual(verdicts.side_of([block("Exif")]), Side("accepted", "d", "o"))
+        self.assertEqual(verdicts.side_of([block("second Exif")]).digest, hashlib.sha256(b"second Exif: d").hexdigest(), "its name counts")
         self.assertEqual(verdicts.side_of([block("Exif", "refused", None)]), Side("refused", "", "o"))
         self.assertEqual(verdicts.side_of([block("XMP", "too long", None, kind="xmp")]), Side("unreadable", "", "o"))
         both = [block("Exif"), block("second Exif", text="e", octets="p")]
@@ -167,7 +168,7 @@ class Results(unittest.TestCase):
     def test_marks(self):
         """Of 64 bits with a sign."""
         def of(*marks):
-            return tuple(Stamp.of(SimpleNamespace(**dict(zip(("st_size", "st_mtime_ns", "st_ctime_ns", "st_ino"), marks)))))
+            return tuple(Stamp.of(SimpleNamespace(**dict(zip(("st_size", "st_mtime_ns", "st_ctime_ns", "st_ino", "st_dev"), (*marks, 9))))))[:4]
 
         least, greatest = -(1 << 63), (1 << 63) - 1
         self.assertEqual(of(1, 2, 3, 4), (1, 2, 3, 4))
@@ -222,7 +223,7 @@ class Work(WithPictures):
     def test_a_part_that_takes_long(self):
         found = [FoundFile(b"/%d" % it, b"/", None) for it in range(4)]
         times = iter([0.0, 1.9, 2.0, 2.1])
-        with mock.patch.object(workers, "look", lambda it, whole: PictureRecord(it.path, it.root, problem="NoPicture" if whole else "Vanished")), \
+        with mock.patch.object(workers, "look", lambda it, how: PictureRecord(it.path, it.root, problem="NoPicture" if how.whole else "Vanished")), \
              mock.patch.object(workers.time, "monotonic", lambda: next(times)):  # fmt: skip
             it = workers.look_at_some(workers.Task(found, self.path("rows")), batches.How(whole=True))
         self.assertEqual((it.file, it.states, it.lines, it.unread, it.left), (self.path("rows"), {"NoPicture": 3}, [], [], found[3:]))
@@ -293,9 +294,9 @@ class Sessions(WithPictures):
         pipe, answers = stdin, [b'[{"SourceFile": "/a/b.jpg", "EXIF": "x"}]\n{done 1}\n', b"{done 2}\n", b'[{"SourceFile": "./link.Jpg"}]{done 3}\n']
         with mock.patch.multiple(programs, start=start, needed=lambda it: it, read_until=lambda _, complete: self.complete(answers.pop(0), complete)):
             it = exiftool.Session(self.folder)
-            self.assertEqual(it.ask(b"/a/b.jpg", ("-EXIF:Exif", "-XMP")), {"EXIF": "x"})
-            self.assertEqual(it.ask(b"/a/c", ()), {})
-            self.assertEqual(it.ask(b"/a/ d.Jpg", ()), {})
+            self.assertEqual(it.ask([b"/a/b.jpg"], ("-EXIF:Exif", "-XMP"), exiftool._OPTIONS), [{"EXIF": "x"}])
+            self.assertEqual(it.ask([b"/a/c"], (), exiftool._OPTIONS), [{}])
+            self.assertEqual(it.ask([b"/a/ d.Jpg"], (), exiftool._OPTIONS), [{}])
         self.assertEqual(calls, [(["exiftool", "-config", "", "-stay_open", "True", "-@", "-"], self.folder, -1)])
         common = [b"-q", b"-q", b"-m", b"-json", b"-a", b"-G4", b"-b", b"-api", b"Filter=s/^(base64|text):/text:$1:/"]
         self.assertEqual([it.split(b"\n") for it in lines], [
@@ -311,15 +312,16 @@ class Sessions(WithPictures):
         with mock.patch.multiple(programs, start=lambda *_, **__: None, needed=lambda it: it):
             it = exiftool.Session(self.folder)
         for path in (b"/a/b.jpg", b"/A_z0-9./+,@%~()="):
-            self.assertEqual((it._handed_over(path), os.listdir(self.folder)), (path, []))
+            self.assertEqual((it._handed_over(path, 0), os.listdir(self.folder)), (path, []))
         for path, link in ((b"/a b.jpg", "link.jpg"), (b"/a#", "link"), ("/\u00fc.x".encode(), "link.x"), (b"/a\n.tif", "link.tif"), (b"/a .abcdefgh", "link.abcdefgh"),
                            (b"/a .abcdefghi", "link"), (b"/*.jpg\n", "link"), (b"/\xff.A1", "link.A1")):  # fmt: skip
-            self.assertEqual(it._handed_over(path), b"./" + link.encode())
+            self.assertEqual(it._handed_over(path, 0), b"./" + link.encode())
             self.assertEqual(os.readlink(os.fsencode(self.path(link))), path)
-            self.assertEqual(it._handed_over(path), b"./" + link.encode(), "the link is made again")
+            self.assertEqual(it._handed_over(path, 0), b"./" + link.encode(), "the link is made again")
         with mock.patch.object(os, "getcwdb", lambda: b"/x"):  # names are relative to this process's folder, and not to ExifTool's
-            self.assertEqual(it._handed_over(b"a/../b.jpg"), b"/x/b.jpg")
-            self.assertEqual(it._handed_over(b"-c d.jpg"), b"./link.jpg")
+            self.assertEqual(it._handed_over(b"a/../b.jpg", 0), b"/x/b.jpg")
+            self.assertEqual(it._handed_over(b"-c d.jpg", 0), b"./link.jpg")
+            self.assertEqual(it._handed_over(b"-c d.jpg", 1), b"./link1.jpg")
         self.assertEqual(os.readlink(os.fsencode(self.path("link.jpg"))), b"/x/-c d.jpg")
 
     def test_one_exiftool_for_many_files(self):
@@ -328,7 +330,7 @@ class Sessions(WithPictures):
         with mock.patch.multiple(exiftool._Own, **own), mock.patch.object(exiftool, "Session") as made:
             here, counts = made.return_value, lambda: (made.call_count, made.return_value.close.call_count)
             here.process.poll.return_value = None
-            self.assertEqual([exiftool.ask(it, ()) for it in (b"a", b"b", b"c")], [here.ask.return_value] * 3)
+            self.assertEqual([exiftool.ask(it, ()) for it in (b"a", b"b", b"c")], [here.ask.return_value[0]] * 3)
             self.assertEqual((made.call_args, counts()), (mock.call(self.folder), (1, 0)))
             here.process.poll.return_value = 1
             exiftool.ask(b"d", ())

@@ -57,7 +57,7 @@ class Commands(InProcess):
         os.rename(self.path("p", "a.jpg"), self.path("p", "z.jpg"))
         os.rename(self.path("p", "f.jpg"), self.path("p", "y.jpg"))  # which has no block: it is known as a file
         os.remove(self.path("p", "e.jpg"))
-        self.golden("index.txt", text + self.transcript((4, "index", "@/p", "@/nothing", *QUIET)))
+        self.golden("index.txt", text + self.transcript((2, "index", "@/p", "@/nothing", *QUIET)))
         self.printed("index", "@/p", "--catalogue", "@/other", "--jobs", "1")
         self.assertRegex(self.complaint, r"^(\d of 7 pictures, .* left\n)*7 of 7 pictures, \d+ a second\n$")
 
@@ -94,8 +94,8 @@ class Commands(InProcess):
         names = self.named("a.jpg", "c.jpg", "d.png", "e.jpg", "f.jpg", "j\n.jpg", "nothing.jpg", "a.jpg")
         write(self.path("block"), ONE)
         self.golden("show.txt", self.transcript(
-            (4, "show", *names), (0, "show", *self.named("e.jpg")), (4, "show", "--block", "@/nothing", "@/block"),
-            (4, "show", *self.named("c.jpg", "f.jpg", "s/g.jpg", "nothing"), "--json")))  # fmt: skip
+            (2, "show", *names), (0, "show", *self.named("e.jpg")), (2, "show", "--block", "@/nothing", "@/block"),
+            (2, "show", *self.named("c.jpg", "f.jpg", "s/g.jpg", "nothing"), "--json")))  # fmt: skip
 
     def test_captions(self):
         """A caption can't control a terminal; what is guessed says so."""
@@ -151,4 +151,4 @@ class Commands(InProcess):
                       ("report", "--catalogue", "@/c", "--html", "@/page.html")):  # fmt: skip
             with mock.patch.object(programs, "set_limit") as found:
                 self.printed(*words, "--limit", "7.5")
-            self.assertEqual(found.mock_calls, [mock.call(7.5)], words)
+            self.assertEqual(set(map(str, found.mock_calls)), {str(mock.call(7.5))}, words)

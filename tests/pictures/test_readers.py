@@ -14,7 +14,8 @@ from made_files import (
 )  # fmt: skip
 from studio import SMALL_JPEG
 
-from exifnorm_pictures.extract.formats import jpeg as jpeg_, jpeg_segments, mpf as mpf_, png as png_, tiff as tiff_, tiff_directories, webp as webp_
+from exifnorm_pictures.extract import budgets
+from exifnorm_pictures.extract.formats import jpeg as jpeg_, mpf as mpf_, png as png_, tiff as tiff_, webp as webp_
 from exifnorm_pictures.extract.formats.found import PROBLEMS, Blocks, Broken, LeftToOthers, ordinal
 
 A, B, K, L, T, U = exif(b"Abc"), exif(b"Xyz"), iim(b"one"), iim(b"two"), title("one"), title("two")
@@ -52,11 +53,16 @@ class Readers(unittest.TestCase):
             found_in(octets, whole)
         self.assertEqual(str(caught.exception), why)
 
+    def too_much(self, octets, why):
+        with self.assertRaises(budgets.TooMuch) as caught:
+            found_in(octets)
+        self.assertEqual(str(caught.exception), why)
+
     def test_segments_of_a_jpeg(self):
         two, name = extension(b"extended", 5)
         pieces = [
             app1(A), segment(0xE1, b"Exif\0\0" + b"goes on"), app1_xmp(T), two[0], two[1], app1_xmp(U), segment(0xE1, b"\0\0EXIF\0#" + B),
-            segment(0xE1, b"http://other"), segment(0xE3, b"Meta\0\0abc"), segment(0xE3, b"other"), segment(0xE2, b"ICC_PROFILE"),
+            segment(0xE1, b"http://other"), segment(0xE3, b"Meta\0\0abc"), segment(0xE3, b"other"), segment(0xE2, b"ICC_PROFILE\0"),
             app13(resource(0x0404, K), resource(0x0422, b"Exif\0\0" + A), resource(0x0423, b"more"), resource(0x0424, T)), segment(0xED, b"Adobe_CM"),
             segment(0xED, b"Adobe_Photoshop2.5:12345678" + resource(0x0404, L) + b"rest"), segment(0xED, b"other"),
         ]  # fmt: skip
@@ -69,7 +75,7 @@ class Readers(unittest.TestCase):
             ("xmp", "third XMP", f"Photoshop resource 0424 in the APP13 segment at {at[11]}", T),
             ("iim", "second IPTC", f"Photoshop resource 0404 in the APP13 segment at {at[13]}", L),
             ("xmp", "extended XMP", f"APP1 segment at {at[3]}", b"extended"),
-        ], [("APP1 segment of an unknown kind", b"http://other"), ("APP3 segment Meta", b"Meta\0\0abc"),
+        ], [("APP1 segment of an unknown kind", b"http://other"), ("APP3 segment Meta", b"Meta\0\0abc"), ("APP3 segment other", b"other"),
             ("APP13 segment of an unknown kind", b"other"), (f"Photoshop resource 0423 in the APP13 segment at {at[11]}", b"more"),
             (f"bytes behind the Photoshop resources in the APP13 segment at {at[13]}", b"rest")])  # fmt: skip
         self.assertEqual((found.type, found.has_more, found.found[-1].extends), ("JPEG", False, name))
@@ -142,20 +148,61 @@ class Readers(unittest.TestCase):
     def test_broken_jpegs(self):
         for octets, why in (
             (b"\xff\xd8\xff\xe0\0\2abcd", "no marker at 6"), (b"\xff\xd8\xff\0ab", "no marker at 2"), (b"\xff\xd8\xff\xe0\0\1ab", "no segment at 2"),
+            (b"\xff\xd8\xff\xfe\0\2\xfe\xe0\0\x07JFIF\0", "no marker at 6"),
             (b"\xff\xd8\xff\xe1\0\x09Exif", "the file ends inside the segment at 2"), (b"\xff\xd8\xff\xff\xff\xe1\0\x09Exif", "the file ends inside the segment at 4"),
-            (b"\xff\xd8" + b"\xff\xe1\0\2" * 100_001, "more segments than any picture has"),
-            (MIN[:-2] + b"\xff\xe1\0\2" * 1001, "more than 1000 metadata segments behind the first scan"),
         ):  # fmt: skip
             self.broken(octets, why)
+        self.too_much(MIN[:-2] + b"\xff\xe1\0\2" * 1001, "more than 1,000 metadata segments after the first scan")
         self.assertEqual(len(found_in(MIN[:-2] + b"\xff\xed\0\2" * 1000).not_read), 1000)
-        for it in (b"\xff\xe0\0\2", segment(0xED, b"Adobe_CM")):  # also if each segment is looked at
-            self.assertEqual(found_in(b"\xff\xd8" + it * 99_999 + b"\xff\xd9").not_read, [])
-        budget = jpeg_segments.Budget()
-        budget.spend(99_999, 67_108_863)
-        budget.spend(1, 1)
-        for one in ((1, 0), (0, 1)):
-            with self.assertRaisesRegex(Broken, "^more segments than any picture has$"):
-                jpeg_segments.Budget(0, 0).spend(*one)
+        for it in (b"\xff\xfe\0\2", segment(0xED, b"Adobe_CM")):  # also if each segment is looked at
+            with mock.patch.dict(budgets.LIMITS, {budgets.SEGMENTS: 5}):
+                self.assertEqual(found_in(b"\xff\xd8" + it * 4 + b"\xff\xd9").not_read, [])
+                self.too_much(b"\xff\xd8" + it * 6 + b"\xff\xd9", "more than 5 segments")
+        with mock.patch.dict(budgets.LIMITS, {budgets.SEGMENT_BYTES: 2 * (6 + len(A))}):
+            self.assertEqual(len(found_in(jpeg(app1(A), app1(B))).found), 2)
+            self.too_much(jpeg(app1(A), app1(B), segment(0xE1, b"1")), f"more than {2 * (6 + len(A))} bytes of segments")
+        with mock.patch.dict(budgets.LIMITS, {budgets.SEGMENTS: 12}):  # the pictures of an index have one budget
+            self.assertEqual(len(found_in(mpf(app1(A), MIN, MIN)).not_read), 0)
+            self.too_much(mpf(app1(A), *[MIN] * 8), "more than 12 segments")
+
+    def test_limits_of_all_formats(self):
+        """Blocks, resources, and parts that are not read: the first eight of a file take no time to count."""
+        for what, one in ((budgets.BLOCKS, app1(A) + b"\xff\x01"), (budgets.NOT_READ, segment(0xE1, b"unknown"))):
+            with mock.patch.dict(budgets.LIMITS, {what: 2}):
+                found = found_in(jpeg(*[one] * 10))
+                self.assertEqual(len(found.found) + len(found.not_read), 10)
+                self.too_much(jpeg(*[one] * 11), f"more than 2 {what}")
+        many = [resource(0x0425, b"")] * 20
+        with mock.patch.dict(budgets.LIMITS, {budgets.RESOURCES: 20}):
+            self.assertEqual(found_in(jpeg(app13(*many))).found, [])
+            self.too_much(jpeg(app13(*many, *many)), "more than 20 Photoshop resources")
+            self.too_much(png(profile(b"8bim", b"".join(many)), profile(b"8bim", b"".join(many))), "more than 20 Photoshop resources")
+
+    def test_bytes_after_a_picture(self):
+        """More than may be read have no digest, so the file is the same as no other."""
+        for octets in (SMALL_JPEG, png(), webp((b"EXIF", A)), tiff(page())):
+            with mock.patch.object(budgets, "UNREAD_BYTES", 300_000):  # of a JPEG from the scan on
+                self.assertTrue(found_in(octets + b"x" * 299_000).not_read[0].digest)
+                (part,) = found_in(octets + b"x" * 300_001).not_read
+                self.assertEqual(part.digest, "", part.what)
+
+    def test_the_whole_file(self):
+        """With --whole each limit is 64 times as high."""
+        for what, one in ((budgets.NOT_READ, segment(0xE1, b"unknown")), (budgets.SEGMENTS, segment(0xFE, b""))):
+            with mock.patch.dict(budgets.LIMITS, {what: 1}):
+                stream = io.BytesIO(jpeg(*[one] * 40))
+                self.too_much(stream.getvalue(), f"more than 1 {what}")
+                stream = mock.Mock(wraps=stream, budget=budgets.Budget(whole=True))
+                self.assertEqual(jpeg_.read(stream, True).type, "JPEG")
+        self.assertEqual({what: most / budgets.LIMITS[what] for what, most in budgets.Budget(whole=True).left.items()}, dict.fromkeys(budgets.LIMITS, 64))
+
+    def test_the_time_that_a_file_takes(self):
+        """The clock begins when it is first looked at, which small pictures never do."""
+        times = []
+        with mock.patch.object(budgets.time, "thread_time", lambda: times.append(len(times) * 3.0) or times[-1]):
+            found_in(jpeg(app1(A)))
+            self.assertEqual(times, [])
+            self.too_much(png(*[chunk(b"aaaa", b"")] * 100), "more than 5 seconds of a processor")
 
     def test_chunks_of_a_png(self):
         plain = chunk(b"iTXt", b"XML:com.adobe.xmp\0\0\0en\0title\0" + T)
@@ -186,11 +233,11 @@ class Readers(unittest.TestCase):
             (b"XML:com.adobe.xmp\0\0", "its fields are cut"), (b"XML:com.adobe.xmp\0\0\0en\0title", "its fields are cut"),
             (b"XML:com.adobe.xmp\0\1\1\0\0" + zlib.compress(T), "its compression is not known"),
             (b"XML:com.adobe.xmp\0\1\0\0\0no data", "its compressed data is damaged"),
-            (b"XML:com.adobe.xmp\0\1\0\0\0" + zlib.compress(T)[:-1], "its compressed data is cut or too long"),
+            (b"XML:com.adobe.xmp\0\1\0\0\0" + zlib.compress(T)[:-1], "its compressed data is cut"),
         ):  # fmt: skip
             self.seen(png(chunk(b"iTXt", data)), [], [(f"text chunk that cannot be read ({why})", data)])
         for text, why in (
-            (b"\1" + digits, "its compression is not known"), (b"\0" + digits[:-5], "its compressed data is cut or too long"),
+            (b"\1" + digits, "its compression is not known"), (b"\0" + digits[:-5], "its compressed data is cut"),
             (b"\0" + zlib.compress(b"\niptc\n"), "its profile has no length"), (b"\0" + zlib.compress(b"\niptc\nabc\n1c"), "its profile has no length"),
             (b"\0" + zlib.compress(b"\niptc\n00000000001\n1c"), "its profile has no length"),
             (b"\0" + zlib.compress(b"\niptc\n1\n1x"), "its profile has other characters than hexadecimal digits"),
@@ -209,11 +256,13 @@ class Readers(unittest.TestCase):
             (whole[:33] + struct.pack(">I", 0xFFFFFFFF) + b"eXIf", "the file ends inside the chunk at 33"),
         ):  # fmt: skip
             self.broken(octets, why)
-        with mock.patch.object(png_, "MOST_CHUNKS", 4), mock.patch.object(png_, "MOST_BYTES", 1000):
+        with mock.patch.dict(budgets.LIMITS, {budgets.CHUNKS: 4, budgets.CHUNK_BYTES: 1000}):
             self.assertEqual(len(found_in(whole).found), 1)
-            self.broken(png(chunk(b"aaaa", b""), chunk(b"bbbb", b"")), "more than 4 chunks")
-            self.broken(png(chunk(b"eXIf", bytes(1001))), "more than 1,000 bytes of metadata chunks")
+            self.too_much(png(chunk(b"aaaa", b""), chunk(b"bbbb", b"")), "more than 4 chunks")
+            self.too_much(png(chunk(b"eXIf", bytes(1001))), "more than 1,000 bytes of chunks")
             self.assertEqual(len(found_in(png(chunk(b"eXIf", bytes(1000)))).found), 1)
+            packed = chunk(b"zTXt", b"xml:com.adobe.xmp\0\0" + zlib.compress(bytes(2000)))
+            self.too_much(png(packed), "more than 1,000 bytes of chunks")
 
     def test_chunks_of_a_webp(self):
         chunks = [(b"VP8 ", b"abc"), (b"EXIF", b"Exif\0\0" + A), (b"XMP ", T), (b"EXIF", B), (b"XMP\0", U), (b"ICCP", b"12"), (b"OTHR", b"odd")]
@@ -228,10 +277,10 @@ class Readers(unittest.TestCase):
         self.broken(whole[:-1], "the file is shorter than its header says")
         for behind in (b"", bytes(100)):
             self.broken(whole[:16] + struct.pack("<I", len(A) + 1) + whole[20:] + behind, "the chunk at 12 is longer than the file")
-        with mock.patch.object(webp_, "MOST_CHUNKS", 3), mock.patch.object(webp_, "MOST_BYTES", 100):
-            self.broken(webp(*[(b"VP8 ", b"")] * 3), "more than 3 chunks")
+        with mock.patch.dict(budgets.LIMITS, {budgets.CHUNKS: 3, budgets.CHUNK_BYTES: 100}):
+            self.too_much(webp(*[(b"VP8 ", b"")] * 3), "more than 3 chunks")
             self.assertEqual(len(found_in(webp(*[(b"EXIF", b"")] * 2)).found), 2)
-            self.broken(webp((b"EXIF", bytes(101))), "more than 100 bytes of metadata chunks")
+            self.too_much(webp((b"EXIF", bytes(101))), "more than 100 bytes of chunks")
             self.assertEqual(len(found_in(webp((b"EXIF", bytes(100)))).found), 1)
 
     def test_pages_of_a_tiff(self):
@@ -318,7 +367,7 @@ class Readers(unittest.TestCase):
             self.assertEqual([tuple(it) for it in found_in(bytes(moved) + behind + b"xyz").not_read], left(("trailer of 3 bytes", b"xyz")))
         many = bytearray(tiff([(0x100, LONG, 1), (0x0111, LONG, 8), (0x0117, LONG, 9)]) + b"xyz")
         for most in (1, 0):  # strips whose places are looked at
-            with mock.patch.object(tiff_, "MOST_STRIPS", most):
+            with mock.patch.object(tiff_, "STRIPS", most):
                 self.assertEqual(len(found_in(bytes(many)).not_read), most)
         struct.pack_into(">HHI", many, many.index(struct.pack(">HHI", 0x0117, LONG, 1)), 0x0118, LONG, 1)
         self.assertEqual(found_in(bytes(many)).not_read, [], "without lengths of strips their end is not known")
@@ -331,28 +380,26 @@ class Readers(unittest.TestCase):
         deep = page()
         for _ in range(11):
             deep = page((0x014A, LONG, deep))
-        as_many, many = (b"MM\0*" + struct.pack(">IHHHII", 8, 1, 0x014A, LONG, count, 8) + bytes(4) for count in (10_000, 10_001))
         for octets, why in (
             (b"MM\0*\0\0\0\x08\0\1" + bytes(14), "the file ends inside the 16 bytes at 10"), (b"MM\0*\0\0\0\x08\0", "the file ends inside the 2 bytes at 8"),
             (b"MM\0*\0\0\0\x04" + bytes(50), "the directory at 4 shares bytes with another one"),
             (b"II*\0\x08\0\0\0" + struct.pack("<HI", 0, 8), "the directory at 8 shares bytes with another one"),
             (bytes(value), f"the value at {first} shares bytes with a directory"), (tiff(deep), "more than 10 SubIFDs below one another"),
-            (many, "more than 10,000 SubIFDs"),
         ):  # fmt: skip
             self.broken(octets, why)
-        self.assertEqual(found_in(as_many).found, [])
-        with mock.patch.object(tiff_directories, "MOST_BYTES", 100):
-            self.broken(tiff(page((0x02BC, 1, b"x" * 101))), "more than 100 bytes of values")
-            self.broken(tiff([(0x02BC, 1, b"x" * 60), (0x83BB, 1, b"x" * 41)]), "more than 100 bytes of values")
-            self.broken(tiff([(0x935C, 7, b"x" * 101)]), "more than 100 bytes of values")
+        with mock.patch.dict(budgets.LIMITS, {budgets.VALUE_BYTES: 100}):
+            self.too_much(tiff(page((0x02BC, 1, b"x" * 101))), "more than 100 bytes of values")
+            self.too_much(tiff([(0x02BC, 1, b"x" * 60), (0x83BB, 1, b"x" * 41)]), "more than 100 bytes of values")
             self.assertEqual(len(found_in(tiff(page((0x02BC, 1, b"x" * 100)))).found), 2)
-            self.assertEqual(len(found_in(tiff([(0x935C, 7, b"x" * 100)])).not_read), 1)
         three = tiff(*[[(0x100, LONG, 1), (0x101, LONG, 1)]] * 3)
-        for name, most in (("MOST_DIRECTORIES", 4), ("MOST_ENTRIES", 6)):  # the header counts as one of the directories
-            with mock.patch.object(tiff_directories, name, most - 1):
-                self.broken(three, "more directories than any picture has")
-            with mock.patch.object(tiff_directories, name, most):
+        named = b"MM\0*" + struct.pack(">IHHHII", 8, 1, 0x014A, LONG, 8, 26) + bytes(4 + 32)
+        for what, most in ((budgets.DIRECTORIES, 3), (budgets.ENTRIES, 6)):
+            with mock.patch.dict(budgets.LIMITS, {what: most - 1}):
+                self.too_much(three, f"more than {most - 1} {what}")
+            with mock.patch.dict(budgets.LIMITS, {what: most}):
                 self.assertEqual(len(found_in(three).found), 3)
+        with mock.patch.dict(budgets.LIMITS, {budgets.DIRECTORIES: 7}):  # SubIFDs count before any of them is read
+            self.too_much(named, "more than 7 directories")
         with mock.patch.object(tiff_, "LIMIT", 33):
             self.broken(tiff([], [(0x010F, ASCII, b"12345678")]), "page 2 has more than 33 bytes of values")
         with mock.patch.object(tiff_, "LIMIT", 34):

@@ -178,11 +178,11 @@ class Lines(WithPictures):
             (mend.Mended("none", one), ["a\\n: Exif refused: Overlap at 34: no remedy helped"], {"step": "none", "before": one, "lost": [], "gained": []}),
         ):  # fmt: skip
             self.assertEqual(mend_cli._mended_lines(b"a\n", found), lines)
-            self.assertEqual(mend_cli._mended_members(b"a\n", found), {"path": "a\n", **members})
+            self.assertEqual(mend_cli._mended_members(b"a\n", found), {"path": "a\n", "repairs": [], **members})
 
     def printed(self, why, as_json):
         with mock.patch.object(mend, "mend", mock.Mock(side_effect=why)), contextlib.redirect_stdout(io.StringIO()) as lines:
-            self.assertEqual(mend_cli._mend_one(argparse.Namespace(json=as_json), b"a\xff", b"b\n", ""), 4)
+            self.assertEqual(mend_cli._mend_one(argparse.Namespace(json=as_json, files_from=None), b"a\xff", b"b\n", ""), 4 if isinstance(why, mend.NotWritten) else 2)
         return lines.getvalue()
 
     def test_what_is_not_written(self):
@@ -199,7 +199,7 @@ class Lines(WithPictures):
         write(self.path("file"), b"")
         out = os.fsencode(self.path("out"))
         self.assertEqual(self.pairs(["a", "b"]), [(b"a", b"b")])
-        self.assertEqual(self.pairs([self.path("out")], "-", [b"x/a.jpg", b"/y/b.jpg"]), [(b"x/a.jpg", out + b"/a.jpg"), (b"/y/b.jpg", out + b"/b.jpg")])
+        self.assertEqual(self.pairs([self.path("out")], "-", [b"x/a.jpg", b"/y/b.jpg"]), [(b"x/a.jpg", out + b"/x/a.jpg"), (b"/y/b.jpg", out + b"/y/b.jpg")])
         for names, files_from, message in (
             (["a"], None, "mend: give PICTURE and OUT"), (["a", "b", "c"], None, "mend: give PICTURE and OUT"),
             (["a", "b"], "-", "mend: with --files-from give the folder OUT alone, which must be there"),
@@ -219,7 +219,7 @@ class Problems(unittest.TestCase):
             with mock.patch.object(each_block.extraction, "blocks_of", mock.Mock(side_effect=raised)):
                 found = each_block._blocks(argparse.Namespace(block=False, whole=False), b"a.gif")
             self.assertEqual((found.problem, found.detail, found.found), (problem, str(raised), []))
-            self.assertIn(problem, index.FAILURES)
+            self.assertIn(problem, index.NOT_READABLE)
 
 
 class Folders(WithPictures):

@@ -17,6 +17,7 @@ from studio import WithPictures
 from exifnorm_pictures.compare import changed, groups, pairs as pairing
 from exifnorm_pictures.scan import workers
 from exifnorm_pictures.report import contents
+from exifnorm_pictures.catalogue import store
 from exifnorm_pictures.catalogue.store import VERSION, Catalogue, NoCatalogue
 from exifnorm_pictures.extract.formats.found import EXIF, IPTC, NAMES, XMP, NotRead
 from exifnorm_pictures.catalogue.records import Block, PictureRecord, Stamp
@@ -38,14 +39,14 @@ def block_of(kind, text):
     return Block(kind, NAMES[kind], "somewhere", "own", "accepted", digest(text), None, None, 100, digest(text), fields)
 
 
-def picture(name, blocks=BASE, parts=(), number=0, problem=None, root="/a"):
+def picture(name, blocks=BASE, parts=(), number=0, problem=None, root="/a", file=""):
     """A row of a catalogue; the number distinguishes files."""
     if not root.startswith("/"):
         raise ValueError(root)
     path = os.fsencode(f"{root.rstrip('/')}/{name}")
     number = number or int(digest(name)[:8], 16)
     return PictureRecord(path, os.fsencode(root), Stamp(number, number, number, number), "JPEG", "own", problem, "why" if problem else "",
-                 tuple(block_of(kind, text) for kind, text in ({} if problem else blocks).items()), tuple(parts))  # fmt: skip
+                 tuple(block_of(kind, text) for kind, text in ({} if problem else blocks).items()), tuple(parts), None, file)  # fmt: skip
 
 
 class Tables(WithPictures):
@@ -102,7 +103,9 @@ class Tables(WithPictures):
             ({"blocks": {XMP: "!NoRDF"}}, {"blocks": {XMP: "!NotText"}}, "unreadable"),
             ({"blocks": {**refused, IPTC: "i"}}, {"blocks": {**refused, IPTC: "j"}}, "different"),
             ({"blocks": {}}, {"blocks": {}}, "same"),
-            ({"problem": "NoPicture"}, {"problem": "NoPicture"}, "same"),
+            ({"problem": "NoPicture", "file": "f"}, {"problem": "NoPicture", "file": "f"}, "not read, the same bytes"),
+            ({"problem": "NoPicture", "file": "f"}, {"problem": "NoPicture", "file": "g"}, "not read, different bytes"),
+            ({"problem": "NoPicture"}, {"problem": "NoPicture"}, "not read"),
             ({"problem": "Unreadable"}, {"problem": "Unreadable"}, "not read"),
         ]
         for one, other, expected in cases:
@@ -202,26 +205,26 @@ class Tables(WithPictures):
                               picture("f", {**BASE, IPTC: "!DataSetCut"}), picture("g", parts=[UNKNOWN]), picture("h", parts=[UNKNOWN]),
                               picture("i", parts=[KNOWN]), picture("j", parts=[KNOWN]), picture("k", parts=[OTHER]), picture("l", {}),
                               picture("m", {}), picture("n", problem="NoPicture"), picture("o", problem="Vanished"))  # fmt: skip
-        found = [[os.path.basename(it).decode() for it in one.pictures()] for one in groups.groups(made)]
+        found = [[os.path.basename(it).decode() for it in one.pictures()] for one in groups.groups(made, look=False)]
         self.assertEqual(found, [["a", "b", "c"], ["d", "e"], ["i", "j"]])
         self.assertEqual(groups.totals(made), (3, 7))
         self.assertEqual(groups.left_out(made), 3)
         self.assertEqual(groups.totals(made, (EXIF,)), (2, 8))
         self.assertEqual(groups.left_out(made, (EXIF,)), 2)
-        self.assertEqual([it.sentence() for it in groups.groups(made, (EXIF, IPTC))][0], "Exif and IPTC are the same in the same bytes")
+        self.assertEqual([it.sentence() for it in groups.groups(made, (EXIF, IPTC), look=False)][0], "Exif and IPTC are the same in the same bytes")
 
     def test_bytes_that_differ_in_one_kind(self):
         other = [it._replace(octets="0" * 64) if it.kind == IPTC else it for it in picture("a").blocks]
         made = self.catalogue("c", picture("a")._replace(blocks=tuple(other)), picture("b"))
-        self.assertEqual([it.sentence() for it in groups.groups(made)], ["Exif, IPTC and XMP are the same"])
-        self.assertEqual([it.same_bytes for it in groups.groups(made, (EXIF,))], [True])
+        self.assertEqual([it.sentence() for it in groups.groups(made, look=False)], ["Exif, IPTC and XMP are the same"])
+        self.assertEqual([it.same_bytes for it in groups.groups(made, (EXIF,), look=False)], [True])
 
     def test_counts_of_a_report(self):
         old = [picture(it) for it in "abcd"]
         now = [picture("a"), picture("b", {**BASE, EXIF: "!Overlap", IPTC: "!DataSetCut"}), picture("c", {**BASE, EXIF: "new"}, [KNOWN]),
                picture("d", {**BASE, EXIF: "new"}, [KNOWN, NotRead("other", "")]), picture("e", {EXIF: "!Overlap"}), picture("f", {}),
                picture("n", problem="NoPicture"), picture("m", problem="NoPicture"), picture("u", problem="Unreadable")]  # fmt: skip
-        found = contents.gather(contents.About(self.catalogue("c", *now), self.catalogue("old", *old)))
+        found = contents.gather(contents.About(self.catalogue("c", *now), self.catalogue("old", *old), look=False))
         self.assertEqual(found.total, 9)
         self.assertEqual(dict(found.states), {"accepted": 3, "refused": 2, "no block": 1, "NoPicture": 2, "Unreadable": 1})
         self.assertEqual((found.all_problems, [it.problem for it in found.problems]), (3, ["Unreadable", "NoPicture", "NoPicture"]))
@@ -230,7 +233,7 @@ class Tables(WithPictures):
         self.assertEqual(found.all_groups, (0, 0))
         self.assertEqual(dict(found.results), {"same": 1, "refused": 1, "different": 2, "missing before": 5})
         self.assertEqual((dict(found.fields), found.all_changed), ({"main:Make": 2}, 4))
-        chosen = contents.gather(contents.About(self.catalogue("d", *now), only={b"/a/b", b"/a/n"}))
+        chosen = contents.gather(contents.About(self.catalogue("d", *now), only={b"/a/b", b"/a/n"}, look=False))
         self.assertEqual((chosen.total, dict(chosen.causes)), (2, {"Overlap": 1, "DataSetCut": 1}))
 
 
@@ -261,7 +264,7 @@ class Details(WithPictures):
             by = "own" if isinstance(blocks, PictureRecord) or all(one.extractor == "own" for one in it.blocks) else "exiftool"
             sides.append(self.catalogue(f"{name}{number}", it._replace(extractor=by)))
         (found,) = changed.changed(*sides, Counter(), every=True)
-        return found.result, found.note, [tuple(it) for it in found.changes], [it.result for it in found.verdicts]
+        return found.result, found.note, [tuple(it)[:3] for it in found.changes], [it.result for it in found.verdicts]
 
     def test_programs_that_extracted_blocks(self):
         one, two = with_fields(EXIF, "Exif", "a", [make("a")], "exiv2"), with_fields(IPTC, "IPTC", "b", [make("b")], "exiftool")
@@ -317,8 +320,8 @@ class Details(WithPictures):
     def test_files_with_a_problem(self):
         none, bad, good = picture("p", problem="NoPicture"), picture("p", problem="Unreadable"), picture("p")
         for before, after, expected in (
-            (none, none, ("same", "no picture")), (none, bad, ("not read", "before: NoPicture, after: Unreadable")), (good, bad, ("not read", "after: Unreadable")),
-            (bad, good, ("not read", "before: Unreadable")), (bad, bad, ("not read", "before: Unreadable, after: Unreadable")),
+            (none, none, ("not read", "no picture")), (none, bad, ("not read", "before: NoPicture, after: Unreadable")), (good, bad, ("not read", "after: Unreadable")),
+            (bad, good, ("not read", "before: Unreadable")), (bad, bad, ("not read", "Unreadable")),
         ):  # fmt: skip
             self.assertEqual(self.compared(before, after), (*expected, [], []))
 
@@ -338,7 +341,7 @@ class Reported(WithPictures):
         made = self.catalogue("now", *now)
         made.set_versions(1, "1.0.0", "12.57", "0.27.6")
         made.end_run(1, "2000-01-01T00:00:09Z")
-        self.about = contents.About(made, self.catalogue("old", *old))
+        self.about = contents.About(made, self.catalogue("old", *old), look=False)
 
     def test_what_is_gathered(self):
         """All of it, and the objects of --json, in golden/report-*.txt."""
@@ -354,7 +357,7 @@ class Reported(WithPictures):
 
     def test_chosen_pictures(self):
         """Their counts, groups, refusals and unread parts alone."""
-        about = contents.About(self.about.catalogue, None, {b"/a/b1", b"/a/b2", b"/a/new", b"/a/r\xff", b"/a/no"})
+        about = contents.About(self.about.catalogue, None, {b"/a/b1", b"/a/b2", b"/a/new", b"/a/r\xff", b"/a/no"}, look=False)
         found = contents.gather(about)
         self.assertEqual((found.total, dict(found.causes), dict(found.parts), found.unread, found.all_groups, found.all_problems, found.since),
                          (5, {"Overlap": 1, "NoRDF": 1}, {"trailer": 1, "a chunk": 1}, 1, (1, 2), 1, False))  # fmt: skip
@@ -369,7 +372,7 @@ class Reported(WithPictures):
         old = [picture(f"g{it}{more}", {EXIF: f"old{it}"}) for it in range(3) for more in "abc"]
         limits = {"MOST_CHANGES": 2, "MOST_REFUSED": 2, "MOST_GROUPS": 2, "MOST_OF_GROUP": 2, "MOST_NAMES": 2}
         with mock.patch.multiple(contents, **limits):
-            found = contents.gather(contents.About(self.catalogue("many", *rows), self.catalogue("before", *old)))
+            found = contents.gather(contents.About(self.catalogue("many", *rows), self.catalogue("before", *old), look=False))
         self.assertEqual(([it.path for it in found.problems], found.all_problems), ([b"/a/u0", b"/a/u1"], 6))
         self.assertEqual(([it.path for it in found.refused["Overlap"]], dict(found.causes)), ([b"/a/o0", b"/a/o1"], {"Overlap": 3}))
         self.assertEqual(([it[::2] for it in found.groups], found.all_groups), ([(3, [b"/a/g0a", b"/a/g0b"]), (3, [b"/a/g1a", b"/a/g1b"])], (3, 9)))
@@ -411,8 +414,9 @@ class File(WithPictures):
     def test_it_is_locked_before_its_tables_are_looked_for(self):
         """So if two runs make it at once, the second one waits for the first."""
         it = Catalogue.__new__(Catalogue)
-        it.base = mock.MagicMock()
-        it._prepare()
+        it.base, it.name = mock.MagicMock(), "c"
+        with mock.patch.object(store, "check_schema"):
+            it._prepare()
         statements = [call.args[0] for call in it.base.execute.call_args_list]
         self.assertEqual(statements[:2], ["BEGIN IMMEDIATE", "SELECT count(*) FROM sqlite_master"])
 
@@ -443,6 +447,7 @@ class File(WithPictures):
 class Marks(WithPictures):
     def test_a_file_that_is_written_to_meanwhile(self):
         """It has no marks in the catalogue, so that the next run looks at it again."""
+        from exifnorm_pictures.scan.batches import How
         from exifnorm_pictures.scan.workers import look
         from exifnorm_pictures.scan.walk import FoundFile
 
@@ -450,16 +455,16 @@ class Marks(WithPictures):
         with open(path, "wb") as file:
             file.write(b"\xff\xd8\xff\xd9")
         now = Stamp.of(os.stat(path))
-        self.assertEqual(look(FoundFile(path, b"/", now), False).stamp, now)
+        self.assertEqual(look(FoundFile(path, b"/", now), How()).stamp[:2], now[:2])
         for name in Stamp._fields:
-            it = look(FoundFile(path, b"/", now._replace(**{name: 9})), False)
+            it = look(FoundFile(path, b"/", now._replace(**{name: 9})), How())
             self.assertEqual((it.stamp, it.problem), (None, None), name)
 
     def test_a_file_that_is_gone_after_it_was_read(self):
         """It has no marks either: what was read of it counts, and the run goes on."""
         from exifnorm_pictures.scan.walk import FoundFile
 
-        self.assertIsNone(workers._unless_changed(FoundFile(os.fsencode(self.path("nothing")), b"/", Stamp(1, 2, 3, 4))))
+        self.assertIsNone(workers._unless_changed(FoundFile(os.fsencode(self.path("nothing")), b"/", Stamp(1, 2, 3, 4)), 5))
 
     def test_each_shows_an_edit(self):
         from exifnorm_pictures.catalogue.store import Known
@@ -469,8 +474,9 @@ class Marks(WithPictures):
         marks = Stamp(1, 2, 3, 4)
         known = Known(1, marks, None)
         self.assertTrue(_is_unchanged(FoundFile(b"/a", b"/", marks), known))
-        for name in Stamp._fields:
+        for name in ("size", "modified", "changed", "inode"):
             self.assertFalse(_is_unchanged(FoundFile(b"/a", b"/", marks._replace(**{name: 9})), known), name)
+        self.assertTrue(_is_unchanged(FoundFile(b"/a", b"/", marks._replace(device=9)), known), "another mount is no edit")
         for found, before in ((None, known), (marks, None), (marks, Known(1, None, None)), (marks, Known(1, marks, "Unreadable")),
                               (marks, Known(1, marks, "Vanished")), (None, Known(1, None, None))):  # fmt: skip
             self.assertFalse(_is_unchanged(FoundFile(b"/a", b"/", found), before))
@@ -499,9 +505,9 @@ class Remedies(WithPictures):
         tried = []
         with open(self.path("picture.jpg"), "w") as file:
             file.write("a\nb\nc")
-        blocks = mock.patch.multiple(mend, _printed=printed, _refusals=lambda _: {}, _REMEDIES={it: remedy(it) for it in mend.STEPS})
+        blocks = mock.patch.multiple(mend, _printed=printed, _refusals=lambda _: {}, _REMEDIES={it: remedy(it) for it in mend.STEPS[1:]})
         with blocks, mock.patch.object(mend, "blocks_of", lambda _: mend.Blocks()), tempfile.TemporaryDirectory() as room:
-            found = mend._best(os.fsencode(self.path("picture.jpg")), room)
+            found = mend._best(os.fsencode(self.path("picture.jpg")), None, room)
         return found and (found[0], found[2], found[3]), tried
 
     def test_the_one_that_loses_least(self):
@@ -562,7 +568,9 @@ class Statuses(unittest.TestCase):
         from exifnorm_pictures.cli.changed import status_of
 
         expected = {"same": 0, "refused, the same bytes": 0, "unreadable, the same bytes": 0, "different": 1, "only MakerNote differs": 1,
-               "moved": 1, "missing before": 1, "missing after": 1, "refused": 2, "unreadable": 2, "not wholly read": 2, "not read": 4}  # fmt: skip
+               "not read, the same bytes": 0, "not read, different bytes": 1, "different after repair": 1, "the same after repair": 2,
+               "the same but for a MakerNote that moved": 2, "only bytes that a MakerNote can reach differ": 2,
+               "moved": 1, "missing before": 1, "missing after": 1, "refused": 2, "unreadable": 2, "not wholly read": 2, "not read": 2}  # fmt: skip
         self.assertEqual(set(expected), set(changed.RESULTS))
         for one, status in expected.items():
             self.assertEqual(status_of(Counter([one])), status, one)

@@ -10,6 +10,7 @@ from xml.etree import ElementTree
 
 from exifnorm_pictures.xmp import CAUSES, by_rdflib, reader, shown, tree
 from exifnorm_pictures.xmp.packets import Unreadable, rdf_of
+from exifnorm_pictures.xmp.reading import check_repeated
 from hypothesis import assume, given, settings
 from made_files import SPACES, title, xmp
 from packets import packets
@@ -174,7 +175,7 @@ class Packets(unittest.TestCase):
 
         one = fields(xmp("<dc:format>one</dc:format><dc:subject><rdf:Bag><rdf:li>b</rdf:li><rdf:li>a</rdf:li></rdf:Bag></dc:subject>"))
         other = fields(xmp("<dc:format>two</dc:format><dc:subject><rdf:Bag><rdf:li>a</rdf:li><rdf:li>b</rdf:li></rdf:Bag></dc:subject>"))
-        self.assertEqual([tuple(it) for it in listing.changes(one, other)], [("xmp:dc:format", '"one"', '"two"')])
+        self.assertEqual([tuple(it)[:3] for it in listing.changes(one, other)], [("xmp:dc:format", '"one"', '"two"')])
         self.assertEqual(one[1][1:], ("dc:subject", "Bag", 2, 'Bag["a", "b"]'))
         lines = list(listing.readable(one, "xmp"))
         self.assertEqual([it.split() for it in lines[1:3]], [["[xmp]"], ["dc:format", "text", '"one"']])
@@ -186,7 +187,7 @@ class Packets(unittest.TestCase):
         quoted = fields(title("one\", \"two"))[0].shown
         self.assertEqual(quoted, '"one\\", \\"two"')
         doubled = [fields(xmp(f"<dc:format>{one_}</dc:format><dc:format>{other_}</dc:format>")) for one_, other_ in ("ab", "ba")]
-        self.assertEqual(doubled[0], doubled[1])  # the order of properties means nothing
+        self.assertNotEqual(doubled[0], doubled[1])  # XMP allows a property once; of several, readers take the first or the last
         words = [f"w{number}" for number in range(12)]
         self.assertEqual(fields(array("Seq", *words))[0].shown, "Seq[" + ", ".join(f'"{it}"' for it in words) + "]")
 
@@ -263,6 +264,7 @@ class BesideRdflib(unittest.TestCase):
         try:
             root = rdf_of(packet)
             found = call(root)
+            check_repeated(found)  # of a property that is repeated with other values rdflib doesn't keep the order
             return root, tree.digest_of(found), shown.fields(found)
         except Unreadable as why:
             return None, why.cause, []

@@ -5,7 +5,7 @@ from __future__ import annotations
 import os
 from typing import Sequence
 
-from .store import Catalogue, NoCatalogue
+from .store import Catalogue, NoCatalogue, check_schema
 
 _RUNS = "INSERT INTO main.runs SELECT id + ?, started, ended, exifnorm, exiftool, exiv2 FROM other.runs"
 
@@ -27,6 +27,7 @@ def merge(all_: Catalogue, names: Sequence[str]) -> int:
 
 def _add(all_: Catalogue, name: str) -> None:
     with all_.attached(name, "other") as other, all_.transaction():
+        check_schema(all_.base, name, other)
         runs = all_.greatest("runs")
         all_.base.execute(_RUNS, (runs,))
         all_.add_rows(other, runs)

@@ -7,14 +7,16 @@ import os
 from dataclasses import dataclass
 from typing import Any, Dict, Iterable, List, NamedTuple, Optional, Sequence, Tuple
 
-from ..compare.verdicts import ABSENT, ACCEPTED, REFUSED, UNREADABLE, Side, side_of
+from ..compare.verdicts import ABSENT, ACCEPTED, REACHED, REFUSED, UNREADABLE, Side, side_of
 from ..extract.formats.found import EXIF, IPTC, XMP, Blocks, NotRead
+from ..refusals.steps import Step, loses, unpacked
 
 KINDS = (EXIF, IPTC, XMP)
 WORDS = {EXIF: "exif", IPTC: "iptc", XMP: "xmp"}  # the names for people and in the catalogue: archivists know IPTC, the engine IIM
 KIND_OF = {word: kind for kind, word in WORDS.items()}
 
 TOO_LONG, FAILED = "too long", "failed"
+NOT_THERE = ("Vanished", "Moved", "LinkToNothing", "NotAFile")  # the problems of names that lead to no file, so nothing is compared
 
 
 class Damaged(Exception):
@@ -34,11 +36,24 @@ class Block(NamedTuple):
     place: Optional[int]
     length: int
     octets: str  # SHA-256 of its bytes, which distinguishes a copied block from one that was written again
-    kept: Optional[bytes] = None  # its fields in the form of `listing.packed`, if they were requested
+    kept: Optional[bytes] = None  # its fields in the form of `listing.packed`, if they were requested; of a refused block, those after repair
+    repair: Optional[str] = None  # the steps after which a refused block is accepted, in the form of `steps.packed`
+    repaired: Optional[str] = None  # SHA-256 of its meaning after them
+    note: Optional[int] = None  # where its MakerNote begins
 
     def row(self) -> Tuple[Any, ...]:
         """The block as a row of the catalogue, with its fields."""
-        return (WORDS[self[0]], *self[1:11])
+        return (WORDS[self[0]], *self[1:10], *self[11:14], self[10])
+
+    @property
+    def steps(self) -> Tuple[Step, ...]:
+        """The steps of its repair."""
+        return unpacked(self.repair)
+
+    @property
+    def meaning(self) -> Optional[str]:
+        """The digest of its meaning, if it is accepted as it is or after a repair that loses nothing."""
+        return self.digest or (self.repaired if self.repair and not loses(self.steps) else None)
 
     @property
     def refusal(self) -> str:
@@ -65,6 +80,9 @@ def _in_64_bits(number: int) -> int:
     return (number - _LEAST) % (1 << 64) + _LEAST
 
 
+RACY = -1  # the ctime of a file that may be edited again without a mark
+
+
 class Stamp(NamedTuple):
     """The marks that show an edit. ctime also shows one that keeps size and mtime, as `exiftool -P` does."""
 
@@ -72,13 +90,24 @@ class Stamp(NamedTuple):
     modified: int
     changed: int
     inode: int
+    device: int = 0  # which another mount may change: it identifies a file together with the inode, and shows no edit
 
     @classmethod
     def of(cls, it: os.stat_result) -> "Stamp":
-        marks = (it.st_size, it.st_mtime_ns, it.st_ctime_ns, it.st_ino)
+        marks = (it.st_size, it.st_mtime_ns, it.st_ctime_ns, it.st_ino, it.st_dev)
         if min(marks) >= _LEAST and max(marks) <= _GREATEST:
             return tuple.__new__(cls, marks)
         return cls._make(map(_in_64_bits, marks))
+
+
+def is_as_before(one: Stamp, other: Stamp) -> bool:
+    """Whether two stamps show no edit."""
+    return one[:4] == other[:4]
+
+
+def is_marked_as(now: Stamp, marks: Sequence[Optional[int]]) -> bool:
+    """Whether a file is the one that was looked at, by its size, times and inode; the ctime of a fresh file isn't known."""
+    return tuple(now[:4]) == tuple(marks) if marks[2] != RACY else (now[0], now[1], now[3]) == (marks[0], marks[1], marks[3])
 
 
 Digests = Tuple[Optional[str], ...]
@@ -97,12 +126,14 @@ class PictureRecord(NamedTuple):
     blocks: Tuple[Block, ...] = ()
     not_read: Tuple[NotRead, ...] = ()
     digests: "Optional[Digests]" = None  # what `digests` returns, if it was already called
+    file: str = ""  # SHA-256 of the whole file, if nothing else can be compared
+    notes: Optional[bytes] = None  # what ExifTool reads of its MakerNotes, if it was asked
 
     @classmethod
-    def of(cls, path: bytes, root: bytes, stamp: Optional[Stamp], it: Blocks, judged: Sequence[Block] = ()) -> "PictureRecord":
+    def of(cls, path: bytes, root: bytes, stamp: Optional[Stamp], it: Blocks, judged: Sequence[Block] = (), file: str = "") -> "PictureRecord":
         """The result for a file."""
         found = _digests(it.problem, judged, it.not_read)  # here, since several processes look at pictures, and one writes
-        return cls(path, root, stamp, it.type, it.extractor, it.problem, it.detail, tuple(judged), tuple(it.not_read), found)
+        return cls(path, root, stamp, it.type, it.extractor, it.problem, it.detail, tuple(judged), tuple(it.not_read), found, file)
 
     @property
     def state(self) -> str:
@@ -125,6 +156,10 @@ class Picture:
     unread: Optional[str]  # the digest of all unread parts; empty: all was read; None: they can't be compared
     said: Tuple[Optional[str], ...]  # by KINDS: the digest of the meaning, empty without a block, None if it isn't known
     octets: Tuple[str, ...]  # by KINDS: the digest of the blocks' bytes, empty without a block
+    marks: Tuple[Optional[int], ...] = ()  # size, times and inode, as in a stamp
+    repaired: Optional[str] = None  # the digest of what its Exif means after repairs that lose nothing; None: no need, or no such repair
+    maker_notes: str = ""  # where the MakerNotes begin in their blocks; empty: there is none
+    file: str = ""  # SHA-256 of the whole file, if nothing else can be compared
 
     @property
     def state(self) -> str:
@@ -138,7 +173,7 @@ class Picture:
         found = {}
         for kind, digest, octets in zip(KINDS, self.said, self.octets):
             status = ABSENT if digest == "" else ACCEPTED if digest else UNREADABLE if kind == XMP else REFUSED
-            found[kind] = Side(status, digest or "", octets)
+            found[kind] = Side(status, digest or "", octets, (self.repaired or "") if kind == EXIF else "")
         return found
 
 
@@ -151,22 +186,29 @@ def state_of(problem: Optional[str], blocks: Iterable[Block]) -> str:
 
 
 def digests(it: PictureRecord) -> Digests:
-    """The columns exif, iptc, xmp and not_read of a picture, and those of its blocks' octets."""
+    """The columns of a picture that are made of its blocks and of its parts that were not read, from `exif` to `maker_notes`."""
     return it.digests or _digests(it.problem, it.blocks, it.not_read)
 
 
 def _digests(problem: Optional[str], blocks: Sequence[Block], not_read: Sequence[NotRead]) -> Digests:
     if problem:
-        return (None, None, None, None, "", "", "")
+        return (None, None, None, None, None, "", "", "", None, "")
     by_kind: Dict[str, List[Block]] = {kind: [] for kind in KINDS}
     for it in blocks:
         by_kind[it.kind].append(it)
     sides = [side_of(ours) for ours in by_kind.values()]
     said = [one.digest if one.status == ACCEPTED else "" if one.status == ABSENT else None for one in sides]
-    parts: Optional[str] = ""
-    if not_read:
-        parts = _together(f"{one.what} {one.digest}" for one in not_read) if all(one.digest for one in not_read) else None
-    return (*said, parts, *(one.octets for one in sides))
+    parts = _parts_digest(not_read)
+    other_parts = _parts_digest([it for it in not_read if not it.what.endswith(REACHED)]) if parts else parts
+    notes = ",".join(f"{it.name}:{it.note}" for it in by_kind[EXIF] if it.note is not None)
+    return (*said, parts, other_parts, *(one.octets for one in sides), sides[0].repaired or None, notes)
+
+
+def _parts_digest(parts: Sequence[NotRead]) -> Optional[str]:
+    """SHA-256 of some parts that were not read: empty without any, None if the bytes of one aren't known."""
+    if not parts:
+        return ""
+    return _together(f"{it.what} {it.digest}" for it in parts) if all(it.digest for it in parts) else None
 
 
 def _together(texts: Iterable[str]) -> str:
@@ -195,16 +237,16 @@ def kind_of(word: str) -> str:
 
 def picture_of_row(row: Tuple[Any, ...]) -> Picture:
     """A picture of a row in the order of `store.PICTURE_COLUMNS`."""
-    number, path, root, kind, extractor, problem, detail, size, modified, inode, unread, *by_kind = row
-    has(int, number, *(it for it in (size, modified, inode) if it is not None))
+    number, path, root, kind, extractor, problem, detail, size, modified, changed, inode, unread, *by_kind, repaired, notes, file = row
+    has(int, number, *(it for it in (size, modified, changed, inode) if it is not None))
     has(bytes, path, root)
-    has(str, kind, extractor, detail, *by_kind[3:], *(it for it in (problem, unread, *by_kind[:3]) if it is not None))
-    return Picture(number, path, root, kind, extractor, problem, detail, size, unread, tuple(by_kind[:3]), tuple(by_kind[3:]))
+    has(str, kind, extractor, detail, notes, file, *by_kind[3:], *(it for it in (problem, unread, repaired, *by_kind[:3]) if it is not None))
+    return Picture(number, path, root, kind, extractor, problem, detail, size, unread, tuple(by_kind[:3]), tuple(by_kind[3:]), (size, modified, changed, inode), repaired, notes, file)
 
 
 def block_of_row(row: Tuple[Any, ...]) -> Block:
     """A block of a row in the order of `store.BLOCK_COLUMNS`."""
-    number, kind, name, source, extractor, status, digest, cause, place, length, octets = row
-    has(str, kind, name, source, extractor, status, octets, *(it for it in (digest, cause) if it is not None))
-    has(int, number, length, *(it for it in (place,) if it is not None))
-    return Block(kind_of(kind), name, source, extractor, status, digest, cause, place, length, octets)
+    number, kind, name, source, extractor, status, digest, cause, place, length, octets, repair, repaired, note = row
+    has(str, kind, name, source, extractor, status, octets, *(it for it in (digest, cause, repair, repaired) if it is not None))
+    has(int, number, length, *(it for it in (place, note) if it is not None))
+    return Block(kind_of(kind), name, source, extractor, status, digest, cause, place, length, octets, None, repair, repaired, note)

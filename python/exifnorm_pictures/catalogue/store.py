@@ -7,14 +7,20 @@ killed. Any SQLite tool can read the tables. A file is only written to if its he
 from __future__ import annotations
 
 import contextlib
+import functools
 import os
+import re
 import sqlite3
+import sys
 import stat
 from typing import Any, Callable, Iterable, Iterator, List, NamedTuple, Optional, Sequence, Tuple, TypeVar, overload
 
+from ..cli import signals
 from ..cli.signals import Failure
+from ..extract.budgets import ROW_BYTES, STEPS
 from ..extract.formats.found import NotRead
-from .records import Damaged, PictureRecord, Picture, Stamp, digests, has, not_read_of_row, picture_of_row
+from ..files import opening as files
+from .records import Damaged, Picture, PictureRecord, Stamp, digests, has, not_read_of_row, picture_of_row
 
 APPLICATION = 0x45584E50  # 'EXNP', which distinguishes a catalogue from other SQLite files
 VERSION = 3
@@ -38,6 +44,7 @@ CREATE TABLE pictures (
     modified INTEGER,               -- nanoseconds since 1970, in 64 bits
     changed INTEGER,                -- the same of the last change of the file's status (ctime)
     inode INTEGER,
+    device INTEGER,                 -- the file system, which identifies a file together with the inode
     type TEXT NOT NULL,             -- the format: JPEG, PNG .., or ExifTool's word
     extractor TEXT NOT NULL,        -- which program extracted the blocks: own, exiftool
     problem TEXT,                   -- why there are no blocks: Vanished, Moved, Unreadable, NoPicture, ToolFailed ..
@@ -46,9 +53,13 @@ CREATE TABLE pictures (
     iptc TEXT,
     xmp TEXT,
     not_read TEXT,                  -- SHA-256 of what was not read; empty: all was read; NULL: it can't be compared
+    other_not_read TEXT,            -- the same without the bytes that only a MakerNote can reach
     exif_octets TEXT NOT NULL,      -- SHA-256 of the blocks of a kind as they are in the file; empty if there is none
     iptc_octets TEXT NOT NULL,
     xmp_octets TEXT NOT NULL,
+    exif_repaired TEXT,             -- SHA-256 of what the Exif blocks mean after repairs that lose nothing, if one is refused
+    maker_notes TEXT NOT NULL,      -- where the MakerNotes begin in their blocks, which decides what they mean; empty if there is none
+    file TEXT NOT NULL,             -- SHA-256 of the whole file, if nothing else of it can be compared; else empty
     run INTEGER NOT NULL REFERENCES runs(id)
 );
 CREATE TABLE blocks (
@@ -64,7 +75,10 @@ CREATE TABLE blocks (
     place INTEGER,
     length INTEGER NOT NULL,        -- bytes of the block
     octets TEXT NOT NULL,           -- SHA-256 of the block as it is in the file
-    fields BLOB,                    -- its fields: JSON, compressed by zlib if it is long
+    repair TEXT,                    -- of a refused block: the steps after which it is accepted, JSON: cause, what was done, what is lost
+    repaired TEXT,                  -- SHA-256 of what it means after them
+    note INTEGER,                   -- where its MakerNote begins
+    fields BLOB,                    -- its fields: JSON, compressed by zlib if it is long; of a refused block, those after repair
     PRIMARY KEY (picture, number)
 ) WITHOUT ROWID;
 CREATE TABLE not_read (
@@ -74,29 +88,35 @@ CREATE TABLE not_read (
     digest TEXT NOT NULL,           -- SHA-256 of its bytes; empty: not known
     PRIMARY KEY (picture, number)
 ) WITHOUT ROWID;
+CREATE TABLE maker_notes (
+    picture INTEGER PRIMARY KEY REFERENCES pictures(id) ON DELETE CASCADE,
+    readings BLOB NOT NULL          -- what ExifTool reads of its MakerNotes: JSON, compressed by zlib
+);
 CREATE INDEX pictures_by_content ON pictures (exif, iptc, xmp, not_read) WHERE problem IS NULL;
 """
 
 _OCTETS = "exif_octets, iptc_octets, xmp_octets"
-PICTURE_COLUMNS = f"id, path, root, type, extractor, problem, detail, size, modified, inode, not_read, exif, iptc, xmp, {_OCTETS}"
-BLOCK_COLUMNS = "number, kind, name, source, extractor, status, digest, cause, place, length, octets"
-ALL_PICTURE_COLUMNS = f"path, root, size, modified, changed, inode, type, extractor, problem, detail, exif, iptc, xmp, not_read, {_OCTETS}"
+_MORE = "exif_repaired, maker_notes, file"
+PICTURE_COLUMNS = f"id, path, root, type, extractor, problem, detail, size, modified, changed, inode, not_read, exif, iptc, xmp, {_OCTETS}, {_MORE}"
+BLOCK_COLUMNS = "number, kind, name, source, extractor, status, digest, cause, place, length, octets, repair, repaired, note"
+ALL_PICTURE_COLUMNS = f"path, root, size, modified, changed, inode, device, type, extractor, problem, detail, exif, iptc, xmp, not_read, other_not_read, {_OCTETS}, {_MORE}"
 # A row that replaces another of the same path takes the other's blocks and parts with it, by ON DELETE CASCADE.
-_PUT_PICTURE = f"INSERT OR REPLACE INTO pictures (id, {ALL_PICTURE_COLUMNS}, run) VALUES (?{', ?' * 18})"
-_PUT_BLOCK = f"INSERT INTO blocks (picture, {BLOCK_COLUMNS}, fields) VALUES (?{', ?' * 12})"
+_PUT_PICTURE = f"INSERT OR REPLACE INTO pictures (id, {ALL_PICTURE_COLUMNS}, run) VALUES (?{', ?' * 23})"
+_PUT_BLOCK = f"INSERT INTO blocks (picture, {BLOCK_COLUMNS}, fields) VALUES (?{', ?' * 15})"
 _ADD_ROWS = (
     "DELETE FROM main.pictures WHERE path IN (SELECT path FROM {other}.pictures)",
     f"INSERT INTO main.pictures (id, {ALL_PICTURE_COLUMNS}, run)"
     f" SELECT id + :pictures, {ALL_PICTURE_COLUMNS}, run + :runs FROM {{other}}.pictures",
     f"INSERT INTO main.blocks (picture, {BLOCK_COLUMNS}, fields) SELECT picture + :pictures, {BLOCK_COLUMNS}, fields FROM {{other}}.blocks",
     "INSERT INTO main.not_read SELECT picture + :pictures, number, what, digest FROM {other}.not_read",
+    "INSERT INTO main.maker_notes SELECT picture + :pictures, readings FROM {other}.maker_notes",
 )
 # The same tables without keys, for rows that are only written and read once
 _ROWS = (
     f"CREATE TABLE pictures (id, {ALL_PICTURE_COLUMNS}, run)", f"CREATE TABLE blocks (picture, {BLOCK_COLUMNS}, fields)",
-    "CREATE TABLE not_read (picture, number, what, digest)",
+    "CREATE TABLE not_read (picture, number, what, digest)", "CREATE TABLE maker_notes (picture, readings)",
 )  # fmt: skip
-KEPT_BEFORE = ("Vanished", "Unreadable")  # what was known of a picture stays, if it can't be read now
+KEPT_BEFORE = ("Vanished", "LinkToNothing", "NotAFile", "Unreadable")  # what was known of a picture stays, if it can't be read now
 
 # when it began and ended, the library's version, ExifTool's, exiv2's
 Run = Tuple[str, Optional[str], Optional[str], Optional[str], Optional[str]]
@@ -120,6 +140,18 @@ def head_is_ours(head: bytes) -> bool:
     return head[:16] == b"SQLite format 3\0" and int.from_bytes(head[68:72], "big") == APPLICATION
 
 
+_CLOSED = b"\1\1"  # at offset 18 of a SQLite file that has no log: a catalogue is closed like this, and a log is removed before
+
+
+def _mark(name: str) -> Optional[Tuple[int, int]]:
+    """What identifies a file that isn't empty, and its last change."""
+    try:
+        now = os.stat(name)
+    except OSError:
+        return None
+    return (now.st_ino, now.st_ctime_ns) if now.st_size else None
+
+
 def _check_head(name: str, make: bool) -> None:
     """Raises `NoCatalogue` if the header isn't a catalogue's. It reads only the header and writes nothing, not even a journal."""
     if not name:
@@ -132,12 +164,22 @@ def _check_head(name: str, make: bool) -> None:
         raise NoCatalogue(f"there is no catalogue {name}") from None
     if not stat.S_ISREG(kind):
         raise NoCatalogue(f"{name} is no catalogue: it is no regular file")
-    with open(name, "rb") as file:
-        head = file.read(100)
+    log = _mark(f"{name}-wal")
+    try:
+        with files.reading(name) as file:
+            head = file.read(100)
+    except OSError as error:
+        error.filename = name  # a read that fails has none, and would be taken for one of standard output
+        raise
     if not head and make:
         return
     if not head_is_ours(head):
         raise NoCatalogue(f"{name} is no catalogue")
+    if log and head[18:20] == _CLOSED and log == _mark(f"{name}-wal"):
+        raise NoCatalogue(
+            f"{name} is a whole catalogue, but beside it is the log {name}-wal of another state, as after a backup was restored over a"
+            f" catalogue that a run had open. Remove {name}-wal and {name}-shm, unless you want that other state"
+        )
     version = int.from_bytes(head[60:64], "big")
     if version < VERSION:
         raise NoCatalogue(
@@ -161,6 +203,53 @@ def address(name: str, mode: str = "ro") -> str:
     return f"file:{''.join(chr(it) if it in _PLAIN else f'%{it:02X}' for it in octets)}?mode={mode}"
 
 
+def connect(name: str, uri: bool = True) -> sqlite3.Connection:
+    """A connection on which a foreign file can neither run anything nor keep SQLite from ending."""
+    base = sqlite3.connect(name, timeout=60, isolation_level=None, uri=uri)
+    if sys.version_info >= (3, 11):
+        base.setlimit(sqlite3.SQLITE_LIMIT_LENGTH, ROW_BYTES)
+    base.set_progress_handler(_pause, STEPS)
+    for it in ("trusted_schema = OFF", "cell_size_check = ON", "foreign_keys = ON"):
+        base.execute(f"PRAGMA {it}")
+    return base
+
+
+def _pause() -> int:
+    """Lets Python heed a signal. What its handler raises ends the query, and is raised again by `signals.go_on_stopping`."""
+    return 0
+
+
+Part = Tuple[str, str, str]  # of a schema: its kind, its name, and how it was made
+
+
+@functools.lru_cache(maxsize=None)
+def _own_parts() -> "frozenset[Part]":
+    """The schema of a catalogue."""
+    with contextlib.closing(sqlite3.connect(":memory:")) as base:
+        base.executescript(_TABLES)
+        return frozenset(map(_part, base.execute("SELECT type, name, sql FROM sqlite_master")))
+
+
+def _part(row: Tuple[object, ...]) -> Part:
+    """A part of a schema without comments and spaces."""
+    kind, name, sql = map(str, row)
+    return kind, name, re.sub(r"\s+", "", re.sub(r"--[^\n]*", "", sql))
+
+
+_STATISTICS = ("table", "sqlite_stat1", "CREATETABLEsqlite_stat1(tbl,idx,stat)")  # of ANALYZE, which changes no answer
+
+
+def check_schema(base: sqlite3.Connection, name: str, schema: str = "main") -> None:
+    """Raises `NoCatalogue` unless a schema is exactly a catalogue's: no trigger, view, further table or index that could do something."""
+    due = _own_parts()
+    there = list(map(_part, base.execute(f"SELECT type, name, sql FROM {schema}.sqlite_master LIMIT {len(due) + 2}")))
+    other = sorted(set(there) - due - {_STATISTICS})
+    if other:
+        raise NoCatalogue(f"{name} is no catalogue: its {other[0][0]} {other[0][1]} isn't one of a catalogue")
+    if len(set(there) & due) < len(due):
+        raise NoCatalogue(f"{name} is no catalogue: a table is missing")
+
+
 class Catalogue:
     """A catalogue that is open. Use it in a `with`."""
 
@@ -170,12 +259,15 @@ class Catalogue:
         self._made = make
         _check_head(name, make)
         with self.guarded():
-            self.base = sqlite3.connect(address(name, "rwc" if make else "ro"), timeout=60, isolation_level=None, uri=True)
-            self.base.execute("PRAGMA foreign_keys = ON")
-            if make:
-                self._prepare()
-            else:
-                self._check_tables()
+            self.base = connect(address(name, "rwc" if make else "ro"))
+            try:
+                if make:
+                    self._prepare()
+                else:
+                    check_schema(self.base, name)
+            except BaseException:
+                self.base.close()
+                raise
 
     def _prepare(self) -> None:
         """Creates missing tables; if two runs begin at once, one of them does."""
@@ -185,14 +277,11 @@ class Catalogue:
             self.base.execute(f"PRAGMA user_version = {VERSION}")
             for statement in _TABLES.split(";\n"):
                 self.base.execute(statement)
-        self._check_tables()
+        check_schema(self.base, self.name)
         self.base.execute("COMMIT")
         self.base.execute("PRAGMA journal_mode = WAL")
         self.base.execute("PRAGMA synchronous = FULL")
         self.base.execute(f"PRAGMA cache_size = -{CACHE}")
-
-    def _check_tables(self) -> None:
-        self.base.execute("SELECT count(*) FROM (SELECT 1 FROM pictures, blocks, not_read, runs LIMIT 1)").fetchone()
 
     @contextlib.contextmanager
     def guarded(self) -> Iterator[None]:
@@ -201,12 +290,16 @@ class Catalogue:
             yield
         except sqlite3.ProgrammingError:  # a wrong call of SQLite, which says nothing about the catalogue
             raise
-        except (sqlite3.DatabaseError, Damaged) as error:
+        except (sqlite3.DatabaseError, Damaged, UnicodeDecodeError) as error:
             raise self.failure(error) from error
 
-    def failure(self, error: Exception) -> NoCatalogue:
-        """The error of this catalogue for one of SQLite, or for a value. Only a file that SQLite can't read is damaged, not a full disk."""
-        is_damaged = isinstance(error, Damaged) or type(error) is sqlite3.DatabaseError
+    def failure(self, error: BaseException) -> NoCatalogue:
+        """The error of this catalogue for one of SQLite, or for a value. Only a file that SQLite can't read is damaged, not a full disk.
+
+        Raises what a signal raised meanwhile.
+        """
+        signals.go_on_stopping()
+        is_damaged = isinstance(error, (Damaged, UnicodeDecodeError)) or type(error) is sqlite3.DatabaseError
         return NoCatalogue(f"{self.name}{' is damaged' * is_damaged}: {error}")
 
     def __enter__(self) -> "Catalogue":
@@ -327,7 +420,7 @@ class Catalogue:
 
     def known(self, path: bytes) -> Optional[Known]:
         """The record of one picture."""
-        query = "SELECT id, size, modified, changed, inode, problem FROM pictures WHERE path = ?"
+        query = "SELECT id, size, modified, changed, inode, device, problem FROM pictures WHERE path = ?"
         with self.guarded():
             row = self.base.execute(query, (path,)).fetchone()
         return None if row is None else _known(row)
@@ -362,6 +455,21 @@ class Catalogue:
         """Each folder that was indexed."""
         return list(self.rows("SELECT DISTINCT root FROM pictures ORDER BY root", (), root_of_row))
 
+    def forget(self, name: bytes) -> int:
+        """Removes a file, or all files below a folder. Returns how many."""
+        start = name.rstrip(b"/") + b"/"
+        with self.transaction():
+            return self.base.execute("DELETE FROM pictures WHERE path = ? OR (path > ? AND path < ?)", (name, start, start[:-1] + b"0")).rowcount
+
+    def set_devices(self, devices: Iterable[Tuple[int, int]]) -> None:
+        """Keeps on which file system some pictures are now: each a device and a picture's number."""
+        with self.transaction():
+            self.base.executemany("UPDATE pictures SET device = ? WHERE id = ?", devices)
+
+    def maker_notes(self, picture: Picture) -> Optional[bytes]:
+        """What ExifTool read of a picture's MakerNotes, if it was asked."""
+        return next(self.rows("SELECT readings FROM maker_notes WHERE picture = ?", (picture.id,), lambda row: bytes(row[0])), None)
+
     def copy_to(self, name: str) -> None:
         """Copies the whole catalogue to another file."""
         with self.guarded():
@@ -384,14 +492,15 @@ def put_rows(base: sqlite3.Connection, run: int, first: int, entries: Iterable[P
     numbered = list(enumerate(entries, first))
     base.executemany(_PUT_PICTURE, [(number, *_row(it), run) for number, it in numbered])
     base.executemany(_PUT_BLOCK, [(number, at, *block.row()) for number, it in numbered for at, block in enumerate(it.blocks)])
+    base.executemany("INSERT INTO maker_notes VALUES (?, ?)", [(number, it.notes) for number, it in numbered if it.notes])
     parts = [(number, at, part.what, part.digest) for number, it in numbered for at, part in enumerate(it.not_read)]
     base.executemany("INSERT INTO not_read VALUES (?, ?, ?, ?)", parts)
 
 
 def _row(it: PictureRecord) -> Tuple[object, ...]:
     """A picture as a row, without its number and run."""
-    stamp = it.stamp or (None, None, None, None)
-    return (it.path, it.root, *stamp, it.type, it.extractor, it.problem, it.detail, *digests(it))
+    stamp = it.stamp or (None, None, None, None, None)
+    return (it.path, it.root, *stamp, it.type, it.extractor, it.problem, it.detail, *digests(it), it.file)
 
 
 def root_of_row(row: Tuple[bytes]) -> bytes:
@@ -405,6 +514,6 @@ def _run_of_row(row: Run) -> Run:
     return row
 
 
-def _known(row: Tuple[int, Optional[int], int, int, int, Optional[str]]) -> Known:
-    number, size, modified, changed, inode, problem = row
-    return Known(number, None if size is None else Stamp(size, modified, changed, inode), problem)
+def _known(row: Tuple[int, Optional[int], int, int, int, int, Optional[str]]) -> Known:
+    number, size, modified, changed, inode, device, problem = row
+    return Known(number, None if size is None else Stamp(size, modified, changed, inode, device), problem)

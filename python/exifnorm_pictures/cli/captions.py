@@ -5,8 +5,10 @@ from __future__ import annotations
 import argparse
 
 from ..catalogue.records import Block
+from ..compare.verdicts import ACCEPTED
 from ..extract.formats.found import XMP, FoundBlock
 from ..fields import caption_texts
+from ..refusals import repairs, steps
 from .each_block import Described, each_block, with_kind
 
 
@@ -16,7 +18,10 @@ def run(arguments: argparse.Namespace) -> int:
     def describe(found: FoundBlock, it: Block) -> Described:
         if it.kind == XMP:
             return [], {}
-        members = with_kind(caption_texts.captions_members(it.kind, found.data)) if arguments.json else {}
-        return list(caption_texts.captions(found.data)), members
+        data, head = found.data, []
+        if it.status != ACCEPTED and (made := repairs.repaired(data)):
+            data, head = made.block, [f"{it.name}: {it.line}; read after repair in memory: {steps.words(it.steps)}"]
+        members = with_kind(caption_texts.captions_members(it.kind, data)) if arguments.json else {}
+        return [*head, *caption_texts.captions(data)], members
 
     return each_block(arguments, describe)

@@ -7,17 +7,20 @@ import contextlib
 import json
 import os
 from collections import Counter
-from typing import List, Optional
+from typing import List, Optional, Sequence
 
 from ..catalogue.records import WORDS
 from ..catalogue.store import Catalogue, NoCatalogue
 from ..compare import changed as changes
+from ..extract import exiftool, programs
+from ..fields.listing import Change
 from ..files import tempdir
+from ..refusals.steps import Step
 from ..scan.batches import How
 from ..scan.index import IndexOptions, index
-from .exit_codes import DIFFERENCE, FAILURE, SUCCESS, UNKNOWN
+from .exit_codes import DIFFERENCE, SUCCESS, UNKNOWN
 from .names import from_list
-from .output import Members, closed_folder, output, path_members, shown_path
+from .output import Members, closed_folder, output, path_members, print_line, shown_path
 
 
 def run(arguments: argparse.Namespace) -> int:
@@ -27,8 +30,12 @@ def run(arguments: argparse.Namespace) -> int:
     counts: "Counter[str]" = Counter()
     with contextlib.ExitStack() as open_:
         before, after = (open_.enter_context(_side(it, arguments, open_)) for it in (arguments.before, arguments.after))
+        room = open_.enter_context(tempdir.room())
+        programs.set_limit(arguments.limit)
+        exiftool.begin(room)
+        open_.callback(exiftool.finish)
         equal = None if arguments.json else open_.enter_context(contextlib.closing(changes.Equal()))
-        for it in changes.changed(before, after, counts, only, arguments.all):
+        for it in changes.changed(before, after, counts, only, arguments.all, arguments.each, not arguments.no_exiftool):
             if it.result in changes.UNCHANGED and not arguments.all:
                 continue
             if equal is None:
@@ -44,8 +51,6 @@ def run(arguments: argparse.Namespace) -> int:
 
 def status_of(counts: "Counter[str]") -> int:
     """The greatest status of some results."""
-    if counts[changes.NOT_READ]:
-        return FAILURE
     if any(counts[it] for it in changes.OPEN):
         return UNKNOWN
     return DIFFERENCE if any(counts[it] for it in changes.DIFFERENCES) else SUCCESS
@@ -72,11 +77,13 @@ def _said(it: changes.Compared) -> List[object]:
     """The changes of a picture, without its name."""
     note = f" ({it.note})" if it.note else ""
     to = f" to {shown_path(it.moved_to)}" if it.moved_to is not None else ""
-    return [bool(it.changes), f"{it.result}{to}{note}", [change_line(one.name, one.before, one.after) for one in it.changes]]
+    return [bool(it.changes), f"{it.result}{to}{note}", [change_line(*one) for one in it.changes]]
 
 
-def change_line(name: str, before: Optional[str], after: Optional[str]) -> str:
+def change_line(name: str, before: Optional[str], after: Optional[str], said: str = "") -> str:
     """A field that differs, in a line: `~ main:Artist: "A" -> "B"`."""
+    if said:
+        return f"~ {name}: {said}"
     sign = "+" if before is None else "-" if after is None else "~"
     return f"{sign} {name}: {before or '-'} -> {after or '-'}"
 
@@ -86,16 +93,16 @@ def _print_equal(equal: changes.Equal) -> None:
     for said, count, names in equal.all():
         grouped, head, lines = json.loads(said)
         if grouped and count > 1:
-            print(f"{count:,} pictures: {head}")
+            print_line(f"{count:,} pictures: {head}")
             for line in [f"  {it} in {count:,} pictures" for it in lines]:
-                print(line)
+                print_line(line)
             for name in names:
-                print(f"    {shown_path(name)}")
+                print_line(f"    {shown_path(name)}")
         else:
             for name in names:
-                print(f"{shown_path(name)}: {head}")
+                print_line(f"{shown_path(name)}: {head}")
                 for line in lines:
-                    print(f"  {line}")
+                    print_line(f"  {line}")
 
 
 def changed_members(it: changes.Compared) -> Members:
@@ -104,4 +111,18 @@ def changed_members(it: changes.Compared) -> Members:
     if it.moved_to is not None:
         found["moved_to"] = path_members(it.moved_to)
     found["kinds"] = {WORDS[one.kind]: one.result for one in it.verdicts}
-    return {**found, "fields": [{"name": one.name, "before": one.before, "after": one.after} for one in it.changes]}
+    if it.maker_note is not None:
+        reads = "otherwise" if it.maker_note else "the same"
+        found["maker_note"] = {"reads": reads, "values": [list(one) for one in it.maker_note]}
+    if it.repairs:
+        found["repairs"] = [_repair_members(*one) for one in it.repairs]
+    fields = [one for one in it.changes if not one.name.startswith("exif:MakerNote ")]
+    return {**found, "fields": [_field_members(one) for one in fields]}
+
+
+def _repair_members(name: str, before: Sequence[Step], after: Sequence[Step]) -> Members:
+    return {"name": name, "before": [one._asdict() for one in before], "after": [one._asdict() for one in after]}
+
+
+def _field_members(it: Change) -> Members:
+    return {"name": it.name, "before": it.before, "after": it.after, **({"said": it.said} if it.said else {})}

@@ -10,10 +10,11 @@ from exifnorm import LIMIT
 from ..catalogue.records import WORDS, Block
 from ..compare.verdicts import ACCEPTED
 from ..extract import exiftool, extraction, programs
+from ..extract.budgets import TooMuch
 from ..extract.formats.found import EXIF, IPTC, NAMES, Blocks, FoundBlock
 from ..extract.judge import judge_all
-from ..files import tempdir
-from .exit_codes import FAILURE, SUCCESS, UNKNOWN
+from ..files import opening, tempdir
+from .exit_codes import SUCCESS, UNKNOWN
 from .names import named
 from .output import Members, block_members, output, path_members, reason, shown_path
 
@@ -29,7 +30,7 @@ def _blocks(arguments: argparse.Namespace, name: bytes) -> Blocks:
         try:
             return extraction.blocks_of(name, arguments.whole)
         except programs.Failed as error:
-            return Blocks(problem="ToolFailed", detail=str(error))
+            return Blocks(problem="TooSlow" if isinstance(error, programs.TooSlow) else "ToolFailed", detail=str(error))
         except programs.Missing as error:
             return Blocks(problem="NeedsExifTool", detail=str(error))
         except MemoryError:
@@ -37,7 +38,7 @@ def _blocks(arguments: argparse.Namespace, name: bytes) -> Blocks:
         except Exception as error:  # an error of a reader affects only this file
             return extraction.failed_here(error)
     try:
-        with open(name, "rb") as file:
+        with opening.reading(name) as file:
             octets = file.read(LONGEST)
     except OSError as error:
         return Blocks(problem="Unreadable", detail=reason(error))
@@ -63,16 +64,21 @@ def each_block(arguments: argparse.Namespace, describe: Describe, refused_too: b
 
 def _one(arguments: argparse.Namespace, name: bytes, head: List[str], describe: Describe, refused_too: bool) -> int:
     blocks = _blocks(arguments, name)
+    judged: List[Block] = []
+    try:
+        judged = [] if blocks.problem else judge_all(blocks, with_fields=True)
+    except TooMuch as why:
+        blocks = extraction.too_much(why)
     names = path_members(name)
     if blocks.problem:
         output(arguments, [*head, f"{blocks.problem}: {blocks.detail}"], {**names, "problem": blocks.problem, "detail": blocks.detail})
-        return FAILURE
+        return UNKNOWN
     worst = SUCCESS
     data = {it.name: it for it in blocks.found}
-    for it in judge_all(blocks, with_fields=True):
+    for it in judged:
         if it.status != ACCEPTED:
             worst = UNKNOWN
-        lines, members = describe(data[it.name], it) if it.status == ACCEPTED or refused_too else _refused(it)
+        lines, members = describe(data[it.name], it) if it.status == ACCEPTED or it.repair or refused_too else _refused(it)
         if lines or (arguments.json and members):
             output(arguments, [*head, *lines], {**names, "name": it.name, **members})
             head = []

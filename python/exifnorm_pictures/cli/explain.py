@@ -3,11 +3,13 @@
 from __future__ import annotations
 
 import argparse
+from typing import List
 
 from ..catalogue.records import Block
-from ..compare.verdicts import ACCEPTED
-from ..extract.formats.found import XMP, FoundBlock
-from ..refusals import explain
+from ..compare.verdicts import ACCEPTED, REFUSED
+from ..extract.formats.found import EXIF, XMP, FoundBlock
+from ..fields.listing import unpacked
+from ..refusals import explain, steps
 from .each_block import Described, each_block, with_kind
 from .output import block_members
 
@@ -20,6 +22,17 @@ def run(arguments: argparse.Namespace) -> int:
         if it.status == ACCEPTED:
             return [line], block_members(it)
         explained = explain.explain_packet(it) if it.kind == XMP else explain.explain(it.kind, found.data)
-        return [line, *explained.lines()[1:]], with_kind(explained.members())
+        members = {**with_kind(explained.members()), "repair": [one._asdict() for one in it.steps]}
+        return [line, *explained.lines()[1:], *_repair(it)], members
 
     return each_block(arguments, describe, refused_too=True)
+
+
+def _repair(it: Block) -> List[str]:
+    """The repair in memory of a refused Exif block, and what it loses."""
+    if not it.repair:
+        return ["  Repair in memory: none is known"] if it.status == REFUSED and it.kind == EXIF else []
+    fields = len(unpacked(it.kept or b"[]"))
+    lines = [f"  Repair in memory: {steps.words(it.steps)}; then {fields} fields are read, see show"]
+    lost = steps.loses(it.steps)
+    return lines + [f"  That repair loses {' and '.join(lost)}: by it, nothing is called the same"] * bool(lost)

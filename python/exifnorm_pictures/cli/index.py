@@ -5,16 +5,26 @@ from __future__ import annotations
 import argparse
 import os
 import shutil
+from collections import Counter
+from typing import List
 
 from ..catalogue.store import Catalogue, NoCatalogue, head_is_ours
+from .signals import Failure
 from ..files import atomic, tempdir
 from ..scan.batches import How
 from ..scan.index import IndexOptions, index
-from .exit_codes import FAILURE, SUCCESS
+from .exit_codes import SUCCESS, UNKNOWN, USAGE
 from .names import named
-from .output import record_json, record_lines, output
+from .output import kind_of_part, output, print_line, record_json, record_lines, shown_path
 
-FAILURES = ("Unreadable", "ToolFailed", "InternalError", "NeedsExifTool", "NeedsExiv2")
+# Pictures that should be readable and aren't
+NOT_READABLE = ("Unreadable", "ToolFailed", "InternalError", "TooMuch", "TooSlow", "NeedsExifTool", "NeedsExiv2")
+
+
+class NothingThere(Failure):
+    """No name leads to a folder or a file, and there is no catalogue yet: a mistyped name makes none."""
+
+    status = USAGE
 
 
 def run(arguments: argparse.Namespace) -> int:
@@ -22,20 +32,43 @@ def run(arguments: argparse.Namespace) -> int:
     names = named(arguments, arguments.folders)
     if any(not it for it in names):
         raise NoCatalogue("a name is empty")
-
+    if names and not os.path.lexists(arguments.catalogue) and not any(map(os.path.lexists, names)):
+        raise NothingThere(f"there is no folder or file {', '.join(map(shown_path, names))}")
     with tempdir.room() as room, Catalogue(arguments.catalogue, make=True) as catalogue:
         if arguments.keep_old:
             keep_old(catalogue, arguments.keep_old, room)
         lines = record_json if arguments.json else record_lines
-        options = IndexOptions(names, arguments.again, arguments.quiet, How.of(arguments, room, lines), print)
+        options = IndexOptions(names, arguments.again, arguments.quiet, How.of(arguments, room, lines), print_line)
         if arguments.scheduler:
             from ..scan import cluster  # only this needs Dask
 
             options.look = cluster.looker(arguments.scheduler, arguments.elsewhere, names)
         counts = index(options, catalogue)
+        parts = _parts(catalogue)
     summary = ", ".join(f"{count} {state}" for state, count in sorted(counts.items(), key=lambda it: (-it[1], it[0]))) or "no file"
-    output(arguments, [summary], {"counts": dict(counts)})
-    return FAILURE if any(counts[it] for it in FAILURES) else SUCCESS
+    output(arguments, [*parts, summary], {"counts": dict(counts)})
+    if any(counts[it] for it in NOT_READABLE) or any(os.path.exists(it) and not _may_be_read(it) for it in names):
+        return UNKNOWN
+    return SUCCESS
+
+
+def _may_be_read(name: bytes) -> bool:
+    """Whether a name leads to a file or a folder, and not to a pipe or a device."""
+    return os.path.isfile(name) or os.path.isdir(name)
+
+
+def _parts(catalogue: Catalogue) -> List[str]:
+    """The parts that were not read of the pictures of this run, a line for each kind of part, the most frequent first."""
+    query = "SELECT picture, what FROM not_read JOIN pictures ON id = picture WHERE run = (SELECT max(id) FROM runs)"
+    kinds: "Counter[str]" = Counter()
+    pictures = set()
+    for number, what in catalogue.rows(query):
+        kinds[kind_of_part(what)] += 1
+        pictures.add(number)
+    if not pictures:
+        return []
+    head = f"{len(pictures):,} picture{'s' * (len(pictures) > 1)} not wholly read; they are the same as others only where these parts have the same bytes:"
+    return [head, *(f"  {count:>6,}  {what}" for what, count in kinds.most_common(12)), *["  .."] * (len(kinds) > 12)]
 
 
 def keep_old(catalogue: Catalogue, name: str, room: str) -> None:

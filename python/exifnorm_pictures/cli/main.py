@@ -2,6 +2,10 @@
 
 from __future__ import annotations
 
+from . import search_path
+
+search_path.leave_out_current_folder()  # before other modules are imported
+
 import gc
 import importlib
 import sys

@@ -7,8 +7,9 @@ import os
 from typing import Iterator, List, Tuple
 
 from ..extract import exiftool, programs
+from ..extract.budgets import TooMuch
 from ..files import tempdir
-from ..refusals import mend
+from ..refusals import mend, steps
 from .exit_codes import DIFFERENCE, FAILURE, SUCCESS, UNKNOWN
 from .names import from_list
 from .output import Members, output, path_members, shown_path
@@ -31,14 +32,15 @@ def run(arguments: argparse.Namespace) -> int:
 
 def _mend_one(arguments: argparse.Namespace, picture: bytes, out: bytes, room: str) -> int:
     try:
-        found = mend.mend(picture, out, room)
-    except (mend.NotWritten, programs.Failed) as error:
-        problem = "NotWritten" if isinstance(error, mend.NotWritten) else "ToolFailed"
+        found = mend.mend(picture, out, room, bool(arguments.files_from))
+    except (mend.NotWritten, programs.Failed, programs.Missing, TooMuch) as error:
+        names = {mend.NotWritten: "NotWritten", TooMuch: "TooMuch", programs.TooSlow: "TooSlow", programs.Missing: "NeedsExifTool"}
+        problem = names.get(type(error), "ToolFailed")
         line = f"{shown_path(picture)}: {shown_path(out)} isn't written: {error}"
         output(arguments, [line], {**path_members(picture), "problem": problem, "detail": str(error)})
-        return FAILURE
+        return FAILURE if isinstance(error, mend.NotWritten) else UNKNOWN
     output(arguments, _mended_lines(picture, found), _mended_members(picture, found))
-    return FAILURE if found.problem else UNKNOWN if found.step == mend.NONE else DIFFERENCE if found.lost else SUCCESS
+    return UNKNOWN if found.problem or found.step == mend.NONE else DIFFERENCE if found.lost else SUCCESS
 
 
 def _pairs(arguments: argparse.Namespace) -> Iterator[Tuple[bytes, bytes]]:
@@ -47,11 +49,21 @@ def _pairs(arguments: argparse.Namespace) -> Iterator[Tuple[bytes, bytes]]:
         if len(names) != 1 or not os.path.isdir(names[0]):
             parser().error("mend: with --files-from give the folder OUT alone, which must be there")
         for it in from_list(arguments) or []:
-            yield it, os.path.join(names[0], os.path.basename(it))
+            yield it, os.path.join(names[0], _below(it))
     elif len(names) != 2:
         parser().error("mend: give PICTURE and OUT")
     else:
         yield names[0], names[1]
+
+
+def _below(name: bytes) -> bytes:
+    """The name of a copy below the folder OUT, with the folders of the picture, as `cp --parents` has it.
+
+    >>> _below(b"a/./b.jpg"), _below(b"/a/b.jpg")
+    (b'a/b.jpg', b'a/b.jpg')
+    """
+    plain = os.path.normpath(name)
+    return (os.path.abspath(name) if plain.startswith(b"..") else plain).lstrip(b"/")
 
 
 def _mended_lines(picture: bytes, found: mend.Mended) -> List[str]:
@@ -59,7 +71,7 @@ def _mended_lines(picture: bytes, found: mend.Mended) -> List[str]:
     if found.problem:
         return [f"{name}: {found.problem}"]
     before = "; ".join(f"{name} {line}" for name, line in found.before.items())
-    lines = [f"{name}: {before + ': ' if before else ''}{mend.STEP_WORDS[found.step]}"]
+    lines = [f"{name}: {before + ': ' if before else ''}{mend.STEP_WORDS[found.step]}" + (f": {steps.words(found.repairs)}" if found.repairs else "")]
     if found.step not in (mend.NONE, mend.COPY):
         lines.append(f"  {len(found.lost)} printed values lost or changed")
         lines += [f"  - {it}" for it in found.lost] + [f"  + {it}" for it in found.gained]
@@ -68,4 +80,5 @@ def _mended_lines(picture: bytes, found: mend.Mended) -> List[str]:
 
 def _mended_members(picture: bytes, found: mend.Mended) -> Members:
     known = {"step": found.step, "before": found.before, "lost": found.lost, "gained": found.gained}
-    return {**path_members(picture), **known, **({"problem": found.problem} if found.problem else {})}
+    repaired = [it._asdict() for it in found.repairs]
+    return {**path_members(picture), **known, "repairs": repaired, **({"problem": found.problem} if found.problem else {})}

@@ -8,11 +8,13 @@ from __future__ import annotations
 import argparse
 import json
 import os
+import re
 from types import TracebackType
 from typing import Any, Dict, List, Optional, Sequence, Union
 
 from ..catalogue.records import WORDS, Block, PictureRecord
 from ..compare.verdicts import ACCEPTED
+from ..refusals.steps import loses, words
 
 Members = Dict[str, Any]  # of a JSON object
 
@@ -28,6 +30,22 @@ def escaped(text: str) -> str:
     if text.isascii() and text.isprintable() and "\\" not in text:
         return text
     return "".join(_escaped_character(it) for it in text)
+
+
+def safe(text: str) -> str:
+    r"""The text without control characters and others that aren't printable; a text that was escaped before stays as it is.
+
+    >>> safe("a\n\x9b\u202e")
+    'a\\n\\u009b\\u202e'
+    """
+    if text.isprintable():
+        return text
+    return "".join([it if it == "\\" else _escaped_character(it) for it in text])
+
+
+def print_line(text: str) -> None:
+    """Prints a line, without the control characters that a name or a picture may contain."""
+    print(safe(text))
 
 
 _SHORT = {"\n": "\\n", "\r": "\\r", "\t": "\\t", "\\": "\\\\"}
@@ -86,7 +104,11 @@ def output(arguments: argparse.Namespace, lines: Sequence[str], members: Members
         print(json.dumps(members))
     else:
         for line in lines:
-            print(line)
+            print_line(line)
+
+
+# What ExifTool says of a file that is no picture, but may have been one
+DAMAGED = {"File is empty": "the file is empty", "Entire file is binary zeros": "the file has only zeros"}
 
 
 def record_lines(it: PictureRecord) -> List[str]:
@@ -98,8 +120,8 @@ def record_lines(it: PictureRecord) -> List[str]:
     if it.problem and it.problem != "NoPicture":
         lines.append(f"{name}: {it.problem}: {it.detail}")
     lines += [f"{name}: {one.name}: {refused_line(one)}" for one in it.blocks if one.status != ACCEPTED]
-    if it.not_read:
-        lines.append(f"{name}: not wholly read: {', '.join(one.what for one in it.not_read)}")
+    if it.problem == "NoPicture" and it.detail in DAMAGED:
+        lines.append(f"{name}: NoPicture: {DAMAGED[it.detail]}")
     return lines
 
 
@@ -110,7 +132,19 @@ def closed_folder(it: PictureRecord) -> List[str]:
 
 def refused_line(it: Block) -> str:
     """A block that isn't accepted, in a line."""
-    return "failed: OutOfMemory" if it.cause == "OutOfMemory" else f"refused: {it.refusal}"
+    if it.repair:
+        lost = " and ".join(loses(it.steps))
+        return f"refused: {it.refusal}; read after repair: {words(it.steps)}" + (f" (loses {lost})" if lost else "")
+    return "failed: OutOfMemory" if it.cause == "OutOfMemory" else f"{it.status}: {it.refusal}"
+
+
+def kind_of_part(what: str) -> str:
+    """A part that was not read without the numbers that differ from picture to picture.
+
+    >>> kind_of_part("1,024 bytes that only the MakerNote can reach"), kind_of_part("trailer of 12 bytes"), kind_of_part("x (at 12)")
+    ('bytes that only the MakerNote can reach', 'trailer', 'x')
+    """
+    return re.sub(r" of [\d,]+ bytes| \(.*?\)|^[\d,]+ (?=byte)", "", what).replace("byte that", "bytes that")
 
 
 def record_json(it: PictureRecord) -> List[str]:

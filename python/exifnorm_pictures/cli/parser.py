@@ -8,16 +8,18 @@ from typing import IO, Callable, NoReturn, Optional, Tuple
 
 from ..catalogue.records import KIND_OF
 from .exit_codes import USAGE
+from .output import safe
 
 SECONDS = 60.0  # that a program may take for one file
 
 _STATUSES = """Statuses:
-  0    success (index: also if pictures are refused, which the catalogue records)
-  1    different (changed: something differs, was moved or is missing; mend: the copy differs in a printed value)
-  2    not comparable (changed, show, captions, explain: a block is refused or unreadable; changed: a part of a picture
-       wasn't read; mend: no remedy worked)
-  3    bad arguments
-  4    a file, a folder, a program, a stream or the catalogue failed; the other pictures were still looked at
+  0    done, or the same (index: also if pictures are refused, which the catalogue records)
+  1    different (changed: something differs, also after repair, was moved or is missing; mend: the copy differs in a printed value)
+  2    it can't be decided wholly (changed, show, captions, explain: a block is refused or unreadable, or a picture or a part
+       wasn't read; changed: the same only after a repair, or but for a MakerNote; index: a picture that should be readable isn't,
+       or a program failed at it; mend: no remedy worked, or the picture wasn't read)
+  3    bad arguments, or names that lead to nothing
+  4    the command itself failed: the catalogue, a stream, an output file, the disk or the memory
   130  stopped by the keyboard; reported results are kept, and the same command continues from there
 If several apply, the status is the greatest of them. SIGTERM and SIGHUP end the command by that signal.
 
@@ -34,7 +36,7 @@ class _Parser(argparse.ArgumentParser):
 
     def error(self, message: str) -> NoReturn:
         self.print_usage(sys.stderr)
-        self.exit(USAGE, f"{self.prog}: {message}\n")
+        self.exit(USAGE, f"{self.prog}: {safe(message)}\n")
 
     def exit(self, status: int = 0, message: Optional[str] = None) -> NoReturn:
         """Ends with this status. It flushes the output of --help before, so that a failed write is reported."""
@@ -130,6 +132,7 @@ def _index_arguments(it: argparse.ArgumentParser) -> None:
     it.add_argument("--catalogue", required=True, type=_name, metavar="FILE", help="the catalogue; created if it is missing")
     it.add_argument("--keep-old", type=_name, metavar="OLD", help="first copy the catalogue to OLD, for changed and report --since")
     it.add_argument("--again", action="store_true", help="look at all pictures, even if they haven't changed")
+    it.add_argument("--maker-notes", action="store_true", help="also keep what ExifTool reads of MakerNotes, so that changed needs no earlier files")
     it.add_argument("--scheduler", metavar="tcp://HOST:PORT", help="look at the pictures on the workers of this Dask cluster")
     it.add_argument("--elsewhere", type=_name, metavar="PATH", help="the path of FOLDER on the workers")
     _many_arguments(it)
@@ -143,12 +146,20 @@ def _merge_arguments(it: argparse.ArgumentParser) -> None:
 def _same_arguments(it: argparse.ArgumentParser) -> None:
     it.add_argument("--catalogue", required=True, type=_name, metavar="FILE")
     it.add_argument("--kind", choices=("all", *KIND_OF), default="all", help="the blocks that must mean the same (all)")
+    it.add_argument("--no-look", action="store_true", help="don't look at the files, as for a catalogue from elsewhere")
+
+
+def _forget_arguments(it: argparse.ArgumentParser) -> None:
+    it.add_argument("folders", nargs="*", type=_name, metavar="FOLDER", help="a folder, with all below it, or a picture; it need not be there")
+    it.add_argument("--catalogue", required=True, type=_name, metavar="FILE")
 
 
 def _changed_arguments(it: argparse.ArgumentParser) -> None:
     it.add_argument("before", type=_name, metavar="BEFORE", help="a catalogue or a folder")
     it.add_argument("after", type=_name, metavar="AFTER", help="a catalogue or a folder")
     it.add_argument("--all", action="store_true", help="also list pictures that mean the same, or are refused in the same bytes")
+    it.add_argument("--each", action="store_true", help="also list each value of a MakerNote that ExifTool reads otherwise")
+    it.add_argument("--no-exiftool", action="store_true", help="don't ask ExifTool whether MakerNotes that differ or have moved read the same")
     _many_arguments(it)
 
 
@@ -163,6 +174,7 @@ def _report_arguments(it: argparse.ArgumentParser) -> None:
     it.add_argument("--since", type=_name, metavar="OLD", help="an older catalogue: also list the changes")
     it.add_argument("--html", type=_name, metavar="PAGE", help="the page to write")
     it.add_argument("--title", default="Pictures and their metadata", help="the page's title")
+    it.add_argument("--no-look", action="store_true", help="don't look at the files, as for a catalogue from elsewhere")
     _limit_arguments(it)
 
 
@@ -175,6 +187,7 @@ def _mend_arguments(it: argparse.ArgumentParser) -> None:
 _COMMANDS: Tuple[Tuple[str, str, Callable[[argparse.ArgumentParser], None]], ...] = (
     ("index", "look at all new and changed pictures, and keep their metadata in a catalogue", _index_arguments),
     ("merge", "join catalogues of several folders or machines", _merge_arguments),
+    ("forget", "remove folders or pictures from a catalogue", _forget_arguments),
     ("same", "list groups of pictures that mean the same", _same_arguments),
     ("changed", "list the differences between two catalogues or folders, with the fields", _changed_arguments),
     ("show", "print the fields of pictures", _pictures_arguments),

@@ -26,7 +26,7 @@ def run(arguments: argparse.Namespace) -> int:
         catalogue = open_.enter_context(Catalogue(arguments.catalogue))
         old = open_.enter_context(Catalogue(arguments.since)) if arguments.since else None
         room = open_.enter_context(tempdir.room())
-        about = contents.About(catalogue, old, chosen)
+        about = contents.About(catalogue, old, chosen, not arguments.no_look)
         if arguments.html:
             programs.set_limit(arguments.limit)
             exiftool.begin(room)

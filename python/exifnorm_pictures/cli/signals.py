@@ -10,6 +10,7 @@ from types import FrameType
 from typing import IO, Iterator, List, Optional, Set
 
 from .exit_codes import FAILURE
+from .output import safe
 
 SIGNALS = (signal.SIGTERM, signal.SIGHUP)
 
@@ -32,10 +33,29 @@ class ClosedOutput(Failure):
     """Standard output is closed, so nothing can be printed."""
 
 
+_stopped: Optional[BaseException] = None  # what the last signal raised
+
+
+def go_on_stopping() -> None:
+    """Raises again what a signal raised in a function that SQLite called, which passes no exception on."""
+    global _stopped
+    again, _stopped = _stopped, None
+    if again is not None:
+        raise again
+
+
+def _interrupt(number: int, _: Optional[FrameType]) -> None:
+    global _stopped
+    _stopped = KeyboardInterrupt()
+    raise _stopped
+
+
 def _stop(number: int, _: Optional[FrameType]) -> None:
     for it in SIGNALS:
         signal.signal(it, signal.SIG_IGN)  # the run is cleaning up
-    raise Stopped(number)
+    global _stopped
+    _stopped = Stopped(number)
+    raise _stopped
 
 
 def heed_signals() -> None:
@@ -43,6 +63,8 @@ def heed_signals() -> None:
     for it in SIGNALS:
         if signal.getsignal(it) == signal.SIG_DFL:
             signal.signal(it, _stop)
+    if signal.getsignal(signal.SIGINT) == signal.default_int_handler:
+        signal.signal(signal.SIGINT, _interrupt)
 
 
 @contextlib.contextmanager
@@ -113,12 +135,14 @@ def trace(error: BaseException) -> None:
     if _debug:
         import traceback
 
-        say("".join(traceback.format_exception(type(error), error, error.__traceback__)).rstrip())
+        for text in traceback.format_exception(type(error), error, error.__traceback__):
+            for line in text.rstrip("\n").split("\n"):
+                say(line)
 
 
 def say(text: str) -> None:
     """Writes a line to standard error, as far as that can be written to."""
     try:
-        print(text, file=sys.stderr, flush=True)
+        print(safe(text), file=sys.stderr, flush=True)
     except OSError:
         drop(sys.stderr)

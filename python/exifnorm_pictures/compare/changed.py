@@ -9,24 +9,34 @@ import heapq
 import sqlite3
 from collections import Counter
 from dataclasses import dataclass, field
-from typing import Dict, Iterable, Iterator, List, Optional, Set, Tuple
+from typing import TYPE_CHECKING, Dict, Iterable, Iterator, List, Optional, Set, Tuple
 
-from ..catalogue.records import Block
+from ..catalogue.records import Block, Picture
 from ..catalogue.store import Catalogue
 from ..extract.formats.found import EXIF, NAMES, OWN, PROGRAMS
 from ..fields.listing import Change, changes, only_maker_note
+from ..refusals import steps
+from ..refusals.steps import Step
 from .pairs import AFTER, BEFORE, Pair, Pairs
 from .verdicts import (
-    ACCEPTED, DIFFERENT, NOT_WHOLLY_READ, REFUSED, SAME, UNREADABLE, Verdict, left_open, result, sentence, verdicts,
+    ACCEPTED, DIFFERENT, DIFFERENT_REPAIRED, MOVED_NOTE, NOT_WHOLLY_READ, ONLY_REACHED, REACHED, REFUSED, SAME, SAME_REPAIRED, UNREADABLE,
+    Verdict, left_open, result, sentence, verdicts,
 )  # fmt: skip
 
 ONLY_MAKER_NOTE = "only MakerNote differs"
 REFUSED_SAME, UNREADABLE_SAME = f"{REFUSED}, the same bytes", f"{UNREADABLE}, the same bytes"
+if TYPE_CHECKING:
+    from .maker_notes import Difference
+
 MISSING_BEFORE, MISSING_AFTER, MOVED, NOT_READ = "missing before", "missing after", "moved", "not read"
-DIFFERENCES = (DIFFERENT, ONLY_MAKER_NOTE, MOVED, MISSING_BEFORE, MISSING_AFTER)
-OPEN = (REFUSED, UNREADABLE, NOT_WHOLLY_READ)  # the result is unknown
-UNCHANGED = (SAME, REFUSED_SAME, UNREADABLE_SAME)  # nothing is reported to differ
-RESULTS = (SAME, *DIFFERENCES, REFUSED, REFUSED_SAME, UNREADABLE, UNREADABLE_SAME, NOT_WHOLLY_READ, NOT_READ)
+FILE_SAME, FILE_DIFFERENT = "not read, the same bytes", "not read, different bytes"
+DIFFERENCES = (DIFFERENT, DIFFERENT_REPAIRED, ONLY_MAKER_NOTE, FILE_DIFFERENT, MOVED, MISSING_BEFORE, MISSING_AFTER)
+OPEN = (MOVED_NOTE, SAME_REPAIRED, ONLY_REACHED, REFUSED, UNREADABLE, NOT_WHOLLY_READ, NOT_READ)  # it isn't wholly decided
+UNCHANGED = (SAME, REFUSED_SAME, UNREADABLE_SAME, FILE_SAME)  # nothing is reported to differ
+RESULTS = (
+    SAME, MOVED_NOTE, SAME_REPAIRED, *DIFFERENCES, ONLY_REACHED, REFUSED, REFUSED_SAME, UNREADABLE, UNREADABLE_SAME, NOT_WHOLLY_READ,
+    FILE_SAME, NOT_READ,
+)  # fmt: skip
 
 
 @dataclass
@@ -39,19 +49,28 @@ class Compared:
     changes: List[Change] = field(default_factory=list)
     verdicts: List[Verdict] = field(default_factory=list)
     moved_to: Optional[bytes] = None
+    maker_note: Optional[List[Difference]] = None  # the values that ExifTool reads otherwise, if it was asked
+    repairs: List[Tuple[str, Tuple[Step, ...], Tuple[Step, ...]]] = field(default_factory=list)  # of each block, before and after
 
 
 def changed(
-    before: Catalogue, after: Catalogue, counts: "Counter[str]", only: Optional[Set[bytes]] = None, every: bool = False
+    before: Catalogue,
+    after: Catalogue,
+    counts: "Counter[str]",
+    only: Optional[Set[bytes]] = None,
+    every: bool = False,
+    each: bool = False,
+    ask: bool = True,
 ) -> Iterator[Compared]:
     """Compares each picture of two catalogues, in the order of their names, or only some pictures, by name or by path.
 
-    Those that are the same are only counted, unless `every` is set. In the end `counts` has the number of each result.
+    Those that are the same are only counted, unless `every` is set. With `each` the changes have each value of a MakerNote that reads
+    otherwise; `ask` asks ExifTool for them. In the end `counts` has the number of each result.
     """
     with contextlib.closing(Pairs(before, after, only)) as pairs:
         there = 0
         came = (Compared(name, MISSING_BEFORE) for name in pairs.came())
-        for it in heapq.merge((_compared(pair, pairs) for pair in pairs.differing(every)), came, key=lambda one: one.name):
+        for it in heapq.merge((_compared(pair, pairs, each, ask) for pair in pairs.differing(every)), came, key=lambda one: one.name):
             there += it.result != MISSING_BEFORE
             counts[it.result] += 1
             yield it
@@ -59,27 +78,95 @@ def changed(
             counts[SAME] += pairs.count() - there
 
 
-def _compared(pair: Pair, pairs: Pairs) -> Compared:
+def _compared(pair: Pair, pairs: Pairs, each: bool, ask: bool) -> Compared:
     name, one, other, place = pair
     if one is None or other is None:
         return Compared(name, MISSING_AFTER) if place is None else Compared(name, MOVED, moved_to=place)
     if one.problem or other.problem:
-        if one.problem == other.problem == "NoPicture":
-            return Compared(name, SAME, "no picture")
-        notes = [f"{word}: {it.problem}" for word, it in (("before", one), ("after", other)) if it.problem]
-        return Compared(name, NOT_READ, ", ".join(notes))
+        return _unread(name, one, other)
     found = verdicts(one.sides(), other.sides())
     parts: List[str] = []
     if one.unread is None or one.unread != other.unread:
         parts = left_open(pairs.not_read(BEFORE, one), pairs.not_read(AFTER, other))
-    it = Compared(name, result(found, parts), _sentence(tuple(found), tuple(parts)), [], found)
-    looked_at = any(one.result in (DIFFERENT, REFUSED, UNREADABLE) for one in found)
+    it = Compared(name, result(found, parts), "", [], found)
+    looked_at = any(one.result in (DIFFERENT, REFUSED, UNREADABLE, SAME_REPAIRED, DIFFERENT_REPAIRED) for one in found)
     if looked_at or not one.extractor == other.extractor == OWN:
         blocks = [pairs.blocks(BEFORE, one), pairs.blocks(AFTER, other)]
         it.note += _extracted(block for side in blocks for block, _ in side)
         if looked_at:
             _add_details(it, blocks, pairs)
+    parts = _judge_maker_notes(it, one, other, pairs, parts, each, ask)
+    it.note = _sentence(tuple(it.verdicts), tuple(parts)) + it.note
     return it
+
+
+def _unread(name: bytes, one: Picture, other: Picture) -> Compared:
+    """Two files of which one or both were not read: their bytes are compared, if they are known."""
+    words = {"NoPicture": "no picture"}
+    if one.problem and one.problem == other.problem:
+        word = words.get(one.problem, one.problem)
+        if one.file and other.file:
+            return Compared(name, FILE_SAME if one.file == other.file else FILE_DIFFERENT, word)
+        return Compared(name, FILE_DIFFERENT if one.size != other.size else NOT_READ, word)
+    notes = [f"{word}: {it.problem}" for word, it in (("before", one), ("after", other)) if it.problem]
+    return Compared(name, NOT_READ, ", ".join(notes))
+
+
+def _judge_maker_notes(it: Compared, one: Picture, other: Picture, pairs: Pairs, parts: List[str], each: bool, ask: bool) -> List[str]:
+    """Asks ExifTool where the bytes or the place of a MakerNote differ, or the bytes that only it can reach. Returns the parts that stay open."""
+    lines = [change for change in it.changes if change.name.endswith(_MAKER_NOTE) and change.before and change.after]
+    both = bool(one.maker_notes and other.maker_notes)
+    moved = both and one.maker_notes != other.maker_notes
+    reached = [part for part in parts if part.endswith(REACHED)] if both else []
+    rewritten = both and one.octets[0] != other.octets[0]  # then what the MakerNote leads to may be gone or have changed
+    if not (lines or moved or reached or rewritten) or it.result == REFUSED_SAME:
+        return parts
+    from . import maker_notes  # which is seldom needed
+
+    found = maker_notes.compared(pairs.catalogues[BEFORE], one, pairs.catalogues[AFTER], other) if ask else None
+    if found is None:
+        gone = [word for word, picture in (("earlier", one), ("later", other)) if ask and not maker_notes.is_there(picture)]
+        if gone:
+            said = f"differs in bytes, the {' and the '.join(gone)} picture {'is' if len(gone) == 1 else 'are'} gone or changed"
+            it.changes = [change._replace(said=said) if change in lines else change for change in it.changes]
+        if moved and not lines:
+            parts = [*parts, "a MakerNote that has moved, for which ExifTool and both files are needed"]
+            it.result = result(it.verdicts, parts)
+        return parts
+    it.maker_note = found
+    if found:
+        _read_otherwise(it, lines, moved, each)
+        return parts
+    if not moved:  # an edit in place: ExifTool may overlook it, since it corrects some MakerNotes before it reads them
+        it.note += "; MakerNote reads the same (ExifTool)" if lines or reached else ""
+        it.changes = [change._replace(said="differs in bytes, reads the same (ExifTool)") if change in lines else change for change in it.changes]
+        return parts
+    it.note += "; MakerNote moved, reads the same (ExifTool)"
+    it.changes = [change for change in it.changes if change not in lines]
+    if not any(change.name.rpartition(": ")[2].partition(":")[0] in _OF_EXIF for change in it.changes):
+        plain = [verdict.kind == EXIF and verdict.result in (SAME, DIFFERENT, DIFFERENT_REPAIRED) for verdict in it.verdicts]
+        it.verdicts = [Verdict(EXIF, MOVED_NOTE) if is_exif else verdict for verdict, is_exif in zip(it.verdicts, plain)]
+    parts = [part for part in parts if part not in reached]
+    it.result = result(it.verdicts, parts)
+    return parts
+
+
+def _read_otherwise(it: Compared, lines: List[Change], moved: bool, each: bool) -> None:
+    """One line for all values of MakerNotes that ExifTool reads otherwise; with `each` each value too."""
+    found = it.maker_note or []
+    said = f"{'has moved, and ' if moved else ''}now reads otherwise: {len(found)} value{'s' * (len(found) > 1)}"
+    change = lines[0] if lines else Change(_MAKER_NOTE, None, None)
+    at = it.changes.index(change) if lines else len(it.changes)
+    it.changes[at : at + bool(lines)] = [change._replace(said=said)]
+    if each:
+        it.changes += [Change(f"{_MAKER_NOTE} {value.name}", value.before, value.after) for value in found]
+    if not any(verdict.result in (DIFFERENT, DIFFERENT_REPAIRED) for verdict in it.verdicts):
+        it.result = DIFFERENT
+    it.note += f"; MakerNote {said} (ExifTool)"
+
+
+_OF_EXIF = ("main", "exif", "interop", "gps", "thumb")
+_MAKER_NOTE = "exif:MakerNote"
 
 
 _sentence = functools.lru_cache(maxsize=1000)(sentence)  # an archive's pictures have few different ones
@@ -100,19 +187,46 @@ def _add_details(it: Compared, blocks: List[List[Packed]], pairs: Pairs) -> None
     maker_note = [verdict.kind for verdict in it.verdicts if verdict.result == DIFFERENT] == [EXIF]
     for key in dict.fromkeys([*first, *second]):
         (one, mine), (other, its) = first.get(key, _NONE), second.get(key, _NONE)
-        if all(block is None or block.status == ACCEPTED for block in (one, other)):
-            if one and other and one.digest == other.digest:
+        if all(block is None or block.status == ACCEPTED or block.repair for block in (one, other)):
+            it.note += _repairs_of(it, key[1], one, other)
+            if one and other and one.digest == other.digest and (one.digest or one.octets == other.octets):
                 continue
             fields = pairs.fields(BEFORE, mine), pairs.fields(AFTER, its)
             maker_note = maker_note and bool(one and other) and only_maker_note(*fields)
             head = "" if key[1] == NAMES[key[0]] else f"{key[1]}: "
             it.changes += [Change(head + change.name, change.before, change.after) for change in changes(*fields)]
-        it.note += _report_of(key[1], one, other)
+        if not any(block and block.repair for block in (one, other)):
+            it.note += _report_of(key[1], one, other)
     if it.result == DIFFERENT and maker_note:
         it.result = ONLY_MAKER_NOTE
 
 
 _NONE: Tuple[None, None] = (None, None)
+
+
+def _repairs_of(it: Compared, name: str, one: Optional[Block], other: Optional[Block]) -> str:
+    """Why a block is refused, and by which repairs its fields are read."""
+    first, second = (block.steps if block else () for block in (one, other))
+    if not first and not second:
+        return ""
+    if one and other and one.octets == other.octets:
+        return f"; {name}: {one.refusal}"
+    it.repairs.append((name, first, second))
+    said = [_repair_of(block) for block in (one, other)]
+    if said[0] == said[1]:
+        text = f"; {name}: {said[0]}"
+    else:
+        text = "; " + "; ".join(f"{name} {word}: {text}" for word, text in zip(("before", "after"), said))
+    lost = list(dict.fromkeys(steps.loses(first) + steps.loses(second)))
+    return text + (f" (the repair loses {' and '.join(lost)}, so nothing is called the same by it)" if lost else "")
+
+
+def _repair_of(block: Optional[Block]) -> str:
+    if block is None:
+        return "none"
+    if not block.repair:
+        return block.status if block.status == ACCEPTED else f"{block.status}, {block.refusal}"
+    return f"{block.status}, {block.refusal}, read after repair: {steps.words(block.steps)}"
 
 
 def _report_of(name: str, one: Optional[Block], other: Optional[Block]) -> str:

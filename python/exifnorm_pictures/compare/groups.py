@@ -1,98 +1,285 @@
-"""`same`: the groups of pictures that mean the same. SQLite finds them, so memory doesn't grow with the catalogue."""
+"""`same`: the groups of pictures that are the same. SQLite finds them, and the files of a group are looked at before it is returned.
+
+So a picture that is gone, that has changed, or that is a further name of another one is never the reason for a group. Groups are of four
+kinds, by what they rest on, in this order. A picture can be in groups of several kinds. A later group has only one picture of each earlier
+one, so whoever keeps any one picture of each group loses nothing.
+"""
 
 from __future__ import annotations
 
-from dataclasses import dataclass
-from typing import Callable, Dict, Iterator, List, Optional, Sequence, Tuple
+import os
+from dataclasses import dataclass, field
+from typing import Dict, Iterator, List, NamedTuple, Optional, Sequence, Tuple
 
-from ..catalogue.records import KINDS, WORDS, has
-from ..catalogue.store import Catalogue, Made
+from ..catalogue.records import KINDS, NOT_THERE, WORDS, Picture, Stamp, has, is_marked_as, picture_of_row
+from ..catalogue.store import PICTURE_COLUMNS, Catalogue
+from ..extract.formats.found import EXIF, NAMES
+from ..refusals import steps
 from .verdicts import SAME, clause, none_of
+
+MEANING, BYTES, MAKER_NOTE, REPAIR = "meaning", "bytes", "maker note", "repair"
+BASES = (MEANING, BYTES, MAKER_NOTE, REPAIR)
+
+
+class Link(NamedTuple):
+    """A further name of a picture."""
+
+    path: bytes
+    of: bytes
+    how: str = "the same file by another name"
+
+    @classmethod
+    def to(cls, path: bytes, of: bytes) -> "Link":
+        """A further name, looked at."""
+        if os.path.islink(path):
+            return cls(path, of, "a symbolic link to it")
+        if os.path.realpath(path) == os.path.realpath(of):
+            return cls(path, of, "the same file through a linked folder; to delete it deletes the picture")
+        return cls(path, of, "a hard link to it")
 
 
 @dataclass
 class Group:
-    """Pictures whose blocks of the requested kinds mean the same, and whose unread parts don't differ."""
+    """Pictures of which the same is true."""
 
-    catalogue: Catalogue
+    basis: str
     kinds: Tuple[str, ...]
-    digests: Dict[str, str]  # by kind, for the kinds that they have
-    unread: str  # the digest of the parts that were not read; empty: all was read
-    count: int
-    only: Optional[str] = None
+    members: List[Picture]  # different files that are there as they were looked at
+    links: List[Link] = field(default_factory=list)
+    gone: List[bytes] = field(default_factory=list)
+    changed: List[bytes] = field(default_factory=list)
+    reasons: Dict[int, str] = field(default_factory=dict)  # the refusals or repairs of a member, by its number
+    others: Dict[int, int] = field(default_factory=dict)  # how many more pictures an earlier group has, of which this member is one
+    not_read: str = ""  # the parts that were not read, and have the same bytes
+    note: str = ""
 
-    def _rows(self, made: Callable[..., Made], columns: str, more: str = "") -> Iterator[Made]:
-        terms = [f"{WORDS[it]} = ?" for it in self.kinds] + [f"path IN {self.only}"] * bool(self.only)
-        values = [self.digests.get(it, "") for it in self.kinds] + [self.unread]
-        where = " AND ".join(["problem IS NULL", *terms[: len(self.kinds)], "not_read = ?", *terms[len(self.kinds) :]])
-        return self.catalogue.rows(f"SELECT {columns} FROM pictures WHERE {where} {more}", values, made)
+    @property
+    def count(self) -> int:
+        """How many pictures are listed."""
+        return len(self.members)
 
-    def pictures(self, most: int = -1) -> Iterator[bytes]:
-        """Each picture of the group, or the first ones, by path."""
-        return self._rows(_path, "path", f"ORDER BY path LIMIT {most}")
+    @property
+    def digests(self) -> Dict[str, str]:
+        """The digest of each kind that they have, as far as it is known."""
+        first, found = self.members[0], {}
+        for kind, digest in zip(KINDS, first.said):
+            if kind in self.kinds and digest != "":
+                found[kind] = digest or (first.repaired if kind == EXIF and self.basis == REPAIR else "") or ""
+        return found
 
     @property
     def same_bytes(self) -> bool:
         """Whether their blocks are the same byte for byte."""
-        columns = (f"{WORDS[it]}_octets" for it in self.kinds)
-        return all(next(self._rows(tuple, ", ".join(f"min({it}) = max({it})" for it in columns))))
+        at = [KINDS.index(it) for it in self.kinds]
+        return len({tuple(it.octets[number] for number in at) for it in self.members}) == 1
+
+    def pictures(self, most: int = -1) -> Iterator[bytes]:
+        """Each picture of the group, or the first ones, by path."""
+        return (it.path for it in (self.members if most < 0 else self.members[:most]))
 
     def sentence(self) -> str:
-        """The kinds that were compared, such as `Exif and IPTC are the same in the same bytes, no XMP`."""
-        there = [it for it in self.kinds if it in self.digests]
-        absent = [it for it in self.kinds if it not in self.digests]
-        words = ", ".join([clause(there, SAME, self.same_bytes), *none_of(absent)])
-        if self.unread:
-            what = next(self._rows(tuple, "(SELECT group_concat(what, ', ') FROM not_read WHERE picture = pictures.id)", "LIMIT 1"))[0]
-            words += f"; not read, but the same bytes: {what}"
-        return words
+        """What is the same, such as `Exif and IPTC are the same in the same bytes, no XMP`."""
+        first = self.members[0]
+        if first.file:
+            return f"the files are the same byte for byte, and not read ({first.problem or self.not_read})"
+        by_kind = dict(zip(KINDS, first.said))
+        refused = [it for it in self.kinds if any(picture.said[KINDS.index(it)] is None for picture in self.members)]
+        there = [it for it in self.kinds if by_kind[it] != "" and it not in refused]
+        parts = [clause(there, SAME, self.same_bytes)] if there else []
+        for it in refused:
+            word = "unreadable" if WORDS[it] == "xmp" else "refused"
+            parts.append(f"{NAMES[it]} is {word}, the same bytes" if self.basis == BYTES else f"{NAMES[it]} is the same after repair")
+        text = ", ".join([*parts, *none_of([it for it in self.kinds if by_kind[it] == ""])])
+        if self.not_read:
+            text += f"; not read, but the same bytes: {self.not_read}"
+        return text + self.note
 
 
-def _path(row: Tuple[bytes]) -> bytes:
-    has(bytes, row[0])
-    return row[0]
+class _Query(NamedTuple):
+    """How SQLite finds the groups of one basis: what is equal, which pictures can be in one, and what must be true of all together."""
+
+    basis: str
+    key: Tuple[str, ...]
+    where: str
+    having: str = "count(*) > 1"
 
 
-def _counted(row: Tuple[int, str, str]) -> Tuple[int, str, List[str]]:
-    """A row `count, not_read`, and a digest of each kind."""
-    count, unread, *digests = row
-    has(str, unread, *digests)
-    return count, unread, digests
-
-
-def _condition(kinds: Sequence[str], only: Optional[str]) -> str:
-    """The pictures that can be in a group: all kinds are known, there is a block, and the unread parts can be compared."""
+def _queries(kinds: Sequence[str], only: Optional[str]) -> Iterator[_Query]:
     columns = [WORDS[it] for it in kinds]
-    terms = ["problem IS NULL", "not_read IS NOT NULL", *(f"{it} IS NOT NULL" for it in columns)]
-    terms.append("(" + " OR ".join(f"{it} != ''" for it in columns) + ")")
-    return " AND ".join(terms + [f"path IN {only}"] * bool(only))
+    chosen = f" AND path IN {only}" if only else ""
+    there = "(" + " OR ".join(f"{it}_octets != ''" for it in columns) + ")"
+    base = f"problem IS NULL AND not_read IS NOT NULL AND {there}"
+    known = " AND ".join(f"{it} IS NOT NULL" for it in columns)
+    place = ("maker_notes",) * (EXIF in kinds)
+    yield _Query(MEANING, (*columns, "not_read", *place), f"{base} AND {known}{chosen}")
+    octets = tuple(f"ifnull({it}, 'bytes ' || {it}_octets)" for it in columns)
+    yield _Query(BYTES, (*octets, "not_read"), f"{base} AND NOT ({known}){chosen}")
+    if len(kinds) == len(KINDS):
+        unread = f"((problem IS NULL AND not_read IS NULL) OR problem NOT IN {NOT_THERE})"
+        yield _Query(BYTES, ("file",), f"file != '' AND {unread}{chosen}")
+    if EXIF in kinds:
+        several = "count(*) > 1 AND count(DISTINCT maker_notes || ' ' || not_read) > 1"
+        yield _Query(MAKER_NOTE, (*columns, "other_not_read"), f"{base} AND {known} AND maker_notes != ''{chosen}", several)
+        repaired = tuple("ifnull(exif, exif_repaired)" if it == "exif" else it for it in columns)
+        after = " AND ".join(f"{it} IS NOT NULL" for it in repaired)
+        several = "count(*) > 1 AND sum(exif IS NULL) > 0 AND count(DISTINCT exif_octets) > 1"
+        yield _Query(REPAIR, (*repaired, "not_read"), f"{base} AND {after}{chosen}", several)
 
 
-def groups(catalogue: Catalogue, kinds: Sequence[str] = KINDS, only: Optional[str] = None, most: int = -1) -> Iterator[Group]:
-    """The groups of two and more pictures that mean the same, the largest first; only the first `most` of them.
+def groups(
+    catalogue: Catalogue, kinds: Sequence[str] = KINDS, only: Optional[str] = None, most: int = -1, look: bool = True
+) -> Iterator[Group]:
+    """The groups of two and more different files, those that rest on meaning first, and the largest first.
 
-    A picture with a refused block of these kinds, with a problem, or without a block of these kinds is in no group.
+    With `look` each file is looked at: those that are gone or have changed are listed apart and don't count.
     """
-    columns = ", ".join(WORDS[it] for it in kinds)
-    query = (
-        f"SELECT count(*), not_read, {columns} FROM pictures WHERE {_condition(kinds, only)}"
-        f" GROUP BY {columns}, not_read HAVING count(*) > 1 ORDER BY 1 DESC, min(path) LIMIT {most}"
-    )
-    for count, unread, found in catalogue.rows(query, (), _counted):
-        said = {kind: digest for kind, digest in zip(kinds, found) if digest}
-        yield Group(catalogue, tuple(kinds), said, unread, count, only)
+    count = 0
+    for query in _queries(kinds, only):
+        key = ", ".join(query.key)
+        heads = f"SELECT {key} FROM pictures WHERE {query.where} GROUP BY {key} HAVING {query.having} ORDER BY count(*) DESC, min(path)"
+        terms = " AND ".join(f"{it} = ?" for it in query.key)
+        # the digests are compared again with those of the rows themselves, because an index of a damaged catalogue can have others
+        own = " AND ".join(f"+({it}) = ?" for it in query.key)
+        ids = f"SELECT id FROM pictures WHERE {query.where} AND {terms}"
+        rows = f"SELECT {PICTURE_COLUMNS}, device FROM pictures WHERE id IN ({ids}) AND {own} ORDER BY +path"
+        for row in catalogue.rows(heads, (), _key):
+            found = list(catalogue.rows(rows, (*row, *row), lambda *it: (picture_of_row(it[0][:-1]), it[0][-1])))
+            for group in _groups_of(catalogue, _there(query.basis, tuple(kinds), found, look), look):
+                yield group
+                count += 1
+                if count == most:
+                    return
+
+
+def _key(row: Tuple[str, ...]) -> Tuple[str, ...]:
+    """What the pictures of a group have in common."""
+    has(str, *row)
+    return row
+
+
+def _there(basis: str, kinds: Tuple[str, ...], found: List[Tuple[Picture, int]], look: bool) -> Group:
+    """The different files of some pictures that are there; the further names of each, and those that are gone or have changed."""
+    group = Group(basis, kinds, [])
+    names: Dict[Tuple[object, ...], List[Picture]] = {}
+    for it, device in found:
+        state, file = _state(it) if look else ("", (device, it.marks[3]))
+        if state:
+            (group.gone if state == "gone" else group.changed).append(it.path)
+            continue
+        names.setdefault(file if file[1] else (it.path,), []).append(it)
+    for same in names.values():
+        first = _real(same) if look and len(same) > 1 else same[0]
+        group.members.append(first)
+        group.links += [Link.to(it.path, first.path) if look else Link(it.path, first.path) for it in same if it is not first]
+    return group
+
+
+def _real(names: List[Picture]) -> Picture:
+    """Of several names of one file one that leads through no symbolic link, if there is one: whoever keeps it keeps the file."""
+    return next((it for it in names if os.path.realpath(it.path) == it.path), names[0])
+
+
+def _state(it: Picture) -> Tuple[str, Tuple[object, ...]]:
+    """`gone`, `changed`, or nothing for a file that is as it was; and what identifies the file."""
+    try:
+        now = os.stat(it.path)
+    except (OSError, ValueError):  # a name that has a NUL
+        return "gone", ()
+    if not is_marked_as(Stamp.of(now), it.marks):
+        return "changed", ()
+    return "", (now.st_dev, now.st_ino)
+
+
+def _groups_of(catalogue: Catalogue, found: Group, look: bool) -> Iterator[Group]:
+    """The groups of some pictures: one, or several where their MakerNotes read differently."""
+    for group in _by_reading(found, look):
+        if group.basis in (MAKER_NOTE, REPAIR):
+            _take_one_of_each(group)
+        if group.count < 2 or (group.basis == REPAIR and all(None not in it.said for it in group.members)):
+            continue
+        first = group.members[0]
+        if first.unread != "" and group.basis != MAKER_NOTE:
+            group.not_read = ", ".join(it.what for it in catalogue.not_read_of(first))
+        for it in group.members if group.basis in (BYTES, REPAIR) else ():
+            group.reasons[it.id] = _reason(catalogue, it, group.basis)
+        yield group
+
+
+def _take_one_of_each(group: Group) -> None:
+    """Leaves in a group one picture of each earlier group, and counts the others."""
+    by_key: Dict[Tuple[object, ...], List[Picture]] = {}
+    at = [KINDS.index(it) for it in group.kinds]
+    for it in group.members:
+        meaning = tuple(it.octets[number] if it.said[number] is None else it.said[number] for number in at)
+        by_key.setdefault((meaning, it.unread, it.maker_notes), []).append(it)
+    group.members = [same[0] for same in by_key.values()]
+    group.others = {same[0].id: len(same) - 1 for same in by_key.values() if len(same) > 1}
+    here = {it.path for it in group.members}
+    group.links = [it for it in group.links if it.of in here]
+
+
+def _by_reading(group: Group, look: bool) -> Iterator[Group]:
+    """The group; a group for each reading of the MakerNotes by ExifTool, where they are at different places or in different bytes."""
+    written: Dict[Tuple[str, str], Picture] = {}
+    for it in group.members:
+        written.setdefault(_note_of(it), it)
+    if len(written) < 2 or EXIF not in group.kinds or group.basis == BYTES or not any(place for place, _ in written):
+        if group.basis != MAKER_NOTE:
+            yield group
+        return
+    from . import maker_notes  # which is seldom needed
+    from ..extract.programs import Failed, Missing
+
+    try:
+        asked = maker_notes.values_of([it.path for it in written.values()]) if look else []
+    except (Failed, Missing):
+        asked = []
+    readings = {note: repr(sorted(values.items())) for note, values in zip(written, asked)}
+    if not readings and group.basis == MAKER_NOTE:
+        return  # nothing is known of notes that have moved
+    by_reading: Dict[str, List[Picture]] = {}
+    for it in group.members:
+        by_reading.setdefault(readings.get(_note_of(it), it.maker_notes), []).append(it)
+    for pictures in by_reading.values():
+        here = {it.path for it in pictures}
+        links = [it for it in group.links if it.of in here]
+        note = _NOTES[len({it.maker_notes for it in pictures}) > 1] if group.basis == MAKER_NOTE else ""
+        yield Group(group.basis, group.kinds, pictures, links, group.gone, group.changed, note=note)
+
+
+_NOTES = (
+    "; bytes that only the MakerNote can reach differ, and it reads the same (ExifTool)",
+    "; the MakerNote has moved, and reads the same (ExifTool)",
+)
+
+
+def _note_of(it: Picture) -> Tuple[str, str]:
+    """What can make a MakerNote read differently: where it is, and the bytes of the blocks."""
+    return (it.maker_notes, it.octets[KINDS.index(EXIF)]) if it.maker_notes else ("", "")
+
+
+def _reason(catalogue: Catalogue, it: Picture, basis: str) -> str:
+    """Why a picture of a group isn't simply accepted: its refusals, or its repairs."""
+    query = "SELECT name, cause, repair FROM blocks WHERE picture = ? AND status != 'accepted' ORDER BY number"
+    found = []
+    for name, cause, repair in catalogue.rows(query, (it.id,)):
+        if basis == REPAIR and repair:
+            found.append(f"{name} repaired in memory: {steps.words(steps.unpacked(repair))}")
+        else:
+            found.append(f"{name} refused: {cause}")
+    return "; ".join(found) or (it.problem or "")
 
 
 def totals(catalogue: Catalogue, kinds: Sequence[str] = KINDS, only: Optional[str] = None) -> Tuple[int, int]:
-    """The number of groups, and of pictures in them."""
-    columns = ", ".join(WORDS[it] for it in kinds)
-    inner = f"SELECT count(*) AS n FROM pictures WHERE {_condition(kinds, only)} GROUP BY {columns}, not_read HAVING n > 1"
+    """The number of groups, and of pictures in them, by the catalogue alone: no file is looked at, and a link counts as a picture."""
+    query = next(_queries(kinds, only))
+    inner = f"SELECT count(*) AS n FROM pictures WHERE {query.where} GROUP BY {', '.join(query.key)} HAVING n > 1"
     found = next(catalogue.rows(f"SELECT count(*), ifnull(sum(n), 0) FROM ({inner})"))
     return int(found[0]), int(found[1])
 
 
 def left_out(catalogue: Catalogue, kinds: Sequence[str] = KINDS, only: Optional[str] = None) -> int:
-    """How many pictures with a block are in no group because a block is refused or a part was neither read nor compared."""
+    """How many pictures with a block can't be in a group by their meaning, because a block is refused or a part was neither read nor compared."""
     columns = [WORDS[it] for it in kinds]
     where = f"problem IS NULL AND (not_read IS NULL OR {' OR '.join(f'{it} IS NULL' for it in columns)})"
     where += f" AND path IN {only}" if only else ""

@@ -52,13 +52,35 @@ class Departed:
             for row in catalogue.rows(query, (run,)):
                 if row[0] in new:
                     self._meet(*row)
+        remounted = list(self._remounted(catalogue, run, new)) if new else []
         if self.went:
             with catalogue.transaction():
                 words = ((f"to {shown_path(to)}", path) for path, to in self.went.items())
                 catalogue.base.executemany("UPDATE pictures SET problem = 'Moved', detail = ? WHERE path = ?", words)
-        for it in gone:
+        for it in [*gone, *remounted]:
             to = self.went.get(it.path)
             yield it if to is None else PictureRecord(it.path, b"", problem="Moved", detail=f"to {shown_path(to)}")
+
+
+    def _remounted(self, catalogue: Catalogue, run: int, new: Collection[bytes]) -> Iterator[PictureRecord]:
+        """The pictures of folders that are gone and whose files are new in this run: a file system that is mounted at another place.
+
+        A folder that is gone may be a disk that isn't mounted, and a new file a copy of one on it. So the time and the inode must be the
+        same, which no copy has.
+        """
+        used = set(self.went.values())
+        for root in catalogue.roots():
+            if os.path.lexists(root):
+                continue
+            for old, path in catalogue.rows(_REMOUNTED, (run, root)):
+                if path in new and path not in used and old not in self.went and not os.path.lexists(old):
+                    used.add(path)
+                    self.went[old] = path
+                    yield PictureRecord(old, b"")
+
+
+_REMOUNTED = """SELECT old.path, new.path FROM pictures AS new JOIN pictures AS old USING (inode, size, modified, exif_octets, iptc_octets, xmp_octets)
+    WHERE new.run = ? AND new.problem IS NULL AND old.root = ? AND old.problem IS NULL AND old.id != new.id ORDER BY old.path"""
 
 
 def best(candidates: Sequence[bytes], name: bytes) -> Optional[bytes]:

@@ -8,8 +8,9 @@ import os
 import sqlite3
 from typing import Callable, Iterator, List, NamedTuple, Optional, Set, Tuple, TypeVar
 
-from ..catalogue.records import Block, Damaged, Picture, block_of_row, not_read_of_row, picture_of_row
-from ..catalogue.store import BLOCK_COLUMNS, PICTURE_COLUMNS, Catalogue, NoCatalogue, address
+from ..catalogue.records import NOT_THERE, Block, Damaged, Picture, block_of_row, not_read_of_row, picture_of_row
+from ..catalogue.store import BLOCK_COLUMNS, PICTURE_COLUMNS, Catalogue, NoCatalogue, address, check_schema, connect
+from ..cli import signals
 from ..extract.formats.found import NotRead
 from ..fields.listing import Field, unpacked
 from .moved import content_key
@@ -29,9 +30,9 @@ PRAGMA main.synchronous = OFF;
 """
 
 # The pairs for which nothing is reported: all kinds are known and mean the same, and what wasn't read is known to be the same.
-_SAME = """(typeof(old.path) = 'blob' AND ((old.problem IS NULL AND new.problem IS NULL AND old.exif = new.exif
-    AND old.iptc = new.iptc AND old.xmp = new.xmp AND old.not_read = new.not_read)
-    OR (old.problem = 'NoPicture' AND new.problem = 'NoPicture'))) IS NOT TRUE"""
+_SAME = """(typeof(old.path) = 'blob' AND old.problem IS NULL AND new.problem IS NULL AND old.exif = new.exif
+    AND old.iptc = new.iptc AND old.xmp = new.xmp AND old.not_read = new.not_read
+    AND (old.exif_octets = new.exif_octets OR old.maker_notes = '' OR new.maker_notes = '')) IS NOT TRUE"""
 
 # The new names of pictures, the surest first: the same file under the same name, the same file, the same blocks under the same name, ..
 _FILE, _CONTENT = "size, modified, inode", "content(size, not_read, exif_octets, iptc_octets, xmp_octets)"
@@ -62,7 +63,7 @@ class Pairs:
         roots = [it.roots() for it in self.catalogues]
         by_root = all(len(it) <= 1 for it in roots)
         self.heads = [(it[0].rstrip(b"/") + b"/" if by_root and it else b"") for it in roots]
-        self.base = sqlite3.connect("", timeout=60, isolation_level=None, uri=True)
+        self.base = connect("")
         try:
             with self._guarded():
                 self._open(only)
@@ -78,6 +79,7 @@ class Pairs:
     def _open(self, only: Optional[Set[bytes]]) -> None:
         for base, it in zip(_BASES, self.catalogues):
             self.base.execute(f"ATTACH ? AS {base}", (address(it.name),))
+            check_schema(self.base, it.name, base)
         self.base.executescript(_TABLES)
         self.base.create_function("last", 1, os.path.basename, deterministic=True)
         self.base.create_function("content", 5, _content, deterministic=True)
@@ -93,6 +95,7 @@ class Pairs:
         except sqlite3.ProgrammingError:
             raise
         except sqlite3.DatabaseError as error:
+            signals.go_on_stopping()
             raise NoCatalogue(f"{self.catalogues[BEFORE].name} or {self.catalogues[AFTER].name}: {error}") from error
 
     # How rows are paired
@@ -204,7 +207,7 @@ class Pairs:
 
 
 def _is_there(alias: str) -> str:
-    return f"({alias}.problem IS NULL OR {alias}.problem NOT IN ('Vanished', 'Moved'))"
+    return f"({alias}.problem IS NULL OR {alias}.problem NOT IN {NOT_THERE})"
 
 
 def _content(size: int, unread: str, *octets: str) -> bytes:

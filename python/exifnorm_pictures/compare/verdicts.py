@@ -8,13 +8,17 @@ from __future__ import annotations
 import hashlib
 from collections import Counter
 from dataclasses import dataclass
-from typing import Dict, Iterable, List, NamedTuple, Protocol, Sequence, Tuple
+from typing import Dict, Iterable, List, NamedTuple, Optional, Protocol, Sequence, Tuple
 
 from ..extract.formats.found import EXIF, IPTC, NAMES, XMP, NotRead
 
 ACCEPTED, REFUSED, UNREADABLE, ABSENT = "accepted", "refused", "unreadable", "absent"
 SAME, DIFFERENT = "same", "different"
+MOVED_NOTE = "the same but for a MakerNote that moved"  # and that ExifTool reads as before
+SAME_REPAIRED, DIFFERENT_REPAIRED = "the same after repair", "different after repair"
 NOT_WHOLLY_READ = "not wholly read"
+ONLY_REACHED = "only bytes that a MakerNote can reach differ"
+REACHED = " that only the MakerNote can reach"  # the end of the name of such bytes
 
 
 class Judged(Protocol):
@@ -40,6 +44,9 @@ class Judged(Protocol):
     def octets(self) -> str:
         ...
 
+    @property
+    def meaning(self) -> Optional[str]: ...
+
 
 class Side(NamedTuple):
     """The blocks of one kind in one picture."""
@@ -47,6 +54,7 @@ class Side(NamedTuple):
     status: str  # ACCEPTED, REFUSED, UNREADABLE or ABSENT
     digest: str = ""  # of their meaning, if all are accepted
     octets: str = ""  # of their bytes
+    repaired: str = ""  # of their meaning after repairs that lose nothing, if one of them is refused
 
 
 def side(kind: str, judged: Iterable[Judged]) -> Side:
@@ -58,16 +66,17 @@ def side_of(ours: Sequence[Judged]) -> Side:
     """The side of a picture for the kind that these blocks have."""
     if not ours:
         return Side(ABSENT)
-    if len(ours) == 1 and ours[0].status == ACCEPTED:  # as of most pictures
+    if len(ours) == 1 and ours[0].status == ACCEPTED and ours[0].name == NAMES[ours[0].kind]:  # as of most pictures
         return Side(ACCEPTED, ours[0].digest or "", ours[0].octets)
     octets = _joined([(it.name, it.octets) for it in ours])
     if any(it.status != ACCEPTED for it in ours):
-        return Side(UNREADABLE if ours[0].kind == XMP else REFUSED, "", octets)
+        repaired = _joined([(it.name, it.meaning or "") for it in ours]) if all(it.meaning for it in ours) else ""
+        return Side(UNREADABLE if ours[0].kind == XMP else REFUSED, "", octets, repaired)
     return Side(ACCEPTED, _joined([(it.name, it.digest or "") for it in ours]), octets)
 
 
 def _joined(named: Sequence[Tuple[str, str]]) -> str:
-    if len(named) == 1:
+    if len(named) == 1 and named[0][0] in NAMES.values():
         return named[0][1]
     return hashlib.sha256("\n".join(f"{name}: {digest}" for name, digest in named).encode("utf-8")).hexdigest()
 
@@ -98,6 +107,8 @@ def verdict(kind: str, one: Side, other: Side) -> Verdict:
     if statuses == {ABSENT}:
         return Verdict(kind, ABSENT)
     same_bytes = one.octets == other.octets
+    if REFUSED in statuses and not same_bytes and all(it.digest or it.repaired or it.status == ABSENT for it in (one, other)):
+        return Verdict(kind, SAME_REPAIRED if (one.digest or one.repaired) == (other.digest or other.repaired) else DIFFERENT_REPAIRED)
     for status in (REFUSED, UNREADABLE):
         if status in statuses:
             return Verdict(kind, status, same_bytes)
@@ -132,7 +143,7 @@ def sentence(found: Sequence[Verdict], open_parts: Sequence[str] = ()) -> str:
     'Exif is the same, XMP is different, no IPTC; not wholly read: second picture'
     """
     parts = []
-    for result in (SAME, DIFFERENT, REFUSED, UNREADABLE):
+    for result in (SAME, MOVED_NOTE, DIFFERENT, SAME_REPAIRED, DIFFERENT_REPAIRED, REFUSED, UNREADABLE):
         for same_bytes in (False, True) if result in (REFUSED, UNREADABLE) else (None,):
             kinds = [it.kind for it in found if it.result == result and same_bytes in (None, it.same_bytes)]
             if kinds:
@@ -159,14 +170,20 @@ def result(found: Sequence[Verdict], open_parts: Sequence[str] = ()) -> str:
 
     >>> result([Verdict(EXIF, SAME), Verdict(XMP, ABSENT)], ["trailer"])
     'not wholly read'
+    >>> result([Verdict(EXIF, SAME)], ["2 bytes that only the MakerNote can reach"])
+    'only bytes that a MakerNote can reach differ'
     """
-    if any(it.result == DIFFERENT for it in found):
-        return DIFFERENT
+    for word in (DIFFERENT, DIFFERENT_REPAIRED):
+        if any(it.result == word for it in found):
+            return word
     for status in (REFUSED, UNREADABLE):
         if any(it.result == status and it.is_open for it in found):
             return status
     if open_parts:
-        return NOT_WHOLLY_READ
+        return ONLY_REACHED if all(it.endswith(REACHED) for it in open_parts) else NOT_WHOLLY_READ
+    for word in (SAME_REPAIRED, MOVED_NOTE):
+        if any(it.result == word for it in found):
+            return word
     for status in (REFUSED, UNREADABLE):
         if any(it.result == status for it in found):
             return f"{status}, the same bytes"

@@ -21,11 +21,10 @@ from typing import Dict, List, Optional, Sequence
 
 from ..files import tempdir
 from . import programs
-from .formats.found import EXIF, EXIFTOOL, EXIV2, IPTC, PROBLEMS, XMP, Blocks, NotRead
+from .budgets import WHOLE_FILE, budget_of
+from .formats.found import EXIF, EXIFTOOL, EXIV2, IPTC, PROBLEMS, UNREAD_TRAILER, XMP, Blocks, NotRead
 from .formats.streams import Stream, digest_of, size_of
 from .programs import Failed
-
-MOST = 16_777_216  # greatest length in bytes of a file that is digested although not everything was requested
 
 _WORDS = ("-EXIF:Exif", "-IPTC:IPTC", "-XMP:XMP", "-FileType#", "-MIMEType#", "-Error#")
 _TAGS = {"EXIF": EXIF, "IPTC": IPTC, "XMP": XMP}
@@ -53,13 +52,13 @@ class Session:
         self.number = 0
         self.process = programs.start(programs.exiftool("-stay_open", "True", "-@", "-"), room, stdin=subprocess.PIPE)
 
-    def ask(self, path: bytes, words: Sequence[str]) -> Dict[str, str]:
-        """The tags of one file for the arguments `words`, each by its copy and name as in `Copy1:IPTC`. Raises `Failed`."""
+    def ask(self, paths: Sequence[bytes], words: Sequence[str], options: Sequence[str]) -> List[Dict[str, str]]:
+        """The tags of some files for the arguments `words`, each by its copy and name as in `Copy1:IPTC`. Raises `Failed`."""
         assert self.process.stdin is not None
         self.number += 1
-        name = self._handed_over(path)
+        names = [self._handed_over(path, number) for number, path in enumerate(paths)]
         done = b"{done %d}\n" % self.number
-        lines = [*(it.encode("ascii") for it in (*_OPTIONS, *words)), name, b"-echo3", done.rstrip(b"\n"), b"-execute", b""]
+        lines = [*(it.encode("ascii") for it in (*options, *words)), *names, b"-echo3", done.rstrip(b"\n"), b"-execute", b""]
         try:
             self.process.stdin.write(b"\n".join(lines))
         except OSError:
@@ -67,15 +66,15 @@ class Session:
         said = programs.read_until(self.process, lambda it: it.endswith(done))
         if not said.endswith(done):
             raise Failed(f"ExifTool ended with status {self._status()} at this file")
-        return _members(said[: -len(done)], name)
+        return _members(said[: -len(done)], names)
 
-    def _handed_over(self, path: bytes) -> bytes:
+    def _handed_over(self, path: bytes, number: int) -> bytes:
         """The path itself if it is plain, otherwise a link to it in this process's folder."""
         whole = os.path.abspath(path)
         if _PLAIN.fullmatch(whole):
             return whole
         extension = _EXTENSION.search(path)
-        link = f"./link{extension[0].decode('ascii') if extension else ''}"
+        link = f"./link{number or ''}{extension[0].decode('ascii') if extension else ''}"
         there = os.path.join(self.room, link)
         with contextlib.suppress(FileNotFoundError):
             os.unlink(there)
@@ -93,22 +92,22 @@ class Session:
         programs.end(self.process)
 
 
-def _members(said: bytes, name: bytes) -> Dict[str, str]:
-    """The one object in an output about this file. Raises `Failed` for anything else."""
+def _members(said: bytes, names: Sequence[bytes]) -> List[Dict[str, str]]:
+    """The object in an output about each file. Raises `Failed` for anything else."""
     if not said.strip():
-        return {}
+        return [{} for _ in names]
     try:
         found = json.loads(said, parse_int=str, parse_float=str)
     except (ValueError, RecursionError):
         raise Failed("ExifTool's answer isn't understood: it is no JSON") from None
-    if not isinstance(found, list) or len(found) != 1 or not isinstance(found[0], dict):
-        raise Failed("ExifTool's answer isn't understood: it isn't one object")
-    answer = found[0]
-    if answer.pop("SourceFile", None) != name.decode("ascii"):
-        raise Failed("ExifTool's answer isn't understood: it is about another file")
-    if not all(isinstance(it, str) for it in answer.values()):
-        raise Failed("ExifTool's answer isn't understood: a value is neither a text nor a number")
-    return answer
+    if not isinstance(found, list) or len(found) != len(names) or not all(isinstance(it, dict) for it in found):
+        raise Failed("ExifTool's answer isn't understood: it isn't one object for each file")
+    for answer, name in zip(found, names):
+        if answer.pop("SourceFile", None) != name.decode("ascii"):
+            raise Failed("ExifTool's answer isn't understood: it is about another file")
+        if not all(isinstance(it, str) for it in answer.values()):
+            raise Failed("ExifTool's answer isn't understood: a value is neither a text nor a number")
+    return found
 
 
 class _Own:
@@ -130,7 +129,7 @@ def begin(room: str) -> None:
 
 def room() -> str:
     """This process's folder."""
-    if _Own.room is None or _Own.pid != os.getpid():
+    if _Own.room is None or _Own.pid != os.getpid() or not os.path.isdir(_Own.room):
         _Own.rooms = contextlib.ExitStack()
         atexit.register(_Own.rooms.close)
         atexit.register(finish)
@@ -141,6 +140,11 @@ def room() -> str:
 
 def ask(path: bytes, words: Sequence[str]) -> Dict[str, str]:
     """ExifTool's tags of one file. If it fails, a new ExifTool reads the next file."""
+    return ask_several([path], words)[0]
+
+
+def ask_several(paths: Sequence[bytes], words: Sequence[str], options: Sequence[str] = _OPTIONS) -> List[Dict[str, str]]:
+    """ExifTool's tags of some files, which are asked for in one call."""
     with _Own.lock:
         there = room()
         if _Own.session is not None and _Own.session.process.poll() is not None:
@@ -148,7 +152,7 @@ def ask(path: bytes, words: Sequence[str]) -> Dict[str, str]:
         if _Own.session is None:
             _Own.session = Session(there)
         try:
-            return _Own.session.ask(path, words)
+            return _Own.session.ask(paths, words, options)
         except BaseException:
             finish()
             raise
@@ -187,12 +191,13 @@ def by_others(path: bytes, stream: Stream, whole: bool, why: str) -> Blocks:
     """
     answer = ask(path, _WORDS)
     blocks = _blocks(answer)
+    blocks.budget = budget_of(stream)
     if blocks.problem:
         return blocks
     if blocks.type in _TIFF_TYPES and not blocks.of_kind(EXIF):
         _add_by_exiv2(blocks, path)
     size = size_of(stream)
-    digest = digest_of(stream, 0, size) if whole or size <= MOST else ""
+    digest = digest_of(stream, 0, size) if whole or size <= WHOLE_FILE else ""
     what = f"what ExifTool does not extract from a {blocks.type} file" + (f" ({why})" if why else "")
     blocks.not_read.append(NotRead(what, digest))
     return blocks
@@ -211,7 +216,7 @@ def _blocks(answer: Dict[str, str]) -> Blocks:
     mime = _first(answer, "MIMEType")
     if blocks.type in _SEVERAL:
         return Blocks(extractor=EXIFTOOL, type=blocks.type, problem="SeveralBlocks", detail=PROBLEMS["SeveralBlocks"])
-    if blocks.found or mime.startswith("image/"):
+    if blocks.found or mime.startswith("image/") or blocks.type in ("PSD", "PSB"):
         return blocks
     error = _first(answer, "Error")
     detail = error or (f"{blocks.type} ({mime})" if blocks.type else PROBLEMS["NoPicture"])
@@ -245,7 +250,7 @@ def add_trailers(blocks: Blocks, path: bytes) -> None:
         answer = ask(path, _WORDS)
         found = [(kind, octets(value)) for tag, kind in _TAGS.items() for value in values(answer, tag) if kind != EXIF]
     except (programs.Missing, programs.Failed):
-        blocks.not_read.append(NotRead("blocks of the trailer, for which ExifTool is needed", ""))
+        blocks.not_read.append(NotRead(UNREAD_TRAILER, ""))
         return
     for kind, data in found:
         if data not in known:

@@ -2,12 +2,14 @@
 
 from __future__ import annotations
 
+import errno
 import os
 import re
-import stat
 
 from ..cli import signals
 from ..cli.output import described
+from ..files import opening
+from .budgets import Budget, TooMuch
 from .exiftool import add_trailers, by_others
 from .formats import jpeg, png, tiff, webp
 from .formats.found import PROBLEMS, Blocks, Broken, LeftToOthers
@@ -20,8 +22,9 @@ def blocks_of(path: bytes, whole: bool = False) -> Blocks:
     Of a JPEG the head, the tail and the pictures of its MPF index are read; with `whole` also everything between. ExifTool reads
     the files that the readers here don't. Raises `programs.Missing` if it is needed and not installed, and `programs.Failed`.
     """
+    budget = Budget(whole)
     try:
-        file = _opened(path)
+        file = File(*opening.opened(path), budget)
         try:
             blocks = _read(file, path, whole)
         except LeftToOthers as why:
@@ -30,9 +33,15 @@ def blocks_of(path: bytes, whole: bool = False) -> Blocks:
             return by_others(path, file, True, f"broken: {why}")
         finally:
             file.close()
+    except TooMuch as why:
+        return too_much(why)
     except FileNotFoundError:
-        return Blocks(problem="Vanished", detail=PROBLEMS["Vanished"])
+        problem = "LinkToNothing" if os.path.islink(path) else "NoFile"
+        return Blocks(problem=problem, detail=PROBLEMS[problem])
     except OSError as error:
+        problem = {opening.IRREGULAR: "NotAFile", os.strerror(errno.ELOOP): "LinkToNothing"}.get(error.strerror or "", "")
+        if problem:
+            return Blocks(problem=problem, detail=PROBLEMS[problem])
         return Blocks(problem="Unreadable", detail=(error.strerror or str(error)).lower())
     if blocks.has_more:
         add_trailers(blocks, path)
@@ -45,19 +54,9 @@ def failed_here(error: Exception) -> Blocks:
     return Blocks(problem="InternalError", detail=f"{PROBLEMS['InternalError']}: {described(error)}")
 
 
-def _opened(path: bytes) -> File:
-    """A regular file that is open. Nothing else is opened; a file that becomes a pipe meanwhile is not waited for."""
-    if not stat.S_ISREG(os.stat(path).st_mode):
-        raise OSError("it is no regular file")
-    number = os.open(path, os.O_RDONLY | os.O_NONBLOCK | os.O_CLOEXEC)
-    try:
-        now = os.fstat(number)
-        if not stat.S_ISREG(now.st_mode):
-            raise OSError("it is no regular file")
-        return File(number, now.st_size)
-    except BaseException:
-        os.close(number)
-        raise
+def too_much(why: TooMuch) -> Blocks:
+    """The result for a file that goes over a limit."""
+    return Blocks(problem="TooMuch", detail=str(why))
 
 
 _RAW_NAME = re.compile(rb"\.(dng|nef|nrw|cr2|arw|arq|sr2|srf|srw|orf|pef|rw2|rwl|3fr|iiq|erf|mef|mos|dcr|kdc|k25|gpr|fff|raw)\Z", re.I)

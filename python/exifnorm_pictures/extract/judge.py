@@ -3,7 +3,7 @@
 from __future__ import annotations
 
 import hashlib
-from typing import Dict, List, Optional, Set
+from typing import Dict, List, Optional, Set, Tuple
 
 import exifnorm
 
@@ -12,7 +12,9 @@ from ..catalogue.records import FAILED, TOO_LONG, Block
 from ..compare.verdicts import ACCEPTED, REFUSED, UNREADABLE
 from ..fields import normal_form
 from ..fields.listing import packed
-from .formats.found import XMP, Blocks, FoundBlock
+from ..refusals import repairs, steps
+from . import structure
+from .formats.found import EXIF, FEW, IPTC, NAMES, XMP, Blocks, FoundBlock
 
 _BY_ITSELF = FoundBlock("", b"", "", "")  # where a block is that was given without a picture
 
@@ -23,40 +25,97 @@ def judge(kind: str, block: bytes, with_fields: bool = False, at: FoundBlock = _
     try:
         form = exifnorm.normal(block)
     except exifnorm.Refused as refused:
-        return Block(kind, *at[2:5], REFUSED, None, refused.cause, refused.place, len(block), octets)
+        found = Block(kind, *at[2:5], REFUSED, None, refused.cause, refused.place, len(block), octets)
+        return _repaired(found, block) if kind == EXIF and with_fields else found
     except exifnorm.NormalTooLong:
         return Block(kind, *at[2:5], TOO_LONG, None, "NormalTooLong", None, len(block), octets)
     except MemoryError:
         return Block(kind, *at[2:5], FAILED, None, "OutOfMemory", None, len(block), octets)
     digest = octets if form == block else hashlib.sha256(form).hexdigest()
-    kept = packed(normal_form.fields(form)) if with_fields else None
-    return Block(kind, *at[2:5], ACCEPTED, digest, None, None, len(block), octets, kept)
+    if not with_fields:
+        return Block(kind, *at[2:5], ACCEPTED, digest, None, None, len(block), octets)
+    return Block(kind, *at[2:5], ACCEPTED, digest, None, None, len(block), octets, packed(normal_form.fields(form)))
+
+
+def _repaired(it: Block, block: bytes) -> Block:
+    """A refused block with what a repair makes of it."""
+    found = repairs.repaired(block)
+    if found is None:
+        return it
+    return it._replace(kept=packed(normal_form.fields(found.form)), repair=steps.packed(found.steps), repaired=hashlib.sha256(found.form).hexdigest())
+
+
+def _says_nothing(it: FoundBlock) -> bool:
+    """Whether a block is there and has no field: an empty record, or a header with an empty directory and no further one."""
+    data = it.data
+    if it.kind == IPTC:
+        return not data.strip(b"\0")
+    return it.kind == EXIF and len(data) <= 64 and data[:10] in _NOTHING and not any(data[10:])
+
+
+_NOTHING = (b"II*\0\x08\0\0\0\0\0", b"MM\0*\0\0\0\x08\0\0")  # a header, and a directory without entries
+
+
+def _with_notes(it: Block, block: bytes, blocks: Blocks) -> Block:
+    """An Exif block with the place of its MakerNote; the bytes that only it can reach are noted as not read."""
+    if not structure.may_have_notes(block):
+        return it
+    found = structure.notes(block)
+    if found.uncovered:
+        blocks.leave(found.words + ("" if it.name == NAMES[EXIF] else f" ({it.name})"), found.uncovered)
+    return it if found.place is None else it._replace(note=found.place)
 
 
 def judge_all(blocks: Blocks, with_fields: bool = False) -> List[Block]:
-    """Judges all blocks of a picture, in their order. Extended XMP is judged with the packet that refers to it."""
+    """Judges all blocks of a picture, in their order. Extended XMP is judged with the packet that refers to it. Raises `TooMuch`."""
     found = []
-    extensions: Dict[str, bytes] = {}
+    if any(map(_says_nothing, blocks.found)):
+        blocks.found = [it for it in blocks.found if not _says_nothing(it)]
+    known: Dict[Tuple[str, bytes], Block] = {}
+    every: Dict[str, Dict[str, bytes]] = {}  # by the part of the file, since a packet's extension is beside it
     for it in blocks.found:
         if it.extends:
-            extensions.setdefault(it.extends, it.data)
-    left = dict(extensions)
+            every.setdefault(_part(it), {}).setdefault(it.extends, it.data)
+    remaining = {part: dict(some) for part, some in every.items()}
+    named = {part: xmp.Extensions(some, blocks.budget) for part, some in every.items()}
+    none = xmp.Extensions({}, blocks.budget)
+    many = len(blocks.found) > FEW
     for it in blocks.found:
         if it.extends:
             continue
-        found.append(_judge_xmp(it, extensions, left, with_fields) if it.kind == XMP else judge(it.kind, it.data, with_fields, it))
-    for it in blocks.found if extensions else ():
-        if it.extends and (it.extends in left or it.data != extensions[it.extends]):
+        block = known.get((it.kind, it.data)) if many else None
+        if block is not None:
+            found.append(block._replace(name=it.name, source=it.where, extractor=it.extractor))
+            continue
+        if it.kind == XMP:
+            part = _part(it) if every else ""
+            block = _judge_xmp(it, named.get(part, none), remaining.get(part, {}), with_fields)
+        else:
+            block = judge(it.kind, it.data, with_fields, it)
+            if it.kind == EXIF and with_fields and (block.digest or block.repaired):
+                block = _with_notes(block, it.data, blocks)
+        if many:  # pages of a TIFF can share a value
+            blocks.budget.check_time()
+            known[it.kind, it.data] = block
+        found.append(block)
+    for it in blocks.found if every else ():
+        if it.extends and (it.extends in remaining[_part(it)] or it.data != every[_part(it)][it.extends]):
             found.append(_unreadable(it, hashlib.sha256(it.data).hexdigest(), "ExtensionNotNamed"))
     return found
 
 
+def _part(it: FoundBlock) -> str:
+    """The part of the file that a block is in, by its name: `MPF picture 2`, and nothing for the picture itself."""
+    part: str = it.name.partition(" of ")[2]
+    return part
+
+
 def judge_packet(packet: bytes, with_fields: bool = False) -> Block:
     """Judges an XMP packet by itself."""
-    return _judge_xmp(_BY_ITSELF._replace(data=packet), {}, {}, with_fields)
+    return _judge_xmp(_BY_ITSELF._replace(data=packet), xmp.Extensions({}), {}, with_fields)
 
 
-def _judge_xmp(at: FoundBlock, extensions: Dict[str, bytes], left: Dict[str, bytes], with_fields: bool) -> Block:
+def _judge_xmp(at: FoundBlock, extensions: xmp.Extensions, left: Dict[str, bytes], with_fields: bool) -> Block:
     """Reads a packet with its extended XMP, which is taken out of `left`."""
     used: Set[str] = set()
     try:
@@ -66,7 +125,7 @@ def _judge_xmp(at: FoundBlock, extensions: Dict[str, bytes], left: Dict[str, byt
         said, cause = None, error.cause
     octets = hashlib.sha256(at.data)
     for it in sorted(used):
-        octets.update(extensions.get(it, b""))
+        octets.update(extensions.data.get(it, b""))
         left.pop(it, None)
     if said is None:
         return _unreadable(at, octets.hexdigest(), cause)

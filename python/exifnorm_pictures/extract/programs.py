@@ -19,9 +19,9 @@ from ..cli import signals
 from ..cli.output import reason
 from ..cli.parser import SECONDS
 from ..cli.signals import Failure
+from .budgets import OUTPUT
 
 PACKAGES = {"exiftool": "libimage-exiftool-perl", "exiv2": "exiv2"}
-MOST = 256 << 20  # greatest length in bytes of one output
 
 _PIECE = 1 << 20
 _PR_SET_PDEATHSIG = 1
@@ -39,6 +39,10 @@ class Missing(Failure):
 
 class Failed(Failure):
     """A program ended early, took too long, or printed something unexpected. The text describes which."""
+
+
+class TooSlow(Failed):
+    """A program took longer than its limit on a file. The next run of `index` asks it again: the machine may have been busy."""
 
 
 class Done(NamedTuple):
@@ -97,7 +101,7 @@ def run(words: List[str], folder: Optional[str] = None) -> Done:
         said = read_until(started, lambda _: False)
         return Done(started.wait(max(limit(), 1.0)), said)
     except subprocess.TimeoutExpired:
-        raise Failed(f"{_name(words)} took longer than {limit():g} seconds") from None
+        raise TooSlow(f"{_name(words)} took longer than {limit():g} seconds") from None
     finally:
         end(started)
 
@@ -165,11 +169,11 @@ def read_until(started: "subprocess.Popen[bytes]", complete: Callable[[bytearray
     while not complete(said):
         left = ends - time.monotonic()
         if left <= 0 or not select.select([started.stdout], [], [], left)[0]:
-            raise Failed(f"{_name(started.args)} took longer than {limit():g} seconds")  # type: ignore[arg-type]
+            raise TooSlow(f"{_name(started.args)} took longer than {limit():g} seconds")  # type: ignore[arg-type]
         piece = os.read(started.stdout.fileno(), _PIECE)
         if not piece:
             break
         said += piece
-        if len(said) > MOST:
-            raise Failed(f"{_name(started.args)} wrote more than {MOST:,} bytes about one file")  # type: ignore[arg-type]
+        if len(said) > OUTPUT:
+            raise Failed(f"{_name(started.args)} wrote more than {OUTPUT:,} bytes about one file")  # type: ignore[arg-type]
     return bytes(said)

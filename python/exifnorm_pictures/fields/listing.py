@@ -10,6 +10,7 @@ from typing import Callable, Dict, Iterator, List, NamedTuple, Optional, Tuple
 
 from ..catalogue.records import Damaged
 from ..cli.output import escaped
+from ..extract.budgets import FIELD_BYTES
 from .names import full_name
 
 LONGEST_TEXT = 400  # characters of a text that is shown whole
@@ -177,6 +178,8 @@ def packed(found: List[Field]) -> bytes:
     """
     lists = [f"[{_quoted(it[0])},{_quoted(it[1])},{_quoted(it[2])},{it[3]},{_quoted(it[4])}]" for it in found]
     text = f"[{','.join(lists)}]".encode("ascii")
+    if len(text) > FIELD_BYTES:  # more than can be unpacked again
+        return packed([Field("", "", "", len(found), f"too many to be kept; sha256:{hashlib.sha256(text).hexdigest()[:DIGITS]}")])
     if len(text) <= _SHORTEST:
         return text
     if len(text) > _SHORT:
@@ -196,7 +199,10 @@ def unpacked(octets: bytes) -> List[Field]:
     if not isinstance(octets, bytes):
         raise Damaged(f"{octets!r} is a value of another type")
     try:
-        text = octets if octets[:1] == b"[" else zlib.decompress(octets)
+        opening = zlib.decompressobj()
+        text = octets if octets[:1] == b"[" else opening.decompress(octets, FIELD_BYTES)
+        if len(text) > FIELD_BYTES or opening.unconsumed_tail:
+            raise Damaged("the fields of a block are too long")
         found = json.loads(text.decode("ascii"))
     except (zlib.error, ValueError, RecursionError) as error:
         raise Damaged(f"fields that can't be read: {error}") from error
@@ -214,6 +220,7 @@ class Change(NamedTuple):
     name: str
     before: Optional[str]
     after: Optional[str]
+    said: str = ""  # what is said in place of the two
 
 
 MAKER_NOTE = ("exif", "927c")
@@ -224,7 +231,7 @@ def changes(before: List[Field], after: List[Field]) -> List[Change]:
 
     >>> old, new = [Field("main", "010f", "ASCII", 4, '"abc"')], [Field("main", "010f", "ASCII", 4, '"xyz"')]
     >>> changes(old, new)
-    [Change(name='main:Make', before='"abc"', after='"xyz"')]
+    [Change(name='main:Make', before='"abc"', after='"xyz"', said='')]
     """
     first, second = _by_name(before), _by_name(after)
     differ = [key for key in first.keys() | second.keys() if first.get(key) != second.get(key)]
@@ -244,7 +251,7 @@ def _order(key: Tuple[str, str]) -> Tuple[int, Tuple[int, ...], str]:
     number: Tuple[int, ...]
     if where == "xmp":
         number = ()
-    elif re.fullmatch("[0-9]{1,3}:[0-9]{1,3}", tag):
+    elif re.fullmatch("[0-9]{1,5}:[0-9]{1,5}", tag):
         number = tuple(int(it) for it in tag.split(":"))
     else:
         number = (int(tag, 16),) if re.fullmatch("[0-9a-f]{4}", tag) else (1 << 16,)  # a thumbnail, after all tags

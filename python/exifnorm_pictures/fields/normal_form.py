@@ -3,11 +3,14 @@ digest, so that no listing has to be made."""
 
 from __future__ import annotations
 
-from typing import Any, Callable, Dict, Iterator, List
+import hashlib
+from itertools import islice
+from typing import Any, Callable, Dict, Iterable, Iterator, List
 
-from exifnorm._forms import fields_of_form
+from exifnorm._forms import each_field
 
-from .listing import OCTETS, Field, shown_numbers, shown_octets, shown_picture, shown_value
+from ..extract.budgets import FIELDS
+from .listing import DIGITS, OCTETS, Field, shown_numbers, shown_octets, shown_picture, shown_value
 
 
 def _decimal(values: Any) -> str:
@@ -27,14 +30,27 @@ _WRITTEN: Dict[str, Callable[[Any], str]] = {
 }
 
 
+_LEAST = 5  # bytes of a field: the head of an empty DataSet
+
+
 def fields(form: bytes) -> List[Field]:
     """The fields of a normal form, in the order of a listing.
 
     >>> fields(b"\\x1c\\x02\\x78\\x00\\x04Vase")
     [Field(where='iptc', key='2:120', type='octets', elements=4, shown='"Vase"')]
     """
+    each = each_field(form)
+    if len(form) <= _LEAST * FIELDS:
+        return _shown(each)
+    found = _shown(islice(each, FIELDS))  # 16 MB can be three million DataSets, for which Python needs 1 GB
+    if next(each, None) is not None:
+        found.append(Field("iptc", "more", "octets", len(form), f"sha256:{hashlib.sha256(form).hexdigest()[:DIGITS]}"))
+    return found
+
+
+def _shown(fields: "Iterable[Any]") -> List[Field]:
     found: List[Field] = []
-    for where, tag, kind, values in fields_of_form(form):
+    for where, tag, kind, values in fields:
         if kind in OCTETS:
             key = f"{tag:04x}"
             assert isinstance(values, bytes)

@@ -13,6 +13,7 @@ from typing import BinaryIO, Callable, Iterator, Optional, Tuple
 
 from ..cli.output import reason
 from ..cli.signals import Failure
+from . import opening
 
 Write = Callable[[BinaryIO], None]
 
@@ -25,7 +26,7 @@ def copy_new(source: bytes, out: bytes, like: os.stat_result) -> None:
     """Copies a file to `out`, with the mode and times of another one. Raises `FileExistsError` if `out` exists."""
 
     def write(file: BinaryIO) -> None:
-        with open(source, "rb") as given:
+        with opening.reading(source) as given:
             shutil.copyfileobj(given, file)
         file.flush()
         os.fchmod(file.fileno(), stat.S_IMODE(like.st_mode))
@@ -72,7 +73,7 @@ def _check(out: bytes, allowed: Callable[[bytes], bool], kept: Tuple[str, ...]) 
         with contextlib.suppress(OSError):
             if os.path.samestat(os.stat(it), now):
                 raise NotReplaced(f"it is the catalogue {it}")
-    with open(out, "rb") as file:
+    with opening.reading(out) as file:
         head = file.read(100)
     if head and not allowed(head):
         raise NotReplaced("it is there, and is a file of another kind")

@@ -4,9 +4,11 @@ from __future__ import annotations
 
 import enum
 from dataclasses import dataclass
-from typing import Dict, Tuple
+from typing import Dict, Optional, Tuple
 
 from exifnorm import LIMIT
+
+from .. import xmp
 
 MEASURED = "measured on 419 JPEG files of Debian source packages, 2026"
 READERS = "ExifTool 12.57, exiv2 0.27.6, exif 0.6.22 (libexif), Pillow 9.4 and piexif 1.1.3 of Debian 12"
@@ -39,7 +41,10 @@ class Cause:
     facts: Facts = Facts.ENTRY
 
 
-_TOUCH = "`exifnorm-pictures mend`, whose first step lets ExifTool add a field and remove it: ExifTool then lays the block out again"
+_TOUCH = (
+    "`exifnorm-pictures mend`, which repairs the block and keeps the rest of the file. By hand let ExifTool add a field and remove it: it then"
+    " lays the block out again"
+)
 _OTHER = "Extract the block again; if the file itself is damaged, use another copy of the picture."
 
 _CAUSES = (
@@ -105,7 +110,7 @@ _CAUSES = (
         (("Canon S100, saved by jhead", "2"), ("piexif, any picture", "139 of 142, together with Overlap and Unsorted")),
         "ExifTool and exif read the fields silently, exiv2 with `IFD exceeds data buffer, cannot read next pointer`, Pillow with a"
         " warning. piexif: an exception, also for blocks that piexif wrote.",
-        "`exifnorm-pictures mend`: exiv2 adds a field and removes it (2 of 2); after piexif, ExifTool does the same (69 of 69).",
+        "`exifnorm-pictures mend`; by hand, exiv2 adds a field and removes it (2 of 2); after piexif, ExifTool does the same (69 of 69).",
         "No printed value was lost.",
         Facts.DIRECTORY,
     ),
@@ -160,7 +165,7 @@ _CAUSES = (
         "0112 Orientation: 1 | 0112 Orientation: 6\n                      !  which is it?",
         (("QuickTime 6 and 7 (Orientation), Pentax Optio (UserComment)", "4 in all"),),
         "ExifTool and exiv2 print both, exif only the first, Pillow and piexif only the second.",
-        "`exifnorm-pictures mend`: ExifTool's rebuild (4 of 4). Look at both values first, and decide which is meant:"
+        "`exifnorm-pictures mend`, which keeps the first of the two, or ExifTool's rebuild (4 of 4). Look at both values first, and decide which is meant:"
         " `exiftool -a -G1 -s picture.jpg`.",
         "One of the two values, and what else a rebuild changes (4 of 4 lost some printed value).",
     ),
@@ -207,7 +212,7 @@ _CAUSES = (
         (("Adobe Photoshop CC 2017", "1"),),
         "ExifTool leaves the field out with `Bad offset`. exiv2 makes it empty with a message. exif leaves it out. Pillow leaves"
         " out this and all later fields. piexif gives the bytes that are there.",
-        "`exifnorm-pictures mend`: exiv2, which leaves the field empty, or ExifTool's rebuild, which leaves it out (1 of 1). First look"
+        "`exifnorm-pictures mend`; by hand, exiv2, which leaves the field empty, or ExifTool's rebuild, which leaves it out (1 of 1). First look"
         " for an earlier copy of the picture.",
         "The field; most of it is lost in any case.",
     ),
@@ -241,7 +246,7 @@ _CAUSES = (
         (("Adobe Photoshop CS and CS4", "2"),),
         "ExifTool and piexif give the bytes that are there as a thumbnail. exiv2 ignores it with a message, Pillow without one. exif:"
         " `Corrupt data`, no field at all.",
-        "`exifnorm-pictures mend`: ExifTool's rebuild (2 of 2). `exiftool '-ThumbnailImage<=small.jpg'`"
+        "`exifnorm-pictures mend`, which drops or cuts the thumbnail, or ExifTool's rebuild (2 of 2). `exiftool '-ThumbnailImage<=small.jpg'`"
         " writes a new thumbnail.",
         "The thumbnail; in 1 of 2 another printed value.",
     ),
@@ -286,6 +291,52 @@ _CAUSES = (
 
 CAUSES: Dict[str, Cause] = {it.name: it for it in _CAUSES}
 
+_WRITE_AGAIN = (
+    "`exifnorm-pictures mend`, whose last step lets ExifTool write all tags that it reads into new blocks. It helps where ExifTool reads the packet."
+)
+_WHOLE_COPY = "Take the file from its source again: a program has copied its XMP only in part."
+
+# The remedies of XMP packets that can't be read, by the causes of `exifnorm_pictures.xmp`, which has their meanings.
+XMP_REMEDIES: Dict[str, str] = {
+    "TooLong": "No packet of a real picture is so long. Keep what is long, such as masks of an editor, outside of the picture.",
+    "TooRare": _WRITE_AGAIN,
+    "NotText": _WRITE_AGAIN,
+    "DocumentType": "Remove the declaration from the packet; nothing in XMP needs one.",
+    "NotWellFormed": _WRITE_AGAIN,
+    "NoRDF": _WRITE_AGAIN,
+    "TooDeep": _WRITE_AGAIN,
+    "NotRDF": _WRITE_AGAIN,
+    "SeveralSubjects": "`exiftool -XMP:all` shows which statements are about the picture; `mend` keeps those that ExifTool reads.",
+    "Repeated": _WRITE_AGAIN,
+    "Shared": _WRITE_AGAIN,
+    "ExtensionMissing": _WHOLE_COPY,
+    "ExtensionNotNamed": _WHOLE_COPY,
+    "ExtensionDamaged": _WHOLE_COPY,
+    "NeedsRdflib": "Install python3-rdflib and run the same `index` again: it reads these pictures again.",
+}
+# Of blocks whose form is too long, or for which the memory didn't suffice: these have no cause of the grammar.
+OTHER_REMEDIES: Dict[str, Tuple[str, str]] = {
+    "NormalTooLong": (
+        "The block is accepted, but its normal form would be longer than any block may be.",
+        "Nothing in it is wrong. Pictures with it are only the same byte for byte.",
+    ),
+    "OutOfMemory": ("There was not enough memory to judge the block.", "Run `index --again` with fewer `--jobs`, or with more memory."),
+}
+
+
+def words_of(cause: str) -> Optional[Tuple[str, str]]:
+    """The meaning and the remedy of any cause that a block of a catalogue can have.
+
+    >>> words_of("NeedsRdflib")[1][:23], words_of("Unsorted")[0]
+    ('Install python3-rdflib ', "The tags of a directory don't ascend.")
+    """
+    if cause in CAUSES:
+        return CAUSES[cause].sentence, CAUSES[cause].remedy
+    if cause in XMP_REMEDIES:
+        return xmp.CAUSES[cause], XMP_REMEDIES[cause]
+    return OTHER_REMEDIES.get(cause)
+
+
 # What tools do to a block, of 175 accepted ones: same bytes, another block with the same meaning, a different meaning, a refused block.
 TOOLS = (
     ("ExifTool: an edit of XMP, or the block copied", "175", "", "", "", ""),
@@ -306,7 +357,8 @@ _INTRODUCTION = f"""# Refusals
 
 Find out here why a block was refused, and what to do. For each of the 19 causes this page has its meaning, who writes such blocks, what
 other readers make of them, and what helps. `exifnorm-pictures explain PICTURE` prints the same texts with the bytes of the picture. A
-block that breaks the rules is refused with its first fault and the byte offset of that fault, and never repaired. The rules are in
+block that breaks the rules is refused with its first fault and the byte offset of that fault, and its file is never changed. `show`,
+`changed` and `same` also read it after a repair in memory, and name each step; that is tested, and not proved. The rules are in
 `FORMAT.md`, section 5.
 
 Counts of cameras and programs were {MEASURED}: 232 of them have an Exif block, and 35 real pictures had a refused one. The
@@ -322,8 +374,10 @@ exifnorm-pictures explain refused.jpg || test $? -eq 2
 exifnorm-pictures mend refused.jpg mended.jpg
 ```
 
-`mend` tries three steps on a copy. It uses the first step whose block is accepted and that changes no printed value, and otherwise the
-step that loses fewest values. It lists the values that were lost and those that are new. By hand the steps are:
+`mend` tries four steps on a copy. The first repairs an Exif block as `explain` names it: entries are sorted, shared values copied, the
+second of two equal entries left out. The rest of the file stays as it is. The other steps let programs write the block again. `mend` uses
+the first step whose block is accepted and that changes no printed value, and otherwise the step that loses fewest values. It lists the
+values that were lost and those that are new. By hand the other steps are:
 
 *Touch*: ExifTool adds a field and removes it, and so lays the block out again.
 
@@ -349,7 +403,7 @@ cp refused.jpg rebuilt.jpg
 exiftool -m -overwrite_original -all= -tagsfromfile @ -all:all -unsafe rebuilt.jpg
 ```
 
-These steps mended 32 of the 35 refused blocks, 24 of them without loss of a printed value.
+The last three steps mended 32 of the 35 refused blocks, 24 of them without loss of a printed value.
 
 ## What tools do to a block
 

@@ -5,13 +5,12 @@ from __future__ import annotations
 from dataclasses import dataclass, field
 from typing import Callable, Dict, List, Optional
 
-from .. import xmp
 from ..catalogue.records import Block
 from ..cli.output import Members
 from ..compare.verdicts import REFUSED
 from ..extract.formats.found import XMP
 from ..extract.judge import judge, judge_packet
-from .causes import CAUSES, Cause, Facts
+from .causes import CAUSES, Cause, Facts, words_of
 from .layout import EntryAt, Layout, Part, hexadecimal
 
 _OTHER_FILES = (
@@ -52,7 +51,7 @@ class Explanation:
         """The explanation as a JSON object."""
         known: Members = {"kind": self.kind, "status": self.judgement.status, "cause": self.judgement.cause, "place": self.judgement.place}
         if self.cause is None and self.here:
-            known["sentence"] = self.here[0]
+            known.update(sentence=self.here[0], remedy=self.here[-1].replace("Remedy: ", "", 1))
         if self.cause is not None:
             known.update(sentence=self.cause.sentence, meaning=self.cause.meaning, here=self.here, bytes=self.octets)
             known.update(writers=[list(it) for it in self.cause.writers], remedy=self.cause.remedy, cost=self.cause.cost)
@@ -66,7 +65,8 @@ def explain(kind: str, block: bytes) -> Explanation:
     judgement = judge(kind, block)
     cause = CAUSES.get(judgement.cause or "") if judgement.status == REFUSED else None
     if cause is None or judgement.place is None:
-        return Explanation(kind, judgement, cause)
+        words = words_of(judgement.cause or "") if cause is None else None
+        return Explanation(kind, judgement, cause, [words[0], f"Remedy: {words[1]}"] if words else [])
     layout = Layout(block)
     here = _FACTS[cause.facts](layout, cause.name, judgement.place)
     return Explanation(kind, judgement, cause, here, hexadecimal(layout.block, judgement.place))
@@ -74,7 +74,8 @@ def explain(kind: str, block: bytes) -> Explanation:
 
 def explain_packet(judgement: Block) -> Explanation:
     """Explains an XMP packet that was judged; one that was read needs no explanation."""
-    return Explanation(XMP, judgement, here=[xmp.CAUSES[judgement.cause]] if judgement.cause else [])
+    words = words_of(judgement.cause) if judgement.cause else None
+    return Explanation(XMP, judgement, here=[words[0], f"Remedy: {words[1]}"] if words else [])
 
 
 def _length(layout: Layout, cause: str, place: int) -> List[str]:

@@ -8,20 +8,23 @@ import shutil
 import tempfile
 from collections import Counter
 from dataclasses import dataclass, field
-from typing import Callable, Dict, List, Optional, Tuple
+from typing import Callable, Dict, List, NamedTuple, Optional, Tuple
 
 from ..cli.output import reason
 from ..compare.verdicts import ACCEPTED
 from ..extract import programs
 from ..extract.extraction import blocks_of
-from ..extract.formats.found import Blocks
+from ..extract.formats.found import EXIF, Blocks
 from ..extract.judge import judge_all
-from ..files import atomic
+from ..files import atomic, opening
+from .repaired_file import repaired_file
+from .steps import Step, loses
 
 COPY, NONE = "copy", "none"
-STEPS = ("touch", "exiv2", "rebuild")
+STEPS = ("repair", "touch", "exiv2", "rebuild")
 STEP_WORDS = {
     COPY: "nothing was to be mended: a plain copy",
+    "repair": "the block was repaired, and the rest of the file kept",
     "touch": "ExifTool added a field and removed it",
     "exiv2": "exiv2 added a field and removed it",
     "rebuild": "ExifTool wrote all tags that it knows into a new block",
@@ -42,32 +45,75 @@ class Mended:
     lost: List[str] = field(default_factory=list)
     gained: List[str] = field(default_factory=list)
     problem: str = ""
+    repairs: Tuple[Step, ...] = ()  # what was repaired
 
 
-def mend(picture: bytes, out: bytes, room: str) -> Mended:
+def mend(picture: bytes, out: bytes, room: str, with_folders: bool = False) -> Mended:
     """Writes a copy with accepted blocks to the new file `out`. Raises `NotWritten`, `programs.Missing` and `programs.Failed`.
 
     The steps are tried in the order of `STEPS`. The first that changes no printed value is used; if none is, the one that loses
-    the fewest values and, among equals, adds the fewest. The values are those that ExifTool prints, without offsets. Temporary
-    files are in the folder `room`.
+    the fewest values and, among equals, adds the fewest. The values are those that ExifTool prints, without offsets. Without ExifTool
+    only a repair that loses nothing is used. Temporary files are in the folder `room`; `with_folders` makes the folders of `out`.
     """
-    programs.needed("exiftool")
     if os.path.lexists(out):
         raise NotWritten("the copy is there already")
     taken = blocks_of(picture)
     if taken.problem:
         return Mended(NONE, {}, problem=f"{taken.problem}: {taken.detail}")
     before = _refusals(taken)
+    if with_folders:
+        _make_folders(out)
     if not before:
         _put(picture, picture, out)
         return Mended(COPY, {})
     with tempfile.TemporaryDirectory(dir=room) as own:
-        best = _best(picture, own)
+        repair = _repaired(picture, taken, own)
+        if programs.is_there("exiftool"):
+            best = _best(picture, repair, own)
+        elif repair is not None and not loses(repair.steps):
+            best = ("repair", repair.file, [], [])
+        else:
+            programs.needed("exiftool")
+            best = None
         if best is None:
             return Mended(NONE, before)
         step, made, lost, gained = best
         _put(os.fsencode(made), picture, out)
-        return Mended(step, before, lost, gained)
+        return Mended(step, before, lost, gained, "", repair.steps if repair and step == "repair" else ())
+
+
+def _make_folders(out: bytes) -> None:
+    try:
+        os.makedirs(os.path.dirname(out), exist_ok=True)
+    except OSError as error:
+        raise NotWritten(reason(error)) from error
+
+
+class _Repair(NamedTuple):
+    """A copy with repaired blocks, and what was repaired."""
+
+    file: str
+    steps: Tuple[Step, ...]
+
+
+def _repaired(picture: bytes, taken: Blocks, room: str) -> Optional[_Repair]:
+    """A copy whose Exif blocks are repaired; none if that isn't enough, or changes anything else that is read of the file."""
+    with opening.reading(picture) as given:
+        made = repaired_file(given.read(), taken.type, taken.found)
+    if made is None:
+        return None
+    name = os.path.join(room, "repair" + _suffix(picture))
+    with open(name, "xb") as copy:
+        copy.write(made[0])
+    after = blocks_of(os.fsencode(name))
+    if after.problem or _refusals(after) or _beside_exif(after) != _beside_exif(taken):
+        return None
+    return _Repair(name, made[1])
+
+
+def _beside_exif(taken: Blocks) -> List[object]:
+    """What a repair of Exif must not change."""
+    return [*((it.kind, it.name, it.data) for it in taken.found if it.kind != EXIF), *sorted(taken.not_read)]
 
 
 def _put(made: bytes, picture: bytes, out: bytes) -> None:
@@ -86,17 +132,25 @@ def _refusals(taken: Blocks) -> Dict[str, str]:
 Attempt = Tuple[str, str, List[str], List[str]]
 
 
-def _best(picture: bytes, room: str) -> Optional[Attempt]:
+def _suffix(picture: bytes) -> str:
     extension = re.search(rb"\.[A-Za-z0-9]{1,8}\Z", picture)
-    suffix = extension[0].decode("ascii") if extension else ""
+    return extension[0].decode("ascii") if extension else ""
+
+
+def _best(picture: bytes, repair: Optional[_Repair], room: str) -> Optional[Attempt]:
+    suffix = _suffix(picture)
     first = os.path.join(room, "first" + suffix)
-    shutil.copyfile(picture, os.fsencode(first))
+    with opening.reading(picture) as given, open(first, "xb") as made_first:
+        shutil.copyfileobj(given, made_first)
     said = _printed(first)
     best: Optional[Attempt] = None
     for step in STEPS:
         made = os.path.join(room, step + suffix)
-        shutil.copyfile(first, made)
-        if not _REMEDIES[step](made):
+        if step != "repair":
+            shutil.copyfile(first, made)
+            if not _REMEDIES[step](made):
+                continue
+        elif repair is None:
             continue
         taken = blocks_of(os.fsencode(made))
         if taken.problem or _refusals(taken):

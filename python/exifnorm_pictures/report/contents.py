@@ -19,11 +19,12 @@ MOST_GROUPS, MOST_OF_GROUP, MOST_CHANGES, MOST_REFUSED, MOST_NAMES = 40, 12, 300
 
 @dataclass
 class About:
-    """The arguments of a report: a catalogue, an older one, and the chosen pictures."""
+    """The arguments of a report: a catalogue, an older one, the chosen pictures, and whether their files are looked at."""
 
     catalogue: Catalogue
     old: Optional[Catalogue] = None
     only: Optional[Set[bytes]] = None
+    look: bool = True
     _table: Optional[str] = None
 
     def table(self) -> Optional[str]:
@@ -103,7 +104,7 @@ def gather(about: About) -> Gathered:
             kept_.append(it)
     _gather_parts(found, about)
     found.all_groups = groups.totals(catalogue, only=about.table())
-    for group in groups.groups(catalogue, only=about.table(), most=MOST_GROUPS):
+    for group in groups.groups(catalogue, only=about.table(), most=MOST_GROUPS, look=about.look):
         found.groups.append((group.count, group.sentence(), list(group.pictures(MOST_OF_GROUP))))
     if about.old is not None:
         _gather_changes(found, about)
@@ -151,7 +152,7 @@ def _part_of_row(row: Tuple[str, int]) -> Tuple[str, int]:
 def _gather_changes(found: Gathered, about: About) -> None:
     assert about.old is not None
     equal = changed.Equal()
-    for it in changed.changed(about.old, about.catalogue, found.results, about.only):
+    for it in changed.changed(about.old, about.catalogue, found.results, about.only, ask=about.look):
         if it.result in changed.UNCHANGED:
             continue
         found.fields.update({change.name for change in it.changes})
@@ -177,8 +178,9 @@ def members(about: About) -> Iterator[Members]:
     causes: "Counter[str]" = Counter(it.cause for it in _refused(about))
     without_proof = unproved(catalogue.runs())
     yield {"pictures": sum(states.values()), "states": dict(states), "causes": dict(causes), **({"unproved": without_proof} if without_proof else {})}
-    for group in groups.groups(catalogue, only=about.table()):
-        known = {"said": group.sentence(), "same_bytes": group.same_bytes, "wholly_read": not group.unread}
+    for group in groups.groups(catalogue, only=about.table(), look=about.look):
+        wholly_read = not group.not_read and group.basis == groups.MEANING
+        known = {"said": group.sentence(), "basis": group.basis, "same_bytes": group.same_bytes, "wholly_read": wholly_read}
         yield {"same": [path_members(it) for it in group.pictures()], **known}
     if about.old is not None:
         yield from _changed_members(about)

@@ -9,10 +9,10 @@ from datetime import datetime, timezone
 from html import escape
 from typing import Dict, List, Optional, Tuple
 
-from ..cli.output import shown_path
+from ..cli.output import safe, shown_path
 from ..compare import changed, verdicts
 from ..extract.formats.found import PROBLEMS
-from ..refusals.causes import CAUSES
+from ..refusals.causes import CAUSES, words_of
 from .contents import MOST_CHANGES, MOST_GROUPS, MOST_NAMES, MOST_OF_GROUP, MOST_REFUSED, EqualChanges, Gathered, unproved
 from .style import STYLE
 from .thumbnails import small_pictures
@@ -27,10 +27,14 @@ STATE_WORDS = {
     "Unreadable": "not readable",
     "Vanished": "gone since an earlier run",
     "Moved": "moved since an earlier run",
+    "LinkToNothing": "a link that leads to no file",
+    "NotAFile": "a pipe, a socket or a device",
     "SeveralBlocks": "with several Exif blocks (CR3)",
     "BigTIFF": "BigTIFF, which is not read",
     "NeedsExiv2": "raw, and exiv2 is not installed",
     "NeedsExifTool": "of another format, and ExifTool is not installed",
+    "TooMuch": "that go over a limit",
+    "TooSlow": "at which a program took too long",
     "ToolFailed": "at which a program failed",
     "InternalError": "at which exifnorm-pictures itself failed",
 }
@@ -46,7 +50,7 @@ def page(found: Gathered, title: str) -> str:
 
 
 def _text(text: str) -> str:
-    return escape(text, quote=True)
+    return escape(safe(text), quote=True)
 
 
 def _name(path: bytes, roots: List[bytes]) -> str:
@@ -197,7 +201,7 @@ def _parts(found: Gathered) -> str:
         return ""
     rows = "".join(f"<tr><td>{count:,}</td><td>{_text(what)}</td></tr>" for what, count in found.parts.most_common(MOST_REFUSED))
     more = _more(len(found.parts), MOST_REFUSED, "parts")
-    words = "These parts were compared by a digest of their bytes at most; pictures that differ in them are in no group."
+    words = "These parts were compared by a digest of their bytes at most; pictures that differ in them are not the same."
     return f"<section><h2>What was not read</h2><p>{words}</p><table>{rows}</table>{more}</section>\n"
 
 
@@ -209,6 +213,9 @@ def _refusals(found: Gathered) -> str:
     for name, _ in found.causes.most_common():
         cause = CAUSES.get(name)
         parts.append(f"<h3>{_text(name)}</h3>")
+        words = words_of(name)
+        if words and not cause:
+            parts.append(f'<p><b>{_marked(words[0])}</b></p><p class="remedy"><b>Remedy.</b> {_marked(words[1])}</p>')
         if cause:
             parts.append(f"<p><b>{_text(cause.sentence)}</b> {_marked(cause.meaning)}</p>")
             parts.append(f'<p class="remedy"><b>Remedy.</b> {_marked(cause.remedy)} <b>Cost.</b> {_marked(cause.cost)}</p>')

@@ -3,7 +3,6 @@
 from __future__ import annotations
 
 import base64
-import os
 from typing import Dict, Optional, Sequence
 
 import exifnorm
@@ -11,6 +10,7 @@ import exifnorm
 from ..extract import extraction, judge, programs
 from ..extract.formats.found import EXIF
 from ..fields.listing import thumbnail
+from ..files import opening
 
 LARGEST = 32_768  # bytes of one small picture
 MOST = 2_000_000  # bytes of all small pictures of a page
@@ -54,9 +54,8 @@ def _embedded(block: Optional[bytes]) -> Optional[bytes]:
 
 def _by_itself(path: bytes) -> Optional[bytes]:
     try:
-        if os.path.getsize(path) > LARGEST:
-            return None
-        with open(path, "rb") as file:
-            return file.read(LARGEST)
+        with opening.reading(path) as file:
+            octets = file.read(LARGEST + 1)
+        return octets if len(octets) <= LARGEST else None
     except OSError:
         return None

@@ -26,6 +26,7 @@ class How:
     """How pictures are looked at."""
 
     jobs: int = 0  # processes; 0 for as many as there are processors
+    maker_notes: bool = False  # ask ExifTool for their values
     whole: bool = False  # every byte of a JPEG, not only its head and tail
     seconds: float = SECONDS  # that a program may take for one file
     room: str = ""  # a folder for temporary files
@@ -34,7 +35,8 @@ class How:
     @classmethod
     def of(cls, arguments: argparse.Namespace, room: str, lines: Optional[Lines] = None) -> "How":
         """As the arguments of a command have it."""
-        return cls(arguments.jobs, arguments.whole, arguments.limit, room, lines)
+        notes = getattr(arguments, "maker_notes", False)
+        return cls(arguments.jobs, notes, arguments.whole, arguments.limit, room, lines)
 
     @property
     def processes(self) -> int:

@@ -6,12 +6,13 @@ transferred, and workers write only temporary files. Only this process writes th
 
 from __future__ import annotations
 
+import logging
 import os
 import time
 from dataclasses import replace
 from typing import Any, Dict, Iterator, List, Optional, Sequence
 
-from ..catalogue.records import PictureRecord, Stamp
+from ..catalogue.records import RACY, PictureRecord, Stamp
 from ..extract import programs
 from . import workers
 from .batches import How
@@ -32,7 +33,7 @@ POLL = 2.0  # seconds without a result after which the workers are counted
 def look_there(root: bytes, names: Sequence[bytes], how: How) -> List[PictureRecord]:
     """A worker's task: looks at files by their names relative to its own path of the folder."""
     programs.set_limit(how.seconds)
-    return [workers.look(FoundFile(os.path.join(root, name), root, _stamp(os.path.join(root, name))), how.whole) for name in names]
+    return [workers.look(FoundFile(os.path.join(root, name), root, _stamp(os.path.join(root, name))), how) for name in names]
 
 
 def _stamp(path: bytes) -> Optional[Stamp]:
@@ -67,8 +68,9 @@ class _Cluster:
 
     def looked(self, work: Sequence[FoundFile]) -> Iterator[PictureRecord]:
         """The result for each of these files, in order of arrival."""
+        logging.disable(logging.CRITICAL)  # Dask writes tracebacks; what is wrong is in the errors below
         try:
-            with distributed.Client(self.scheduler, timeout=max(self.how.seconds, 1.0)) as client:
+            with self._client() as client:
                 for chunk in _chunks(work):
                     self._submit(client, chunk)
                 while self.tasks or self.suspects:
@@ -77,6 +79,13 @@ class _Cluster:
                     for task in self._finished(client):
                         yield from self._answers(task)
         except (OSError, CommClosedError) as error:
+            raise programs.Failed(f"the cluster {self.scheduler} failed: {error}") from error
+
+    def _client(self) -> Any:
+        """A client of the scheduler. Dask has errors of many kinds for a name that is no address, or one with TLS without its files."""
+        try:
+            return distributed.Client(self.scheduler, timeout=max(self.how.seconds, 1.0))
+        except (ValueError, TypeError, KeyError, RuntimeError) as error:
             raise programs.Failed(f"the cluster {self.scheduler} failed: {error}") from error
 
     def _submit(self, client: Any, chunk: Sequence[FoundFile]) -> None:
@@ -135,4 +144,7 @@ def _here(it: FoundFile, answer: PictureRecord) -> PictureRecord:
         detail = f"the worker has no such file: {os.fsdecode(answer.path)!r}"
         return PictureRecord(it.path, it.root, None, problem="Unreadable", detail=detail)
     same = answer.stamp is not None and it.stamp is not None and answer.stamp.size == it.stamp.size
-    return answer._replace(path=it.path, root=it.root, stamp=it.stamp if same else None)
+    stamp = it.stamp if same else None
+    if stamp and answer.stamp and answer.stamp.changed == RACY:
+        stamp = stamp._replace(changed=RACY)
+    return answer._replace(path=it.path, root=it.root, stamp=stamp)

@@ -2,6 +2,7 @@
 
 from __future__ import annotations
 
+import importlib.util
 import os
 import time
 from collections import Counter
@@ -9,11 +10,11 @@ from dataclasses import dataclass, field
 from datetime import datetime, timezone
 from typing import Callable, Dict, Iterable, Iterator, List, Optional, Sequence, Set, Tuple
 
-from ..catalogue.records import PictureRecord
+from ..catalogue.records import PictureRecord, is_as_before
 from ..catalogue.store import Catalogue, Known
 from ..compare.moved import Departed
 from ..extract import programs
-from ..extract.formats.found import PROBLEMS
+from ..extract.formats.found import PROBLEMS, UNREAD_TRAILER
 from .batches import LONGEST_WAIT, Batch, How, Result
 from .progress import Progress
 from .walk import FoundFile, Unlisted, below
@@ -53,6 +54,8 @@ class Work:
     new: Set[bytes] = field(default_factory=set)  # those of them that the catalogue doesn't know, if it knows any
     unlisted: List[Unlisted] = field(default_factory=list)
     counts: "Counter[str]" = field(default_factory=Counter)
+    devices: List[Tuple[int, int]] = field(default_factory=list)  # of unchanged pictures, on which file system they are now
+    unfinished: Set[int] = field(default_factory=set)  # the numbers of pictures for which a program was missing that is there now
     seen: Dict[int, int] = field(default_factory=dict)  # a set of row numbers, 4,096 in a number
 
 
@@ -64,6 +67,8 @@ def index(options: IndexOptions, catalogue: Catalogue) -> "Counter[str]":
     run = catalogue.begin_run(_now())
     with catalogue.reading():
         work = _work(options, catalogue)
+    if work.devices:
+        catalogue.set_devices(work.devices)
     gone, departed = _gone(options.names, work, catalogue)
     if gone:
         catalogue.put(run, gone)
@@ -90,6 +95,8 @@ def _work(options: IndexOptions, catalogue: Catalogue) -> Work:
     work = Work()
     named: Set[bytes] = set()
     many, first = len(options.names) > 1, catalogue.is_empty()
+    if not first:
+        work.unfinished.update(_unfinished(catalogue))
     for it in below(options.names, work.unlisted.append, _own_files(catalogue.name)):
         if many:
             if it.path in named:
@@ -100,21 +107,41 @@ def _work(options: IndexOptions, catalogue: Catalogue) -> Work:
             work.new.add(it.path)
         elif known is not None:
             work.seen[known.id >> 12] = work.seen.get(known.id >> 12, 0) | 1 << (known.id & 4095)
-        if options.again or not _is_unchanged(it, known):
+        if options.again or not _is_unchanged(it, known) or (known and known.id in work.unfinished):
             work.to_read.append(it)
         else:
             work.counts["unchanged"] += 1
+            if known and known.stamp and it.stamp and known.stamp.device != it.stamp.device:  # mounted again
+                work.devices.append((it.stamp.device, known.id))
     return work
 
 
+def _unfinished(catalogue: Catalogue) -> Iterator[int]:
+    """The numbers of pictures with a block or a part that was not read for want of a program which is there now."""
+    if importlib.util.find_spec("rdflib"):
+        yield from catalogue.rows(f"{_PICTURES_WITH} blocks ON picture = id AND xmp IS NULL AND cause = ?", ("NeedsRdflib",), _first)
+    if programs.is_there("exiftool"):
+        parts = f"{_PICTURES_WITH} not_read AS part ON picture = id AND pictures.not_read IS NULL AND what = ?"
+        yield from catalogue.rows(parts, (UNREAD_TRAILER,), _first)
+
+
+_PICTURES_WITH = "SELECT id FROM pictures CROSS JOIN"  # a cross join begins with the pictures, of which few are concerned
+
+
+def _first(row: Tuple[int]) -> int:
+    return row[0]
+
+
 def _is_unchanged(it: FoundFile, known: Optional[Known]) -> bool:
-    return known is not None and it.stamp is not None and known.stamp == it.stamp and not _worth_another(known.problem)
+    if known is None or known.stamp is None or it.stamp is None:
+        return False
+    return is_as_before(known.stamp, it.stamp) and not _worth_another(known.problem)
 
 
 def _worth_another(problem: Optional[str]) -> bool:
     """Whether a problem may be solved although the file is the same: rights, a program that was installed, a file that is back."""
     program = NEEDED.get(problem or "")
-    return problem in ("Unreadable", "ToolFailed", "InternalError", *GONE) or (program is not None and programs.is_there(program))
+    return problem in ("Unreadable", "ToolFailed", "TooSlow", "InternalError", "LinkToNothing", "NotAFile", *GONE) or (program is not None and programs.is_there(program))
 
 
 def _gone(names: Iterable[bytes], work: Work, catalogue: Catalogue) -> Tuple[List[PictureRecord], Departed]:

@@ -14,8 +14,8 @@ entity is expanded and nothing is fetched.
 """
 
 from .packets import CAUSES, Unreadable
-from .reading import digest, statements
+from .reading import Extensions, digest, statements
 from .shown import fields
 from .tree import Statements
 
-__all__ = ["CAUSES", "Statements", "Unreadable", "digest", "fields", "statements"]
+__all__ = ["CAUSES", "Extensions", "Statements", "Unreadable", "digest", "fields", "statements"]

@@ -40,9 +40,10 @@ class _Tree:
             self._said.setdefault(subject, []).append((predicate, value))
             if isinstance(value, rdflib.BNode):
                 inner.append(value)
-        if len(set(inner)) < len(inner):
+        below = set(inner)
+        if len(below) < len(inner):
             raise Unreadable("Shared")
-        self._tops = [it for it in self._said if it not in set(inner)]
+        self._tops = [it for it in self._said if it not in below]
         self._reached: Set[Any] = set()
 
     def statements(self) -> Statements:

@@ -6,21 +6,23 @@ import codecs
 import re
 from xml.etree import ElementTree
 
+from ..extract import budgets
+from ..extract.budgets import LANGUAGE, LIMITS, NESTED, PACKET_BYTES, Budget
 from .tree import RDF
 
-LONGEST = 16 << 20  # bytes
-MOST_TAGS = 500_000
-DEEPEST = 100  # nested elements
-
 CAUSES = {
-    "TooLong": f"The packet has more than {LONGEST:,} bytes or more than {MOST_TAGS:,} tags.",
+    "TooLong": f"The packet has more than {PACKET_BYTES:,} bytes, or the packets of its file together have more than"
+    f" {LIMITS[budgets.XMP_BYTES]:,} bytes, {LIMITS[budgets.XMP_TAGS]:,} tags or {LIMITS[budgets.XMP_ATTRIBUTES]:,} attributes,"
+    f" or a language has more than {LANGUAGE} characters.",
+    "TooRare": f"The packets of the file have more than {LIMITS[budgets.RARE_ELEMENTS]:,} elements in a rare form of RDF/XML.",
     "NotText": "The packet is no text in UTF-8, UTF-16 or UTF-32, or declares another encoding.",
     "DocumentType": "The packet has a document type declaration, which XMP does not allow.",
     "NotWellFormed": "The packet is not well-formed XML.",
     "NoRDF": "The packet is not x:xmpmeta around one rdf:RDF, nor rdf:RDF by itself.",
-    "TooDeep": f"More than {DEEPEST} elements are nested in one another.",
+    "TooDeep": f"More than {NESTED} elements are nested in one another.",
     "NotRDF": "What is inside rdf:RDF does not follow the syntax of RDF/XML.",
     "SeveralSubjects": "The packet makes statements about several subjects.",
+    "Repeated": "A property stands twice with different values, which XMP does not allow, and their order isn't known.",
     "Shared": "A node of the packet has several names or leads back to itself.",
     "ExtensionMissing": "The packet names extended XMP that is not there.",
     "ExtensionNotNamed": "There is extended XMP that no packet names.",
@@ -48,6 +50,21 @@ class Unreadable(ValueError):
         self.cause = cause
 
 
+def spend(packet: bytes, budget: Budget) -> None:
+    """Counts a packet before it is parsed: each tag has `<`, and each attribute `=`. Raises `Unreadable`, and `TooLong` for the file."""
+    if len(packet) > PACKET_BYTES:
+        raise Unreadable("TooLong")
+    budget.check_time()
+    try:
+        budget.spend(budgets.XMP_BYTES, len(packet))
+        budget.spend(budgets.XMP_TAGS, packet.count(b"<"))
+        budget.spend(budgets.XMP_ATTRIBUTES, packet.count(b"="))
+    except budgets.TooLong:
+        raise
+    except budgets.TooMuch:
+        raise Unreadable("TooLong") from None
+
+
 def rdf_of(packet: bytes) -> ElementTree.Element:
     """The packet's rdf:RDF element. Raises `Unreadable`.
 
@@ -55,9 +72,6 @@ def rdf_of(packet: bytes) -> ElementTree.Element:
     Traceback (most recent call last):
     exifnorm_pictures.xmp.packets.Unreadable: NoRDF: The packet is not x:xmpmeta around one rdf:RDF, nor rdf:RDF by itself.
     """
-    tags = packet.count(b"<")
-    if len(packet) > LONGEST or tags > MOST_TAGS:
-        raise Unreadable("TooLong")
     text = _text(packet)
     if "<!DOCTYPE" in text:
         raise Unreadable("DocumentType")
@@ -65,7 +79,7 @@ def rdf_of(packet: bytes) -> ElementTree.Element:
         root = ElementTree.fromstring(text)
     except (ElementTree.ParseError, ValueError):
         raise Unreadable("NotWellFormed") from None
-    if tags > DEEPEST:  # fewer can't be nested too deep
+    if packet.count(b"<") > NESTED:  # fewer can't be nested too deep
         _check_depth(root)
     if root.tag in _OUTER:
         inner = list(root)
@@ -94,7 +108,7 @@ def _text(packet: bytes) -> str:
 
 def _check_depth(root: ElementTree.Element) -> None:
     row = [root]
-    for _ in range(DEEPEST):
+    for _ in range(NESTED):
         row = [child for it in row for child in it]
         if not row:
             return

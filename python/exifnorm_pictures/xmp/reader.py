@@ -7,6 +7,7 @@ import re
 from typing import Dict, List
 from xml.etree.ElementTree import Element
 
+from ..extract.budgets import LANGUAGE
 from .packets import Unreadable
 from .tree import MEMBER, RDF, TYPE, Literal, Node, Resource, Statement, Statements, Value
 
@@ -37,7 +38,7 @@ def statements(root: Element) -> Statements:
     for node in root:
         if node.tag != _DESCRIPTION or _says(node.tail):
             raise Unusual
-        subjects.add(node.get(_ABOUT, ""))
+        subjects.add(node.get(_ABOUT, node.get("about", "")))
         found += _node(node, _language(root, ""))
     if len(subjects - {""}) > 1:
         raise Unreadable("SeveralSubjects")
@@ -53,6 +54,8 @@ def _language(it: Element, outer: str) -> str:
     found = it.get(_LANG)
     if found is None:
         return outer
+    if len(found) > LANGUAGE:
+        raise Unreadable("TooLong")
     if not _LANGUAGE.match(found):
         raise Unusual
     return found.lower()
@@ -78,7 +81,7 @@ def _node(node: Element, language: str) -> List[Statement]:
     for name, text in node.attrib.items():
         if name == _R + "type":
             found.append(Statement(TYPE, _resource(text)))
-        elif name not in (_LANG, _ABOUT):
+        elif name not in (_LANG, _ABOUT, "about"):
             found.append(Statement(_uri(name), Literal(text, language)))
     return found + _properties(node, language)
 
@@ -125,7 +128,7 @@ def _value(it: Element, language: str) -> Value:
 def _content(it: Element, language: str) -> Value:
     if not len(it):
         return Literal(it.text or "", language)
-    if len(it) > 1 or _says(it.text) or _says(it[0].tail) or _ABOUT in it[0].attrib:
+    if len(it) > 1 or _says(it.text) or _says(it[0].tail) or _ABOUT in it[0].attrib or "about" in it[0].attrib:
         raise Unusual
     return Node(tuple(_node(it[0], language)))
 

@@ -3,17 +3,42 @@
 from __future__ import annotations
 
 import hashlib
-from typing import Mapping, Set, Tuple
+from typing import Dict, Mapping, Optional, Set, Tuple, Union
 
+from ..extract.budgets import RARE_ELEMENTS, Budget, TooLong, TooMuch
 from . import by_rdflib, reader
-from .packets import Unreadable, rdf_of
-from .tree import Literal, Statements, digest_of
+from .packets import Unreadable, rdf_of, spend
+from .tree import TYPE, Literal, Node, Statements, Value, digest_of, key_of
 
 NOTE = "http://ns.adobe.com/xmp/note/HasExtendedXMP"
 
 
-def statements(packet: bytes, extensions: Mapping[str, bytes], used: Set[str]) -> Statements:
-    """The statements of a packet; `extensions` has the extended XMP of its picture by digest, and the digests in use go to `used`.
+_SMALL = 1 << 16  # bytes of a packet that needs no count
+
+
+class Extensions:
+    """The extended XMP of a picture by its digest. Each is read once, however many packets name it."""
+
+    __slots__ = ("data", "budget", "_parsed")
+
+    def __init__(self, data: Mapping[str, bytes], budget: Optional[Budget] = None) -> None:
+        self.data, self.budget = data, budget or Budget()
+        self._parsed: Dict[str, Statements] = {}
+
+    def statements(self, name: str) -> Statements:
+        """The statements of one. Raises `Unreadable`."""
+        if name not in self.data:
+            raise Unreadable("ExtensionMissing")
+        spend(self.data[name], self.budget)
+        if name not in self._parsed:
+            if hashlib.md5(self.data[name], usedforsecurity=False).hexdigest().upper() != name:
+                raise Unreadable("ExtensionDamaged")
+            self._parsed[name] = _parsed(self.data[name], self.budget)
+        return self._parsed[name]
+
+
+def statements(packet: bytes, extensions: Union[Extensions, Mapping[str, bytes]], used: Set[str]) -> Statements:
+    """The statements of a packet with the extended XMP of its picture; the digests in use go to `used`.
 
     Raises `Unreadable`.
 
@@ -21,27 +46,48 @@ def statements(packet: bytes, extensions: Mapping[str, bytes], used: Set[str]) -
     >>> statements(rdf + b"<r:Description r:about='' d:a='1'/></r:RDF>", {}, set())
     (Statement(predicate='http://d/a', value=Literal(text='1', language='', datatype='')),)
     """
-    found = _parsed(packet)
+    if not isinstance(extensions, Extensions):
+        extensions = Extensions(extensions)
+    if len(packet) <= _SMALL and extensions.budget.small_packets:
+        extensions.budget.small_packets -= 1
+    else:
+        spend(packet, extensions.budget)
+    found = _parsed(packet, extensions.budget)
     wanted = _named(found)
     if not wanted:
         return found
     used.update(wanted)
     added: Statements = ()
     for name in wanted:
-        if name not in extensions:
-            raise Unreadable("ExtensionMissing")
-        if hashlib.md5(extensions[name], usedforsecurity=False).hexdigest().upper() != name:
-            raise Unreadable("ExtensionDamaged")
-        added += _parsed(extensions[name])
+        added += extensions.statements(name)
     return tuple(it for it in found if it.predicate != NOTE) + added
 
 
-def _parsed(packet: bytes) -> Statements:
+def _parsed(packet: bytes, budget: Budget) -> Statements:
     root = rdf_of(packet)
     try:
         return reader.statements(root)
     except reader.Unusual:
-        return by_rdflib.statements(root)
+        try:
+            budget.spend(RARE_ELEMENTS, sum(1 for _ in root.iter()))
+        except TooLong:
+            raise
+        except TooMuch:
+            raise Unreadable("TooRare") from None
+        found = by_rdflib.statements(root)
+    check_repeated(found)  # rdflib doesn't keep the order
+    return found
+
+
+def check_repeated(found: Statements) -> None:
+    """Raises `Unreadable` if a property stands twice with different values: their order decides which one a reader shows, and isn't known."""
+    seen: Dict[str, Value] = {}
+    for predicate, value in found:
+        other = seen.setdefault(predicate, value)
+        if other is not value and predicate != TYPE and other != value and key_of(other) != key_of(value):
+            raise Unreadable("Repeated")
+        if isinstance(value, Node):
+            check_repeated(value.statements)
 
 
 def _named(found: Statements) -> Tuple[str, ...]:

@@ -22,7 +22,7 @@ def fields(found: Statements) -> List[Field]:
     by_property: Dict[str, List[Value]] = {}
     for predicate, value in unique(found):
         by_property.setdefault(short_name(predicate), []).append(value)
-    return [_field(name, sorted(values, key=key_of) if len(values) > 1 else values) for name, values in sorted(by_property.items())]
+    return [_field(name, values) for name, values in sorted(by_property.items())]
 
 
 def _field(name: str, values: List[Value]) -> Field:

@@ -4,7 +4,7 @@ from __future__ import annotations
 
 import hashlib
 import re
-from typing import List, NamedTuple, Tuple, Union
+from typing import Dict, List, NamedTuple, Tuple, Union
 
 RDF = "http://www.w3.org/1999/02/22-rdf-syntax-ns#"
 TYPE = RDF + "type"
@@ -85,8 +85,14 @@ def digest_of(statements: Statements, is_bag: bool = False) -> str:
     (True, False)
     """
     lines: List[str] = []
-    for predicate, value in unique(statements):
+    found = unique(statements)
+    many = len({predicate for predicate, _ in found}) < len(found)
+    counts: Dict[str, int] = {}
+    for predicate, value in found:
         word = "member" if is_bag and MEMBER.match(predicate) else predicate
+        if many and predicate != TYPE:  # XMP allows a property once; of several, readers take the first or the last, so their order counts
+            number = counts[predicate] = counts.get(predicate, 0) + 1
+            word += f" {number}" if number > 1 else ""
         lines.append(f"{len(word)}:{word}{key_of(value)}")
     octets = [line.encode("utf-8", "surrogatepass") for line in sorted(lines)]
     return hashlib.sha256(b"".join([b"%d:%b" % (len(it), it) for it in octets])).hexdigest()

@@ -12,9 +12,16 @@ CREATE TABLE blocks (
     place INTEGER,
     length INTEGER NOT NULL,        -- bytes of the block
     octets TEXT NOT NULL,           -- SHA-256 of the block as it is in the file
-    fields BLOB,                    -- its fields: JSON, compressed by zlib if it is long
+    repair TEXT,                    -- of a refused block: the steps after which it is accepted, JSON: cause, what was done, what is lost
+    repaired TEXT,                  -- SHA-256 of what it means after them
+    note INTEGER,                   -- where its MakerNote begins
+    fields BLOB,                    -- its fields: JSON, compressed by zlib if it is long; of a refused block, those after repair
     PRIMARY KEY (picture, number)
 ) WITHOUT ROWID;
+CREATE TABLE maker_notes (
+    picture INTEGER PRIMARY KEY REFERENCES pictures(id) ON DELETE CASCADE,
+    readings BLOB NOT NULL          -- what ExifTool reads of its MakerNotes: JSON, compressed by zlib
+);
 CREATE TABLE not_read (
     picture INTEGER NOT NULL REFERENCES pictures(id) ON DELETE CASCADE,
     number INTEGER NOT NULL,
@@ -30,6 +37,7 @@ CREATE TABLE pictures (
     modified INTEGER,               -- nanoseconds since 1970, in 64 bits
     changed INTEGER,                -- the same of the last change of the file's status (ctime)
     inode INTEGER,
+    device INTEGER,                 -- the file system, which identifies a file together with the inode
     type TEXT NOT NULL,             -- the format: JPEG, PNG .., or ExifTool's word
     extractor TEXT NOT NULL,        -- which program extracted the blocks: own, exiftool
     problem TEXT,                   -- why there are no blocks: Vanished, Moved, Unreadable, NoPicture, ToolFailed ..
@@ -38,9 +46,13 @@ CREATE TABLE pictures (
     iptc TEXT,
     xmp TEXT,
     not_read TEXT,                  -- SHA-256 of what was not read; empty: all was read; NULL: it can't be compared
+    other_not_read TEXT,            -- the same without the bytes that only a MakerNote can reach
     exif_octets TEXT NOT NULL,      -- SHA-256 of the blocks of a kind as they are in the file; empty if there is none
     iptc_octets TEXT NOT NULL,
     xmp_octets TEXT NOT NULL,
+    exif_repaired TEXT,             -- SHA-256 of what the Exif blocks mean after repairs that lose nothing, if one is refused
+    maker_notes TEXT NOT NULL,      -- where the MakerNotes begin in their blocks, which decides what they mean; empty if there is none
+    file TEXT NOT NULL,             -- SHA-256 of the whole file, if nothing else of it can be compared; else empty
     run INTEGER NOT NULL REFERENCES runs(id)
 );
 CREATE INDEX pictures_by_content ON pictures (exif, iptc, xmp, not_read) WHERE problem IS NULL;

@@ -43,6 +43,7 @@ class Pieces:
             data = b"".join(pieces[it] for it in offsets)
             if offsets == [0, *ends[:-1]] and ends[-1] == total:
                 extends = digest.decode("latin-1").upper()
+                blocks.check()
                 blocks.found.append(FoundBlock(XMP, data, name, self._places[digest], extends=extends))
             else:
                 blocks.leave(f"{name}, of which pieces are missing or overlap", data)

@@ -6,6 +6,9 @@ import hashlib
 from dataclasses import dataclass, field
 from typing import Dict, List, NamedTuple, Optional
 
+from ..budgets import BLOCKS, NOT_READ, Budget
+
+FEW = 8  # blocks or parts of a usual picture at most; more are counted, which takes time
 EXIF, IPTC, XMP = "exif", "iim", "xmp"
 NAMES = {EXIF: "Exif", IPTC: "IPTC", XMP: "XMP"}
 OWN, EXIFTOOL, EXIV2 = "own", "exiftool", "exiv2"  # which program extracted a block
@@ -14,15 +17,22 @@ PROGRAMS = {EXIFTOOL: "ExifTool", EXIV2: "exiv2"}
 # The problems that may be reported instead of blocks, each with its meaning for people.
 PROBLEMS = {
     "Vanished": "there is no such file any more",
+    "NoFile": "there is no such file",
+    "LinkToNothing": "a symbolic link that leads to no file",
+    "NotAFile": "a folder, a pipe, a socket or a device",
     "Unreadable": "the file can't be read",
     "NoPicture": "the file is no picture that ExifTool knows",
     "SeveralBlocks": "a CR3 file has several Exif blocks (CMT1 to CMT4), and ExifTool extracts only the first: two different"
     " pictures could seem to be the same",
     "BigTIFF": "a BigTIFF, whose offsets have eight bytes, is not read",
     "NeedsExiv2": "ExifTool gives no Exif block of raw files; exiv2 does, and it isn't installed (package exiv2)",
+    "TooMuch": "reading the file goes over a limit that no real picture reaches",
+    "TooSlow": "the program that extracts blocks took longer than its limit; the next run tries again",
     "ToolFailed": "the program that extracts blocks failed on this file",
     "InternalError": "exifnorm-pictures itself failed on this file; please report it",
 }
+
+UNREAD_TRAILER = "blocks of the trailer, for which ExifTool is needed"  # a part that is read once ExifTool is there
 
 _ORDINALS = ("first", "second", "third", "fourth", "fifth", "sixth", "seventh", "eighth", "ninth")
 
@@ -98,6 +108,7 @@ class Blocks:
     detail: str = ""
     counts: Dict[str, int] = field(default_factory=dict, repr=False)  # of blocks by name
     has_more: bool = False  # whether ExifTool may find blocks in a part that was not read
+    budget: Budget = field(default_factory=Budget, repr=False, compare=False)
 
     def add(self, kind: str, data: bytes, where: str, part: str = "", extractor: str = OWN) -> None:
         """Adds the next block of a kind, in the whole file or in one part of it.
@@ -107,12 +118,20 @@ class Blocks:
         >>> [it.name for it in some.found]
         ['Exif', 'second Exif']
         """
+        self.check()
         name = NAMES[kind] + (f" of {part}" if part else "")
         number = self.counts[name] = self.counts.get(name, 0) + 1
         self.found.append(FoundBlock(kind, data, name if number == 1 else f"{ordinal(number)} {name}", where, extractor))
 
+    def check(self) -> None:
+        """Raises `TooMuch` if the file may have no further block."""
+        if len(self.found) >= FEW:
+            self.budget.spend(BLOCKS)
+
     def leave(self, what: str, data: bytes) -> None:
-        """Adds a part that is not read, whose bytes are in memory."""
+        """Adds a part that is not read, whose bytes are in memory. Raises `TooMuch`."""
+        if len(self.not_read) >= FEW:
+            self.budget.spend(NOT_READ)
         self.not_read.append(NotRead.of(what, data))
 
     def of_kind(self, kind: str) -> List[FoundBlock]:

@@ -1,7 +1,8 @@
 """JPEG: Exif in APP1, also split over segments, IPTC in the Photoshop resources of APP13, XMP in APP1 and extended XMP, in the picture
 itself and in those of its MPF index (CIPA DC-008 4.7, CIPA DC-007, XMP part 3).
 
-Not compared, because they contain no Exif, IPTC or XMP: JFIF and its thumbnail, ICC profiles, comments, JUMBF, and other APPn segments.
+Not compared, because they contain no Exif, IPTC or XMP: comments, and the segments of `NOT_COMPARED`. All other segments of applications
+are compared by their bytes, and named.
 """
 
 from __future__ import annotations
@@ -9,13 +10,14 @@ from __future__ import annotations
 import re
 from typing import List, Set, Tuple
 
+from ..budgets import Budget, budget_of
 from . import mpf, photoshop
 from .extended_xmp import Pieces
 from .extended_xmp import HEAD as EXTENDED
 from .found import EXIF, XMP, Blocks, Broken, NotRead, length_of
-from .jpeg_segments import APP1, APP2, APP3, APP13, SOS, Budget, segments
+from .jpeg_segments import APP1, APP2, APP3, APP13, SOS, is_not_compared, segments
 from .jpeg_tail import WINDOW, Tail, tail
-from .streams import Stream, digest_of, is_blank, read_at, size_of
+from .streams import Stream, digest_of_rest, digest_of, read_at, size_of
 from .trailers import known_trailer
 
 START = b"\xff\xd8\xff"
@@ -29,11 +31,18 @@ _META = (b"Meta\0\0", b"META\0\0", b"Exif\0\0")  # Kodak's APP3, which has the s
 
 def read(stream: Stream, whole: bool = False) -> Blocks:
     """The blocks of a JPEG. Raises `Broken`."""
-    blocks = Blocks(type="JPEG")
-    budget = Budget()
+    budget = budget_of(stream)
+    blocks = Blocks(type="JPEG", budget=budget)
     end = size_of(stream)
     head = _Head(blocks)
-    head.read(stream, 0, budget)
+    try:
+        head.read(stream, 0, budget)
+    except Broken as why:
+        head._put_together()
+        if not blocks.found:
+            raise
+        blocks.not_read.append(NotRead(f"the rest of a damaged file ({why})", digest_of(stream, 0, end)))
+        return blocks
     starts = _further(stream, head, end)
     whole = whole or head.index_is_wrong
     _read_after(stream, head, (starts + [end])[0], whole)
@@ -83,6 +92,9 @@ class _Head:
             self.indexes.append((at + 8, data[4:]))
         elif marker == APP3 and data.startswith(_META):
             self._leave("APP3 segment Meta", data)
+        elif 0xE0 <= marker <= 0xEF and not is_not_compared(marker, data):
+            word = bytes(it for it in data.split(b"\0")[0][:12] if 32 < it < 127).decode("ascii")
+            self._leave(f"APP{marker - 0xE0} segment {word}".rstrip(), data)
 
     def _app1(self, at: int, data: bytes) -> bytes:
         place = f"APP1 segment at {at}"
@@ -114,7 +126,7 @@ class _Head:
             return photoshop.HEAD
         if data.startswith(photoshop.OLD_HEAD):
             self._runs.append((place, [data[photoshop.OLD_HEAD_LENGTH :]]))
-        elif not data.startswith(b"Adobe_CM"):
+        elif not is_not_compared(APP13, data):
             self._leave("APP13 segment of an unknown kind", data)
         return b""
 
@@ -147,15 +159,19 @@ def _read_after(stream: Stream, head: _Head, end: int, whole: bool) -> None:
     for at, length in found.segments:
         what = f"metadata segment behind the first scan{head.of}"
         head.blocks.not_read.append(NotRead(what, digest_of(stream, at, min(at + length, end))))
+    if not found.is_read:
+        head.blocks.not_read.append(NotRead(f"what follows the first scan{head.of}, {end - head.end:,} bytes", ""))
+        return
     if found.has_mark and found.end >= end:
         return
     trailer = known_trailer(stream, end)
     start = found.end if found.has_mark or trailer is None else max(head.end, end - WINDOW)
-    if start >= end or is_blank(stream, start, end):
+    digest = digest_of_rest(stream, start, end) if start < end else None
+    if digest is None:
         return
     head.blocks.has_more = head.blocks.has_more or (trailer is not None and trailer.may_hold_blocks)
     what = f"{trailer.name} trailer" if trailer else _kind_of_rest(stream, start, end)
-    head.blocks.not_read.append(NotRead(f"{what} of {length_of(end - start)}{head.of}", digest_of(stream, start, end)))
+    head.blocks.not_read.append(NotRead(f"{what} of {length_of(end - start)}{head.of}", digest))
 
 
 def _kind_of_rest(stream: Stream, at: int, end: int) -> str:

@@ -10,12 +10,11 @@ from __future__ import annotations
 import re
 from typing import List, NamedTuple
 
-from .found import Broken
+from ..budgets import SCAN_SEGMENTS, TooMuch, budget_of
 from .jpeg_segments import APP1, APP13, EOI, SOI
 from .streams import CHUNK, Stream
 
 WINDOW = 1 << 16  # bytes
-MOST_PLACES = 1000  # of metadata segments after the first scan
 
 _MARKER = re.compile(rb"\xff[\x01-\xcf\xd8-\xfe]")
 _TABLES = frozenset((0xC4, 0xCC, 0xDA, 0xDB, 0xDD))  # DHT, DAC, SOS, DQT, DRI
@@ -27,16 +26,19 @@ class Tail(NamedTuple):
     segments: "List[tuple[int, int]]"
     end: int  # after the end mark, or the end of the part if there is none
     has_mark: bool
+    is_read: bool = True
 
 
 def tail(stream: Stream, start: int, end: int, whole: bool) -> Tail:
-    """The tail of the picture whose first scan begins at `start`, in a part of the file that ends at `end`. Raises `Broken`."""
+    """The tail of the picture whose first scan begins at `start`, in a part of the file that ends at `end`. Raises `TooMuch`."""
     if not whole and end - start > WINDOW:
         first = end - WINDOW
         stream.seek(first - 1)
         first -= stream.read(1) == b"\xff"
         if _is_plain(_Markers(stream, first, end)):
             return Tail([], end, True)
+    if not budget_of(stream).may_digest(end - start):
+        return Tail([], start, False, False)
     return _scanned(_Markers(stream, start, end))
 
 
@@ -94,7 +96,12 @@ def _is_plain(markers: _Markers) -> bool:
 def _scanned(markers: _Markers) -> Tail:
     """Reads all bytes after the first scan's header."""
     places: "List[tuple[int, int]]" = []
+    budget = budget_of(markers.stream)
+    passed = 0
     while True:
+        passed += 1
+        if not passed & 4095:  # markers; no other limit counts them
+            budget.check_time()
         marker = markers.following()
         if marker in (0, EOI):
             return Tail(places, markers.at, marker == EOI)
@@ -104,5 +111,5 @@ def _scanned(markers: _Markers) -> Tail:
         length = markers.pass_over() + 2
         if marker in (APP1, APP13):
             places.append((at, length))
-            if len(places) > MOST_PLACES:
-                raise Broken(f"more than {MOST_PLACES} metadata segments behind the first scan")
+            if len(places) > SCAN_SEGMENTS:
+                raise TooMuch(f"more than {SCAN_SEGMENTS:,} metadata segments after the first scan")

@@ -8,7 +8,8 @@ from __future__ import annotations
 
 from typing import List, NamedTuple, Sequence, Tuple
 
-from .found import EXIF, IPTC, XMP, Blocks
+from ..budgets import LIMITS, RESOURCES, TooMuch
+from .found import EXIF, FEW, IPTC, XMP, Blocks
 
 HEAD = b"Photoshop 3.0\0"
 OLD_HEAD = b"Adobe_Photoshop2.5:"
@@ -27,8 +28,8 @@ class Resource(NamedTuple):
     data: bytes
 
 
-def resources(data: bytes) -> Tuple[List[Resource], bytes]:
-    """The resources, and the bytes after the last whole one, without zeros.
+def resources(data: bytes, most: int = LIMITS[RESOURCES]) -> Tuple[List[Resource], bytes]:
+    """The resources, and the bytes after the last whole one, without zeros. Raises `TooMuch` for more than `most`.
 
     >>> resources(b"8BIM" + b"\\x04\\x04" + b"\\0\\0" + b"\\0\\0\\0\\x03" + b"abc\\0")
     ([Resource(number=1028, data=b'abc')], b'')
@@ -41,6 +42,8 @@ def resources(data: bytes) -> Tuple[List[Resource], bytes]:
         if start + 4 + length > len(data):
             break
         found.append(Resource(int.from_bytes(data[at + 4 : at + 6], "big"), data[start + 4 : start + 4 + length]))
+        if len(found) > most:
+            raise TooMuch(f"more than {most:,} {RESOURCES}")
         at = start + 4 + length + length % 2
     rest = data[at:]
     return found, rest if rest.strip(b"\0") else b""
@@ -49,10 +52,13 @@ def resources(data: bytes) -> Tuple[List[Resource], bytes]:
 def add_resources(blocks: Blocks, runs: Sequence[Tuple[str, bytes]], part: str = "") -> None:
     """Adds the blocks in some runs of resources, each run with its position. A resource that continues in the next run is joined, as
     exiv2 does."""
-    if len(runs) > 1 and any(resources(data)[1] for _, data in runs[:-1]):
+    most = LIMITS[RESOURCES] * blocks.budget.times
+    if len(runs) > 1 and any(resources(data, most)[1] for _, data in runs[:-1]):
         runs = [(runs[0][0], b"".join(data for _, data in runs))]
     for where, data in runs:
-        found, rest = resources(data)
+        found, rest = resources(data, most)
+        if len(found) > FEW:
+            blocks.budget.spend(RESOURCES, len(found))
         for it in found:
             _add_one(blocks, it, where, part)
         if rest:

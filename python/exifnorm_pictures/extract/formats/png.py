@@ -8,14 +8,12 @@ from __future__ import annotations
 
 import zlib
 
+from ..budgets import CHUNK_BYTES, CHUNKS, budget_of
 from . import photoshop
 from .found import EXIF, IPTC, XMP, Blocks, Broken, NotRead, length_of
-from .streams import Stream, digest_of, is_blank, read_at, size_of
+from .streams import Stream, digest_of_rest, read_at, size_of
 
 START = b"\x89PNG\r\n\x1a\n"
-MOST_CHUNKS = 100_000
-MOST_BYTES = 64 << 20  # of chunks that are kept, and of their inflated data
-
 _SIX = b"Exif\0\0"
 _XMP_KEYWORD = b"xml:com.adobe.xmp"
 _XMP_HEAD = b"http://ns.adobe.com/xap/1.0/\0"
@@ -31,14 +29,14 @@ def read(stream: Stream, whole: bool = False) -> Blocks:
     """The blocks of a PNG, which is always read to its end. Raises `Broken`."""
     reader = _Reader(stream)
     at = len(START)
-    for _ in range(MOST_CHUNKS):
+    while True:
+        reader.budget.spend(CHUNKS)
         length, kind = reader.head(at)
         reader.chunk(at, length, kind)
         at += 12 + length
         if kind == b"IEND":
             reader.rest(at)
             return reader.blocks
-    raise Broken(f"more than {MOST_CHUNKS:,} chunks")
 
 
 class _Reader:
@@ -47,8 +45,8 @@ class _Reader:
     def __init__(self, stream: Stream) -> None:
         self.stream = stream
         self.size = size_of(stream)
-        self.blocks = Blocks(type="PNG")
-        self.left = MOST_BYTES
+        self.budget = budget_of(stream)
+        self.blocks = Blocks(type="PNG", budget=self.budget)
 
     def head(self, at: int) -> "tuple[int, bytes]":
         """The length and the kind of the chunk at an offset."""
@@ -62,9 +60,7 @@ class _Reader:
         """Adds the blocks of a chunk."""
         if kind not in (b"eXIf", b"zxIf", *_TEXTS):
             return
-        self.left -= length
-        if self.left < 0:
-            raise Broken(f"more than {MOST_BYTES:,} bytes of metadata chunks")
+        self.budget.spend(CHUNK_BYTES, length)
         data = read_at(self.stream, at + 8, length)
         if zlib.crc32(kind + data) != int.from_bytes(read_at(self.stream, at + 8 + length, 4), "big"):
             raise Broken(f"wrong check sum of the chunk at {at}")
@@ -78,8 +74,9 @@ class _Reader:
 
     def rest(self, at: int) -> None:
         """The bytes after the last chunk."""
-        if not is_blank(self.stream, at, self.size):
-            self.blocks.not_read.append(NotRead(f"trailer of {length_of(self.size - at)}", digest_of(self.stream, at, self.size)))
+        digest = digest_of_rest(self.stream, at, self.size)
+        if digest is not None:
+            self.blocks.not_read.append(NotRead(f"trailer of {length_of(self.size - at)}", digest))
 
     def _text(self, kind: bytes, data: bytes, where: str) -> None:
         keyword, _, text = data.partition(b"\0")
@@ -111,12 +108,12 @@ class _Reader:
             raise _Unreadable("its compression is not known")
         opened = zlib.decompressobj()
         try:
-            found = opened.decompress(data, max(self.left, 1))
+            found = opened.decompress(data, self.budget.left[CHUNK_BYTES] + 1)
         except zlib.error:
             raise _Unreadable("its compressed data is damaged") from None
-        self.left -= len(found)
+        self.budget.spend(CHUNK_BYTES, len(found))
         if not opened.eof:
-            raise _Unreadable("its compressed data is cut or too long")
+            raise _Unreadable("its compressed data is cut")
         return found
 
     def _profile(self, kind: bytes, data: bytes, where: str) -> None:

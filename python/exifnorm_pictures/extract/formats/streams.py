@@ -5,8 +5,10 @@ from __future__ import annotations
 
 import hashlib
 import os
-from typing import Iterator, Protocol
+from typing import Iterator, Optional, Protocol
 
+from ...files import opening
+from ..budgets import BYTES_READ, Budget, budget_of
 from .found import Broken
 
 CHUNK = 1 << 18
@@ -26,11 +28,15 @@ class File:
     """A regular file that is open, with as many bytes as it had then. Its first bytes are in memory, so that a picture whose metadata are
     there takes few calls of the system."""
 
-    def __init__(self, number: int, size: int) -> None:
+    def __init__(self, number: int, size: int, budget: Optional[Budget] = None) -> None:
         """Takes over the file of this number."""
-        self.number, self.size = number, size
+        self.number, self.size, self.budget = number, size, budget or Budget()
         self._at = 0
-        self._head = os.pread(number, min(size, HEAD), 0)
+        try:
+            self._head = os.pread(number, min(size, HEAD), 0)
+        except BaseException:
+            os.close(number)
+            raise
 
     def seek(self, at: int, whence: int = os.SEEK_SET) -> int:
         """Sets the offset at which the next bytes are read."""
@@ -46,6 +52,7 @@ class File:
             if not more:  # the file has been shortened
                 break
             data += more
+            self.budget.spend(BYTES_READ, len(more))
         self._at = at + len(data)
         return data
 
@@ -100,3 +107,26 @@ def digest_of(stream: Stream, start: int, end: int) -> str:
 def is_blank(stream: Stream, start: int, end: int) -> bool:
     """Whether a part of a file has only zeros."""
     return not any(it.strip(b"\0") for it in pieces(stream, start, end))
+
+
+def digest_of_file(path: bytes, most: int) -> str:
+    """SHA-256 of a whole file; empty if it has more bytes than `most`."""
+    with opening.reading(path) as file:
+        size = os.fstat(file.fileno()).st_size
+        return digest_of(file, 0, size) if size <= most else ""
+
+
+def digest_of_rest(stream: Stream, start: int, end: int) -> Optional[str]:
+    """SHA-256 of the bytes after a picture: None if they are only zeros, empty if they are more than may be read.
+
+    >>> import io
+    >>> digest_of_rest(io.BytesIO(b"abc\\0\\0"), 3, 5), digest_of_rest(io.BytesIO(b"xabc"), 1, 4)[:8]
+    (None, 'ba7816bf')
+    """
+    if not budget_of(stream).may_digest(end - start):
+        return ""
+    found, blank = hashlib.sha256(), True
+    for it in pieces(stream, start, end):
+        found.update(it)
+        blank = blank and not it.strip(b"\0")
+    return None if blank else found.hexdigest()

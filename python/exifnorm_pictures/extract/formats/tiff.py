@@ -6,22 +6,24 @@ Raw pictures have the same structure, and private pointers too; ExifTool and exi
 
 from __future__ import annotations
 
+import hashlib
 from collections import deque
 from typing import Deque, Dict, Iterator, List, NamedTuple, Optional, Set, Tuple
 
 from exifnorm import LIMIT
 
+from ..budgets import DIRECTORIES, STRIPS
+from ..structure import counted
 from . import photoshop
 from .found import EXIF, IPTC, XMP, Blocks, Broken, LeftToOthers, NotRead, length_of
-from .streams import Stream, digest_of, is_blank, read_at
+from .streams import Stream, digest_of_rest, pieces, read_at
 from .tiff_block import Layout, Table, is_pointer
-from .tiff_directories import HEADS, IFD, LONG, MOST_DIRECTORIES, Directories, Directory, Entry
+from .tiff_directories import HEADS, IFD, LONG, Directories, Directory, Entry
 
 __all__ = ["BIG_HEADS", "HEADS", "read", "read_big"]
 
 BIG_HEADS = (b"II+\0", b"MM\0+")
 DEEPEST = 10  # SubIFDs below one another
-MOST_STRIPS = 4_000_000  # whose ends are computed
 
 PIXELS: Dict[int, str] = {
     0x0111: "StripOffsets",
@@ -41,7 +43,7 @@ _SUB_IFDS, _XMP, _IPTC, _PHOTOSHOP, _LAYERS = 0x014A, 0x02BC, 0x83BB, 0x8649, 0x
 _Pointers = Dict[int, "_Pointers"]
 _POINTERS: _Pointers = {0x8769: {0xA005: {}}, 0x8825: {}}  # Exif with Interoperability, GPS
 _OTHER_POINTERS = {0x0190: "GlobalParametersIFD", 0x8290: "Kodak's IFD", 0x8606: "Leaf's IFD", 0xFE00: "Kodak's IFD"}
-_DNG_VERSION = 0xC612
+_DNG_VERSION, _MAKER_NOTE = 0xC612, 0x927C
 
 
 _Place = Tuple[int, str, int]  # the offset of a directory, the name of its chain, and its number there
@@ -76,7 +78,9 @@ class _Reader:
 
     def __init__(self, directories: Directories) -> None:
         self.directories = directories
-        self.blocks = Blocks(type="TIFF")
+        self.blocks = Blocks(type="TIFF", budget=directories.budget)
+        self._covered: List[Tuple[int, int]] = [(0, 8)]  # all these parts
+        self._has_note = False
         self._end: Optional[int] = 8  # after all parts that the directories point to; None if it is unknown
 
     def pages(self) -> Iterator[_Page]:
@@ -106,8 +110,8 @@ class _Reader:
         entries = [entry for entry in it.entries if entry.tag == _SUB_IFDS]
         if entries and part.count("SubIFD") >= DEEPEST:
             raise Broken(f"more than {DEEPEST} SubIFDs below one another")
-        if sum(entry.elements for entry in entries) > MOST_DIRECTORIES:
-            raise Broken(f"more than {MOST_DIRECTORIES:,} SubIFDs")
+        if entries:  # they count when they are named, since a list of them may be long, and when they are read
+            self.directories.budget.spend(DIRECTORIES, sum(entry.elements for entry in entries if self.directories.place_of(entry)))
         places = [place for entry in entries for place in self.directories.numbers(entry)]
         return [(place, f"SubIFD {number} of {part}", 1) for number, place in enumerate(places, 1)]
 
@@ -115,15 +119,16 @@ class _Reader:
         it = self.directories.read(at)
         if any(entry.tag == _DNG_VERSION for entry in it.entries):
             raise LeftToOthers("a DNG")
-        self._reaches(at + 2 + 12 * len(it.entries) + 4)
+        self._reaches(at + 2 + 12 * len(it.entries) + 4, at)
         for entry in it.entries:
             place = self.directories.place_of(entry) if entry.size > 4 else None
             if place:
-                self._reaches(place[1])
+                self._reaches(place[1], place[0])
         self._pixels_reach(it)
         return it
 
-    def _reaches(self, end: int) -> None:
+    def _reaches(self, end: int, start: Optional[int] = None) -> None:
+        self._covered.append((end if start is None else start, end))
         if self._end is not None:
             self._end = max(self._end, end)
 
@@ -133,10 +138,11 @@ class _Reader:
             if offsets not in by_tag:
                 continue
             pair = [by_tag[tag] for tag in (offsets, lengths) if tag in by_tag]
-            if len(pair) < 2 or pair[0].elements != pair[1].elements or pair[0].elements > MOST_STRIPS:
+            if len(pair) < 2 or pair[0].elements != pair[1].elements or pair[0].elements > STRIPS:
                 self._end = None  # old files have no lengths of strips
                 continue
             starts, sizes = (self.directories.numbers(entry) for entry in pair)
+            self._covered += [(start, start + size) for start, size in zip(starts, sizes)]
             self._reaches(max((start + size for start, size in zip(starts, sizes)), default=0))
 
     def take(self, page: _Page) -> None:
@@ -144,6 +150,8 @@ class _Reader:
         left_out: Set[str] = set()
         kept: List[Entry] = []
         for it in page.directory.entries:
+            if (it.tag in PIXELS or it.tag == _SUB_IFDS) and not self._is_whole(it):
+                raise Broken(f"the list of tag {it.tag:04x} of {page.part or 'page 1'} isn't whole")
             if it.tag in PIXELS:
                 left_out.add(PIXELS[it.tag])
             elif it.tag == _SUB_IFDS:
@@ -159,20 +167,25 @@ class _Reader:
         where = f"directory at {page.directory.at}" + (f", without {', '.join(sorted(left_out))}" if left_out else "")
         self.blocks.add(EXIF, layout.block(), where, page.part)
 
+    def _is_whole(self, it: Entry) -> bool:
+        """Whether an entry that is left out is a list of numbers that the file contains."""
+        return it.type in (3, LONG, IFD) and (it.size <= 4 or self.directories.place_of(it) is not None)
+
     def _is_block(self, it: Entry, part: str) -> bool:
         """Adds the block of an entry, if it has one. Returns whether the entry is taken out of its directory."""
         of = part or "page 1"
         where = f"tag {it.tag:04x} of {of}"
-        data = self.directories.value(it) if it.tag in (_XMP, _IPTC, _PHOTOSHOP) else b""
+        data = self.directories.shared(it) if it.tag in (_XMP, _IPTC, _PHOTOSHOP) else b""
         if it.tag == _XMP and data:
             self.blocks.add(XMP, data, where, part)
+        elif it.tag == _IPTC and it.type == LONG and data[3:4] == b"\x1c" and data[:1] != b"\x1c":
+            self.blocks.add(IPTC, b"".join(data[at : at + 4][::-1] for at in range(0, len(data), 4)), where, part)
         elif it.tag == _IPTC and data[:1] == b"\x1c":
             self.blocks.add(IPTC, data, where, part)
         elif it.tag == _PHOTOSHOP and data:
             photoshop.add_resources(self.blocks, [(where, data)], part)
         elif it.tag == _LAYERS and it.size > 4 and (place := self.directories.place_of(it)):
-            self.directories.spend(it.size)
-            self.blocks.not_read.append(NotRead(f"Photoshop's layers of {of}", digest_of(self.directories.stream, *place)))
+            self.blocks.not_read.append(NotRead(f"Photoshop's layers of {of}", digest_of_rest(self.directories.stream, *place) or ""))
         else:
             if it.tag in _OTHER_POINTERS and it.type in (LONG, IFD):
                 self.blocks.not_read.append(NotRead(f"{_OTHER_POINTERS[it.tag]} of {of}", ""))
@@ -184,16 +197,33 @@ class _Reader:
         for it in entries:
             if it.tag in pointers and is_pointer(it) and it.tag not in below:
                 directory = self.directories.read(self.directories.number(it.last))
-                self._reaches(directory.at + 2 + 12 * len(directory.entries) + 4)
+                self._reaches(directory.at + 2 + 12 * len(directory.entries) + 4, directory.at)
+                self._has_note = self._has_note or any(one.tag == _MAKER_NOTE and one.size > 4 for one in directory.entries)
                 below[it.tag] = self._table(directory.entries, pointers[it.tag])
         for it in entries:
             place = self.directories.place_of(it) if it.size > 4 else None
             if place:
-                self._reaches(place[1])
+                self._reaches(place[1], place[0])
         return Table(entries, below)
 
     def rest(self) -> None:
-        """The bytes after all parts that the directories point to."""
+        """The bytes after all parts that the directories point to; and with a MakerNote, which may lead to them, the bytes between."""
+        if self._has_note:
+            self._between()
         stream, size = self.directories.stream, self.directories.size
-        if self._end is not None and self._end < size and not is_blank(stream, self._end, size):
-            self.blocks.not_read.append(NotRead(f"trailer of {length_of(size - self._end)}", digest_of(stream, self._end, size)))
+        digest = digest_of_rest(stream, self._end, size) if self._end is not None and self._end < size else None
+        if self._end is not None and digest is not None:
+            self.blocks.not_read.append(NotRead(f"trailer of {length_of(size - self._end)}", digest))
+
+    def _between(self) -> None:
+        """The bytes that no directory covers, if they aren't all 0."""
+        stream, end, count = self.directories.stream, 0, 0
+        found = hashlib.sha256()
+        for start, stop in sorted(self._covered):
+            for data in pieces(stream, end, min(start, self.directories.size)) if start > end else ():
+                if bare := data.strip(b"\0"):
+                    found.update(bare)
+                    count += sum(map(bool, bare))
+            end = max(end, stop)
+        if count:
+            self.blocks.not_read.append(NotRead(counted(count, "the MakerNote"), found.hexdigest()))

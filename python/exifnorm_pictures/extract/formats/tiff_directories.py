@@ -9,15 +9,13 @@ import struct
 from bisect import bisect_left
 from typing import Dict, List, NamedTuple, Optional, Tuple
 
+from ..budgets import DIRECTORIES, ENTRIES, VALUE_BYTES, budget_of
 from .found import Broken
 from .streams import Stream, read_at, size_of
 
 HEADS = (b"II*\0", b"MM\0*")
 SIZES = {1: 1, 2: 1, 3: 2, 4: 4, 5: 8, 6: 1, 7: 1, 8: 2, 9: 4, 10: 8, 11: 4, 12: 8, 13: 4, 129: 1}
 LONG, IFD = 4, 13
-MOST_DIRECTORIES = 10_000
-MOST_ENTRIES = 1_000_000
-MOST_BYTES = 256 << 20  # of values and blocks that are read from one file, whose directories may point to the same bytes
 
 
 class Entry(NamedTuple):
@@ -53,9 +51,9 @@ class Directories:
         self.first = self.number(head[4:])
         self._starts: List[int] = [0]  # of the header and of the directories that were read
         self._ends: Dict[int, int] = {0: 8}
-        self._entries = 0
-        self._left = MOST_BYTES
+        self.budget = budget_of(stream)
         self._values: List[Tuple[int, int]] = []
+        self._shared: Dict[Tuple[int, int], bytes] = {}
 
     def number(self, data: bytes) -> int:
         """A number in the file's byte order."""
@@ -66,9 +64,8 @@ class Directories:
         count = self.number(read_at(self.stream, at, 2))
         table = read_at(self.stream, at + 2, 12 * count + 4)
         self._claim(at, at + 2 + 12 * count + 4)
-        self._entries += count
-        if len(self._starts) > MOST_DIRECTORIES or self._entries > MOST_ENTRIES:
-            raise Broken("more directories than any picture has")
+        self.budget.spend(DIRECTORIES)
+        self.budget.spend(ENTRIES, count)
         entries = [Entry(*it) for it in struct.iter_unpack(self.order + "HHI4s", table[: 12 * count])]
         return Directory(at, entries, self.number(table[12 * count :]))
 
@@ -93,17 +90,20 @@ class Directories:
         place = self.place_of(it)
         return self.part(*place) if place else b""
 
+    def shared(self, it: Entry) -> bytes:
+        """The same, of an entry whose value is a block by itself: pages that share it have it once in memory."""
+        place = self.place_of(it) if it.size > 4 else None
+        if place is None:
+            return self.value(it)
+        if place not in self._shared:
+            self._shared[place] = self.value(it)
+        return self._shared[place]
+
     def part(self, start: int, end: int) -> bytes:
         """The bytes of a part of the file with values. Raises `Broken`."""
-        self.spend(end - start)
+        self.budget.spend(VALUE_BYTES, end - start)
         self._values.append((start, end))
         return read_at(self.stream, start, end - start)
-
-    def spend(self, length: int) -> None:
-        """Counts bytes that are read. Raises `Broken` if they are more than any picture needs."""
-        self._left -= length
-        if self._left < 0:
-            raise Broken(f"more than {MOST_BYTES:,} bytes of values")
 
     def check(self) -> None:
         """Raises `Broken` if a value that was read shares bytes with a directory or with the header."""

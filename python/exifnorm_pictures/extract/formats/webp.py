@@ -5,11 +5,10 @@ from __future__ import annotations
 
 import struct
 
+from ..budgets import CHUNK_BYTES, CHUNKS, budget_of
 from .found import EXIF, XMP, Blocks, Broken, NotRead, length_of
-from .streams import Stream, digest_of, is_blank, read_at, size_of
+from .streams import Stream, digest_of_rest, read_at, size_of
 
-MOST_CHUNKS = 100_000
-MOST_BYTES = 64 << 20  # of chunks that are kept
 _SIX = b"Exif\0\0"
 _WITHOUT = frozenset((b"VP8 ", b"VP8L", b"VP8X", b"ALPH", b"ANIM", b"ANMF", b"ICCP"))  # chunks without metadata (RFC 9649, 2.6 and 2.7)
 
@@ -25,14 +24,15 @@ def is_webp(head: bytes) -> bool:
 
 def read(stream: Stream, whole: bool = False) -> Blocks:
     """The blocks of a WebP, which is always read to its end. Raises `Broken`."""
-    blocks = Blocks(type="WEBP")
+    budget = budget_of(stream)
+    blocks = Blocks(type="WEBP", budget=budget)
     size = size_of(stream)
     end = 8 + int.from_bytes(read_at(stream, 4, 4), "little")
     if end > size:
         raise Broken("the file is shorter than its header says")
-    left = MOST_BYTES
     at = 12
-    for _ in range(MOST_CHUNKS):
+    while True:
+        budget.spend(CHUNKS)
         if at + 8 > end:
             _rest(blocks, stream, min(at, end), size)
             return blocks
@@ -40,12 +40,9 @@ def read(stream: Stream, whole: bool = False) -> Blocks:
         if at + 8 + length > end:
             raise Broken(f"the chunk at {at} is longer than the file")
         if kind not in _WITHOUT:
-            left -= length
-            if left < 0:
-                raise Broken(f"more than {MOST_BYTES:,} bytes of metadata chunks")
+            budget.spend(CHUNK_BYTES, length)
             _add(blocks, kind, read_at(stream, at + 8, length), at)
         at += 8 + length + length % 2
-    raise Broken(f"more than {MOST_CHUNKS:,} chunks")
 
 
 def _add(blocks: Blocks, kind: bytes, data: bytes, at: int) -> None:
@@ -58,5 +55,6 @@ def _add(blocks: Blocks, kind: bytes, data: bytes, at: int) -> None:
 
 
 def _rest(blocks: Blocks, stream: Stream, at: int, size: int) -> None:
-    if not is_blank(stream, at, size):
-        blocks.not_read.append(NotRead(f"trailer of {length_of(size - at)}", digest_of(stream, at, size)))
+    digest = digest_of_rest(stream, at, size)
+    if digest is not None:
+        blocks.not_read.append(NotRead(f"trailer of {length_of(size - at)}", digest))

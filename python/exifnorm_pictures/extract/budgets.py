@@ -1,0 +1,104 @@
+"""What one picture may cost: how much of it is read, and how much is kept of what it has.
+
+Pictures come from strangers. Each reader counts what it does, and stops at a limit that is far beyond any real picture: of 12,000
+pictures of the packages of exiv2, ExifTool, Pillow, ImageMagick, PHP, digiKam, libexif and metadata-extractor, the largest need is given
+beside each limit. At the limits a picture takes about 10 seconds of a processor and 256 MB, without other programs. A picture over a
+limit has the problem `TooMuch`, a packet of XMP over one is unreadable, and a part over one has no digest; none is ever the same as
+another. With --whole, which asks for every byte, all limits of a picture are `WHOLE` times as high.
+"""
+
+from __future__ import annotations
+
+import time
+from typing import Dict
+
+SECONDS = 5.0  # of a processor, looked at between two steps, of which the longest, parsing a packet, takes as much; need 0.09
+
+# The limits of a picture, by the words that a message has.
+BYTES_READ = "bytes read"
+BLOCKS = "blocks"
+NOT_READ = "parts that are not read"
+SEGMENTS, SEGMENT_BYTES = "segments", "bytes of segments"
+CHUNKS, CHUNK_BYTES = "chunks", "bytes of chunks"
+RESOURCES = "Photoshop resources"
+DIRECTORIES, ENTRIES, VALUE_BYTES = "directories", "entries of directories", "bytes of values"
+XMP_BYTES, XMP_TAGS, XMP_ATTRIBUTES, RARE_ELEMENTS = "bytes of XMP", "tags of XMP", "attributes of XMP", "elements of rare RDF"
+
+LIMITS: Dict[str, int] = {
+    BYTES_READ: 1 << 30,  # bytes that are read twice count twice. About 3 seconds of SHA-256; need 6.8 MB
+    BLOCKS: 20_000,  # two for each page of a TIFF; need 15
+    NOT_READ: 10_000,  # need 358
+    SEGMENTS: 100_000,  # of a JPEG; need 37, and a profile of 16 MB has 256
+    SEGMENT_BYTES: 64 << 20,  # of those that are kept; need 1.7 MB
+    CHUNKS: 100_000,  # of a PNG or WebP; need 678, and 100 MB in pieces of 8 kB are 13,000
+    CHUNK_BYTES: 32 << 20,  # of those that are kept, and of what they inflate to; twice as much takes 321 MB of memory; need 37 kB
+    RESOURCES: 10_000,  # each is an object of Python: 2.6 million take 2.4 GB; need 42
+    DIRECTORIES: 10_000,  # of a TIFF; need 15
+    ENTRIES: 1_000_000,  # of all its directories; need 12,361
+    VALUE_BYTES: 128 << 20,  # of these entries; twice as much takes 400 MB of memory; need 1.6 MB
+    XMP_BYTES: 64 << 20,  # of all packets; extended XMP counts once for each packet that names it; need 1.7 MB
+    XMP_TAGS: 500_000,  # about 10 microseconds and 350 bytes each; need 447
+    XMP_ATTRIBUTES: 100_000,  # about 20 microseconds and 600 bytes each; need 246
+    RARE_ELEMENTS: 30_000,  # which rdflib reads, in about 0.1 milliseconds each; need 225
+}
+WHOLE = 64
+UNREAD_BYTES = 256 << 20  # after a scan or the last chunk, for whose digest all are read: 0.8 seconds of SHA-256; need 0.1 MB
+STRIPS = 1_000_000  # of a page of a TIFF whose ends are computed; each takes 36 bytes; without them the trailer isn't looked for
+SCAN_SEGMENTS = 1000  # of metadata after the first scan of a JPEG; none has more than a few
+PACKET_BYTES = 16 << 20  # of one packet, as of one block
+NESTED = 100  # elements of a packet in one another
+LANGUAGE = 100  # characters of a language of XMP, which each of its texts repeats; RFC 5646, 4.4.1 asks for 35
+FIELDS = 100_000  # of a block that are kept to be shown; the block is compared by its digest in any case; need 150
+FIELD_BYTES = 8 << 20  # of the fields of a block as JSON, here and in a catalogue of others; need 8.6 kB
+WHOLE_FILE = 16 << 20  # bytes of a file of which no block was read, for a digest of all of it; with --whole any number
+OUTPUT = 64 << 20  # bytes that another program may write about a picture
+
+# A catalogue may be a stranger's, too.
+ROW_BYTES = 64 << 20  # of a value or a row
+STEPS = 1_000_000  # of SQLite until Python heeds a signal: some milliseconds
+
+_OFTEN = 15  # after so many counts the time is looked at, which takes longer than all else here
+
+
+class TooMuch(Exception):
+    """A picture goes over a limit. The text names it."""
+
+
+class TooLong(TooMuch):
+    """A picture has taken too much time of a processor."""
+
+
+class Budget:
+    """What one picture may still cost."""
+
+    def __init__(self, whole: bool = False) -> None:
+        self.times = WHOLE if whole else 1
+        self.left = {what: most * WHOLE for what, most in LIMITS.items()} if whole else LIMITS.copy()
+        self.small_packets = 4  # of XMP that aren't counted, because counting takes time for each usual picture
+        self._counts = 0
+        self._ends = 0.0  # the clock starts when it is first looked at, which most pictures never need
+
+    def spend(self, what: str, number: int = 1) -> None:
+        """Counts more of something. Raises `TooMuch`, at times also if the picture has taken too long."""
+        left = self.left[what] = self.left[what] - number
+        if left < 0:
+            raise TooMuch(f"more than {LIMITS[what] * self.times:,} {what}")
+        self._counts += 1
+        if not self._counts & _OFTEN:
+            self.check_time()
+
+    def check_time(self) -> None:
+        """Raises `TooLong` if the picture has taken too much time of a processor."""
+        now = time.thread_time()
+        self._ends = self._ends or now + SECONDS * self.times
+        if now > self._ends:
+            raise TooLong(f"more than {SECONDS * self.times:g} seconds of a processor")
+
+    def may_digest(self, count: int) -> bool:
+        """Whether so many bytes after a picture may be read for a digest."""
+        return count <= UNREAD_BYTES * self.times
+
+
+def budget_of(stream: object) -> Budget:
+    """The budget of a picture that is open; a new one for a stream without."""
+    return getattr(stream, "budget", None) or Budget()

@@ -1,0 +1,30 @@
+"""Files that are opened to be read: regular ones only, so that no pipe is waited for and no device is read, whoever named it."""
+
+from __future__ import annotations
+
+import errno
+import os
+import stat
+from typing import BinaryIO, Tuple, Union
+
+IRREGULAR = "it is no regular file"
+
+
+def opened(path: Union[bytes, str]) -> Tuple[int, int]:
+    """The number of a regular file that is open, and its length. A file that becomes a pipe isn't waited for. Raises `OSError`."""
+    try:
+        if not stat.S_ISREG(os.stat(path).st_mode):
+            raise OSError(errno.EINVAL, IRREGULAR, path)
+    except ValueError:
+        raise OSError(errno.EINVAL, "its name has a NUL", path) from None
+    number = os.open(path, os.O_RDONLY | os.O_NONBLOCK | os.O_NOCTTY | os.O_CLOEXEC)
+    now = os.fstat(number)
+    if not stat.S_ISREG(now.st_mode):
+        os.close(number)
+        raise OSError(errno.EINVAL, IRREGULAR, path)
+    return number, now.st_size
+
+
+def reading(path: Union[bytes, str]) -> BinaryIO:
+    """A regular file as a stream. Raises `OSError`."""
+    return open(opened(path)[0], "rb")

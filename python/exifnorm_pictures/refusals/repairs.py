@@ -1,0 +1,282 @@
+"""Repairs of refused Exif blocks, in memory: one step after another, each for the first fault that the engine names, until it accepts.
+
+The repaired block is never written. Each step has words for people, and what it loses. A repair that loses anything may show fields,
+and never makes two pictures the same. That a repaired block says what was meant is tested against ExifTool, and not proved.
+"""
+
+from __future__ import annotations
+
+import struct
+from typing import Callable, Dict, List, NamedTuple, Optional, Tuple
+
+import exifnorm
+
+from ..extract.structure import LINKS, MAKER_NOTE, SIZE, Directory, Entry, Walk
+from .steps import Step
+
+MOST = 100  # steps
+_POINTERS = (0x0111, 0x0117, 0x0201, 0x0202, 0x8769, 0x8825, 0xA005)
+_ALLOWED = {("main", 0x8769), ("main", 0x8825), ("exif", 0xA005), *(("thumb", it) for it in (0x0111, 0x0117, 0x0201, 0x0202))}
+_ROLES = {0x0111, 0x0117, 0x0120, 0x0144, 0x014A, 0x0201, 0x0202, 0x0207, 0x0208, 0x0209, 0x8769, 0x8825, 0xA005}
+_NAMES = {"main": "main directory", "exif": "Exif directory", "gps": "GPS directory", "interop": "Interoperability directory",
+          "thumb": "thumbnail directory"}  # fmt: skip
+
+
+class Repaired(NamedTuple):
+    """A block that is accepted after some steps."""
+
+    block: bytes
+    form: bytes
+    steps: Tuple[Step, ...]
+
+
+_Done = Optional[Tuple[bytearray, str, str]]
+
+
+def repaired(block: bytes) -> Optional[Repaired]:
+    """The repaired block; none if no repair is known."""
+    now = bytes(block)
+    steps: List[Step] = []
+    while len(steps) <= MOST:
+        try:
+            return Repaired(now, exifnorm.normal(now), tuple(steps))
+        except exifnorm.Refused as refused:
+            cause = refused.cause
+        except (exifnorm.NormalTooLong, MemoryError):
+            return None
+        step = _STEPS.get(cause) if len(steps) < MOST else None
+        try:
+            done = step(now, Walk(now)) if step else None
+        except (struct.error, IndexError):
+            return None
+        if done is None or bytes(done[0]) == now:
+            return None
+        now = bytes(done[0])
+        steps.append(Step(cause, *done[1:]))
+    return None
+
+
+# The steps, by the engine's causes
+
+
+def _without(block: bytes, walk: Walk, it: Directory, place: int) -> bytearray:
+    """The block without the entry at a place; the room is filled behind the directory."""
+    out = bytearray(block)
+    out[place : it.next + 4] = out[place + 12 : it.next + 4] + bytes(12)
+    struct.pack_into(walk.order + "H", out, it.at, it.size - 1)
+    return out
+
+
+def _put(block: bytes, walk: Walk, place: int, number: int) -> bytearray:
+    out = bytearray(block)
+    struct.pack_into(walk.order + "I", out, place, number)
+    return out
+
+
+def _unsorted(block: bytes, walk: Walk) -> _Done:
+    out = bytearray(block)
+    for it in walk.directories:
+        if it.is_whole:
+            rows = sorted((block[one.place : one.place + 12] for one in it.entries), key=lambda row: struct.unpack(walk.order + "H", row[:2]))
+            out[it.at + 2 : it.next] = b"".join(rows)
+    return out, "entries sorted", ""
+
+
+def _overlap(block: bytes, walk: Walk) -> _Done:
+    return _end_of_directory(block, walk) or _shared_values(block, walk)
+
+
+def _values(walk: Walk, it: Directory) -> List[Tuple[bool, int, int, int]]:
+    """The values of a directory: whether it may be moved, where it begins, its length, and the place of its offset."""
+    found = [(one.tag != MAKER_NOTE, one.last, one.size, one.place + 8) for one in it.entries if one.size > 4 and (it.name, one.tag) not in LINKS]
+    by = {one.tag: one for one in it.entries}
+    if it.name == "thumb" and 0x0201 in by and 0x0202 in by:
+        found.append((True, by[0x0201].last, by[0x0202].last, by[0x0201].place + 8))
+    return found
+
+
+def _end_of_directory(block: bytes, walk: Walk) -> _Done:
+    """A directory without the four bytes behind its entries, as piexif writes it: a copy of it gets them."""
+    ranges = [(it.at, it.next, it.at) for it in walk.directories]
+    ranges += [(start, start + size, -1) for it in walk.directories for _, start, size, _ in _values(walk, it)]
+    for it in walk.directories:
+        taken = (start < it.next + 4 and it.next < end and own != it.at for start, end, own in ranges)
+        if it.name != "main" and it.is_whole and any(taken):
+            out = _put(block + b"\0" * (len(block) % 2), walk, it.named_at, len(block) + len(block) % 2)
+            return out + block[it.at : it.next] + bytes(4), f"the missing end of the {_NAMES[it.name]} added", ""
+    return None
+
+
+def _shared_values(block: bytes, walk: Walk) -> _Done:
+    claimed = [(0, 8), *((it.at, min(it.next + 4, len(block))) for it in walk.directories)]
+    for number, it in enumerate(walk.directories):
+        if any(one.at < it.next + 4 and it.at < one.next + 4 for one in walk.directories[:number]):
+            return None  # directories that share bytes
+    out, moved = bytearray(block), 0
+    for _, start, size, field in sorted((one for it in walk.directories for one in _values(walk, it)), key=lambda one: (one[0], one[3])):  # MakerNotes stay where they are
+        if start + size > len(block):
+            continue
+        if any(first < start + size and start < end for first, end in claimed):
+            out += b"\0" * (len(out) % 2)
+            struct.pack_into(walk.order + "I", out, field, len(out))
+            claimed.append((len(out), len(out) + size))
+            out += block[start : start + size]
+            moved += 1
+        else:
+            claimed.append((start, start + size))
+    return (out, f"{moved} shared value{'s' * (moved > 1)} copied", "") if moved else None
+
+
+def _directory_outside(block: bytes, walk: Walk) -> _Done:
+    for it in walk.directories:
+        if it.is_whole and it.next + 4 > len(block) >= it.next:
+            return bytearray(block) + bytes(it.next + 4 - len(block)), "the missing end of the block added", ""
+    for it in walk.directories:
+        if not it.is_whole:
+            out = bytearray(block)
+            struct.pack_into(walk.order + "H", out, it.at, len(it.entries))
+            return out, f"the {_NAMES[it.name]} cut from {it.size:,} entries to the {len(it.entries):,} that are there", "entries"
+    starts = {it.at for it in walk.directories}
+    for it in walk.directories:
+        for one in it.entries:
+            if (it.name, one.tag) in LINKS and one.last not in starts:
+                return _without(block, walk, it, one.place), f"the pointer to the {_NAMES[LINKS[it.name, one.tag]]}, which isn't there, dropped", "a directory"
+        if it.name == "main" and it.next + 4 <= len(block) and walk.four(it.next) not in starts | {0}:
+            return _put(block, walk, it.next, 0), "the pointer to a thumbnail directory that isn't there dropped", "the thumbnail"
+    return None
+
+
+def _empty(block: bytes, walk: Walk) -> _Done:
+    for it in walk.directories:
+        if it.size:
+            continue
+        if it.name == "thumb":
+            return _put(block, walk, it.named_at, 0), "an empty directory left out", ""
+        for outer in walk.directories:
+            for one in outer.entries:
+                if one.place + 8 == it.named_at:
+                    return _without(block, walk, outer, one.place), "an empty directory left out", ""
+    return None
+
+
+def _doubled(block: bytes, walk: Walk) -> _Done:
+    def value(one: Entry) -> Tuple[bytes, bytes]:
+        head = block[one.place : one.place + 8]
+        return head, block[one.last : one.last + one.size] if one.size > 4 else block[one.place + 8 : one.place + 8 + one.size]
+
+    for it in walk.directories:
+        by: Dict[int, Entry] = {}
+        for one in it.entries:
+            other = by.setdefault(one.tag, one)
+            if other is not one:
+                equal = value(one) == value(other)
+                what = "the second of two equal entries left out" if equal else f"the second of two different entries of tag {one.tag:04x} left out"
+                return _without(block, walk, it, one.place), what, "" if equal else "a value"
+    return None
+
+
+def _unknown_type(block: bytes, walk: Walk) -> _Done:
+    for it in walk.directories:
+        for one in it.entries:
+            if one.type == 13:
+                return _with_type(block, walk, one), "type 13 (IFD) read as LONG", ""
+            if one.type not in SIZE:
+                return _without(block, walk, it, one.place), f"tag {one.tag:04x} of type {one.type}, which there isn't, left out", "a value"
+    return None
+
+
+def _with_type(block: bytes, walk: Walk, one: Entry, number: Optional[int] = None) -> bytearray:
+    out = bytearray(block)
+    struct.pack_into(walk.order + "H", out, one.place + 2, 4)
+    return out if number is None else _put(bytes(out), walk, one.place + 8, number)
+
+
+def _pointer_form(block: bytes, walk: Walk) -> _Done:
+    for it in walk.directories:
+        for one in it.entries:
+            if one.tag in _POINTERS and (it.name, one.tag) in _ALLOWED and (one.type, one.elements) != (4, 1):
+                if one.type in (9, 13) and one.elements == 1:
+                    return _with_type(block, walk, one), f"a pointer of type {one.type} read as LONG", ""
+                if one.type in (3, 8) and one.elements == 1:
+                    return _with_type(block, walk, one, walk.two(one.place + 8)), f"a pointer of type {one.type} read as LONG", ""
+                return _without(block, walk, it, one.place), "a pointer of another form left out", "a directory"
+    return None
+
+
+def _misplaced(block: bytes, walk: Walk) -> _Done:
+    for it in walk.directories:
+        for one in it.entries:
+            if one.tag in _ROLES and (it.name, one.tag) not in _ALLOWED:
+                return _without(block, walk, it, one.place), f"the offset of tag {one.tag:04x} in the {_NAMES[it.name]} left out", "an offset"
+    return None
+
+
+def _value_outside(block: bytes, walk: Walk) -> _Done:
+    for it in walk.directories:
+        for one in it.entries:
+            if one.size > 4 and one.last + one.size > len(block):
+                return _without(block, walk, it, one.place), f"tag {one.tag:04x}, whose value isn't in the block, left out", "a value"
+    return None
+
+
+def _thumbnail_outside(block: bytes, walk: Walk) -> _Done:
+    for it in walk.directories:
+        by = {one.tag: one for one in it.entries}
+        if it.name != "thumb" or 0x0201 not in by or 0x0202 not in by:
+            continue
+        start, size = by[0x0201].last, by[0x0202].last
+        if start < len(block) < start + size:
+            return _put(block, walk, by[0x0202].place + 8, len(block) - start), "the thumbnail cut to what is there", "the end of the thumbnail"
+        if start >= len(block):
+            first = bytes(_without(block, walk, it, by[0x0201].place))
+            inner = Walk(first)
+            for other in inner.directories:
+                for one in other.entries:
+                    if other.name == "thumb" and one.tag == 0x0202:
+                        return _without(first, inner, other, one.place), "a thumbnail that isn't there left out", "the thumbnail's length"
+    return None
+
+
+def _thumbnail_pair(block: bytes, walk: Walk) -> _Done:
+    for it in walk.directories:
+        for one in it.entries:
+            if it.name == "thumb" and one.tag in (0x0111, 0x0117, 0x0201, 0x0202):
+                return _without(block, walk, it, one.place), "half of a thumbnail's pair left out", "a thumbnail's place or length"
+    return None
+
+
+def _extra(block: bytes, walk: Walk) -> _Done:
+    for it in walk.directories:
+        if it.name == "thumb" and it.next + 4 <= len(block):
+            return _put(block, walk, it.next, 0), "a third directory left out", "a directory"
+    return None
+
+
+def _loop(block: bytes, walk: Walk) -> _Done:
+    starts = {it.at for it in walk.directories}
+    for it in walk.directories:
+        if it.name in ("main", "thumb") and it.next + 4 <= len(block):
+            if walk.four(it.next) in {one.at for one in walk.directories if one.name != "thumb" or it.name == "thumb"}:
+                return _put(block, walk, it.next, 0), "a pointer back left out", ""
+        for one in it.entries:
+            if (it.name, one.tag) in LINKS and one.last in starts:
+                if next(other for other in walk.directories if other.at == one.last).named_at != one.place + 8:
+                    return _without(block, walk, it, one.place), "a pointer back left out", ""
+    return None
+
+
+_STEPS: Dict[str, Callable[[bytes, Walk], _Done]] = {
+    "Unsorted": _unsorted,
+    "Overlap": _overlap,
+    "DirectoryOutside": _directory_outside,
+    "EmptyDirectory": _empty,
+    "Doubled": _doubled,
+    "UnknownType": _unknown_type,
+    "PointerForm": _pointer_form,
+    "MisplacedOffset": _misplaced,
+    "ValueOutside": _value_outside,
+    "ThumbnailOutside": _thumbnail_outside,
+    "ThumbnailPair": _thumbnail_pair,
+    "ExtraDirectory": _extra,
+    "Loop": _loop,
+}

@@ -1,0 +1,37 @@
+"""The steps of a repair as a catalogue keeps them, and their words for people. See `repairs`, which finds them."""
+
+from __future__ import annotations
+
+import json
+from typing import Dict, List, NamedTuple, Optional, Sequence, Tuple
+
+
+class Step(NamedTuple):
+    """One step: the fault, what was done, and what is lost by it (nothing: the block says the same as before)."""
+
+    cause: str
+    what: str
+    loses: str = ""
+
+
+def loses(steps: Sequence[Step]) -> List[str]:
+    """What some steps lose."""
+    return list(dict.fromkeys(it.loses for it in steps if it.loses))
+
+
+def words(steps: Sequence[Step]) -> str:
+    """Some steps for people: `entries sorted, the missing end of a directory added`."""
+    counts: Dict[str, int] = {}
+    for it in steps:
+        counts[it.what] = counts.get(it.what, 0) + 1
+    return ", ".join(what + (f" ({count} times)" if count > 1 else "") for what, count in counts.items())
+
+
+def packed(steps: Sequence[Step]) -> str:
+    """Some steps as a text for the catalogue."""
+    return json.dumps([list(it) for it in steps])
+
+
+def unpacked(text: Optional[str]) -> Tuple[Step, ...]:
+    """The steps from the result of `packed`."""
+    return tuple(Step(*it) for it in json.loads(text)) if text else ()

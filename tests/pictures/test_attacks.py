@@ -1,0 +1,412 @@
+"""Pictures, catalogues and folders that mean harm: each command ends within 10 seconds of a processor and 256 MB, without other programs."""
+
+import json
+import os
+import re
+import shutil
+import signal
+import sqlite3
+import subprocess
+import sys
+import time
+import zlib
+
+import pytest
+from attacks import FILES
+from made_files import app1, app1_xmp, exif, jpeg, title
+from studio import TOP, Studio, write
+
+SECONDS, MEMORY = 10, 256 << 20
+GUARD = 30, 3 << 30  # what ends a process, so that a fault harms nothing else
+
+# Runs the command, and prints on the third stream what it took: the processor time of this process and its threads, and the most memory
+# that it had. The system's own maximum can be that of the process that started this one.
+CALL = """
+import os, resource, sys
+from exifnorm_pictures.cli.main import main
+try:
+    status = main(sys.argv[1:])
+except SystemExit as refused:  # the arguments
+    status = refused.code
+memory = next(int(line.split()[1]) << 10 for line in open("/proc/self/status") if line.startswith("VmHWM"))
+used = resource.getrusage(resource.RUSAGE_SELF)
+os.write(3, b"%f %d" % (used.ru_utime + used.ru_stime, memory))
+sys.exit(status)
+"""
+
+
+def limits():
+    import resource
+
+    resource.setrlimit(resource.RLIMIT_CPU, (GUARD[0], GUARD[0]))
+    resource.setrlimit(resource.RLIMIT_AS, (GUARD[1], GUARD[1]))
+    resource.setrlimit(resource.RLIMIT_CORE, (0, 0))
+
+
+class Ended:
+    """How a command ended, and what it took."""
+
+    def __init__(self, done, used):
+        self.status = done.returncode
+        self.out, self.err = done.stdout.decode("utf-8", "surrogateescape"), done.stderr.decode("utf-8", "replace")
+        seconds, memory = used.split() if used else (b"inf", b"-1")
+        self.seconds, self.memory = float(seconds), int(memory)
+
+    def check(self, *statuses):
+        """The command has ended with one of these statuses, within the limits, and with no error of our own."""
+        print(f"{self.seconds:.2f} s, {self.memory >> 20 if self.memory < 1e12 else -1} MB, status {self.status}")
+        assert self.status in statuses, (self.status, self.out[-2000:], self.err[-2000:])
+        assert "internal error" not in self.out + self.err and "Traceback" not in self.err, self.err[-2000:]
+        assert self.seconds <= SECONDS, f"{self.seconds:.1f} seconds of a processor"
+        assert self.memory <= MEMORY, f"{self.memory / (1 << 20):.0f} MB"
+        return self
+
+
+def run(folder, *words, code="", **variables):
+    """Runs exifnorm-pictures in a process of its own, after some code."""
+    reading, writing = os.pipe()
+
+    def begin():
+        limits()
+        os.dup2(writing, 3)
+
+    try:
+        done = subprocess.run([sys.executable, "-c", code + CALL, *words], cwd=folder, stdin=subprocess.DEVNULL, capture_output=True, timeout=300,
+                              preexec_fn=begin, close_fds=True, pass_fds=(3,), env=Studio.environment(EXIFNORM_DEBUG="", **variables))  # fmt: skip
+    finally:
+        os.close(writing)
+        with os.fdopen(reading, "rb") as used:
+            text = used.read()
+    return Ended(done, text)
+
+
+def words_of(catalogue):
+    """What a catalogue has of its only picture: its problem, the causes of its blocks, and its parts."""
+    with sqlite3.connect(f"file:{catalogue}?mode=ro", uri=True) as base:
+        rows = base.execute("SELECT problem FROM pictures UNION ALL SELECT cause FROM blocks UNION ALL SELECT what FROM not_read")
+        return [it for it, in rows if it]
+
+
+@pytest.mark.parametrize("name", FILES)
+def test_a_file(name, tmp_path):
+    """The file is looked at within the limits, once, and without another program. The catalogue has what was not read."""
+    make, word = FILES[name]
+    os.mkdir(tmp_path / "p")
+    make(tmp_path / "p" / name)
+    os.utime(tmp_path / "p" / name, (1e9, 1e9))
+    try:
+        words = ["index", "p", "--catalogue", "c", "--quiet", "--jobs", "1"]
+        run(tmp_path, *words, PATH="/nowhere").check(0, 2)
+        assert run(tmp_path, *words, PATH="/nowhere").check(0).out.splitlines() == ["1 unchanged"]
+    finally:
+        os.remove(tmp_path / "p" / name)  # which pytest would keep
+    found = words_of(tmp_path / "c")
+    assert any(word in it for it in found) if word else "TooMuch" not in found, found
+
+
+class TestCurrentFolder:
+    """Modules in the current folder, which may be the archive, are never imported in place of Python's."""
+
+    NAMES = ("sqlite3", "argparse", "json", "typing", "exifnorm")
+
+    @pytest.fixture
+    def folder(self, tmp_path):
+        for name in self.NAMES:
+            (tmp_path / f"{name}.py").write_text("raise SystemExit('a file of the current folder was taken')\n")
+        (tmp_path / "bin").mkdir()
+        return tmp_path
+
+    @pytest.mark.parametrize("path", (":/x", ".", "../{name}:/x", "/x::/y", ""))
+    def test_the_installed_command(self, folder, path):
+        command = folder / "bin" / "exifnorm-pictures"
+        script = subprocess.run([sys.executable, os.path.join(TOP, "packaging", "command.py"), command.parent, os.path.join(TOP, "python")],
+                                stdout=subprocess.PIPE, check=True).stdout  # fmt: skip
+        write(command, script)
+        os.chmod(command, 0o755)
+        (folder / "exifnorm_pictures").mkdir()
+        (folder / "exifnorm_pictures" / "__init__.py").write_text("raise SystemExit('a package of the current folder was taken')\n")
+        self.see_that_it_runs([command], folder, path.format(name=folder.name))
+
+    @pytest.mark.parametrize("path", ("", ":/x", ".", "/x:"))
+    def test_the_package(self, folder, path):
+        """As `python3 -m`, and as the script that pip makes."""
+        python = os.path.join(TOP, "python")
+        self.see_that_it_runs([sys.executable, "-m", "exifnorm_pictures"], folder, os.pathsep.join((python, path)))
+        (folder / "bin" / "script").write_text("import sys\nfrom exifnorm_pictures.cli.main import main\nsys.exit(main())\n")
+        self.see_that_it_runs([sys.executable, "bin/script"], folder, os.pathsep.join((python, path)))
+
+    def see_that_it_runs(self, command, folder, path):
+        done = subprocess.run([*command, "same", "--catalogue", "nothing"], cwd=folder, capture_output=True,
+                              env={**Studio.environment(), "PYTHONPATH": path})  # fmt: skip
+        assert (done.returncode, done.stderr) == (4, b"exifnorm-pictures: there is no catalogue nothing\n"), done
+
+
+COMMANDS = (
+    ["same", "--catalogue", "c"], ["changed", "c", "c"], ["changed", "good", "c"], ["report", "--catalogue", "c", "--html", "page"],
+    ["report", "--catalogue", "c", "--json"], ["merge", "c", "--catalogue", "into"], ["index", "p", "--catalogue", "c", "--quiet"],
+    ["forget", "p", "--catalogue", "c"],
+)  # fmt: skip
+# What nothing printed may have: control characters but the end of a line, and marks that turn the direction of a text
+RAW = re.compile("[\0-\x09\x0b-\x1f\x7f-\x9f\u2028\u2029\u202a-\u202e\u2066-\u2069\udc80-\udcff]")
+NASTY = "x\x1b[2J\x9b31m\u202etxt\u2066\r\nfalse line"
+
+
+@pytest.fixture
+def archive(tmp_path):
+    """A folder with two pictures of the same meaning and a third, and two catalogues of them."""
+    (tmp_path / "p").mkdir()
+    for name, make in (("a.jpg", b"Abc"), ("b.jpg", b"Abc"), ("c.jpg", b"Xyz")):
+        write(tmp_path / "p" / name, jpeg(app1(exif(make)), app1_xmp(title("one"))))
+        os.utime(tmp_path / "p" / name, (1e9, 1e9))
+    run(tmp_path, "index", "p", "--catalogue", "good", "--quiet").check(0)
+    shutil.copy(tmp_path / "good", tmp_path / "c")
+    return tmp_path
+
+
+def changed(catalogue, *statements):
+    """Changes a catalogue as another program could."""
+    base = sqlite3.connect(catalogue, isolation_level=None)
+    for it in statements:
+        base.execute(it)
+    base.close()
+
+
+VIEW = "PRAGMA foreign_keys = OFF", "PRAGMA legacy_alter_table = ON", "ALTER TABLE {0} RENAME TO {0}2"
+SCHEMAS = {
+    "a trigger": ["CREATE TRIGGER t AFTER INSERT ON pictures BEGIN UPDATE pictures SET exif = 'x', exif_octets = 'y'; END"],
+    "a view without end": [*VIEW, "CREATE VIEW {0} AS WITH RECURSIVE n(i) AS (SELECT 1 UNION ALL SELECT i + 1 FROM n) SELECT i FROM n"],
+    "a view of long texts": [*VIEW, "CREATE VIEW {0} AS SELECT picture, number, hex(zeroblob(300000000)) AS what, '' AS digest FROM {0}2"],
+    "a further table": ["CREATE TABLE more (x)"],
+    "a further index": ["CREATE INDEX more ON blocks (abs(length))"],
+    "a further column": ["ALTER TABLE runs ADD COLUMN more TEXT DEFAULT 'x'"],
+}
+
+
+@pytest.mark.parametrize("name", SCHEMAS)
+def test_a_schema_of_another(name, archive):
+    """A catalogue that is not made as ours is refused before any row is read, and nothing is written."""
+    changed(archive / "c", *(it.format("not_read") for it in SCHEMAS[name]))
+    before = (archive / "c").read_bytes()
+    for words in COMMANDS:
+        ended = run(archive, *words).check(4)
+        assert "c is no catalogue" in ended.err, (words, ended.err)
+    assert (archive / "c").read_bytes() == before
+
+
+def test_many_tables(archive):
+    with sqlite3.connect(archive / "c", isolation_level=None) as base:
+        base.execute("BEGIN")
+        for number in range(5000):
+            base.execute(f"CREATE TABLE t{number} (x)")
+        base.execute("COMMIT")
+    assert "is no catalogue" in run(archive, "same", "--catalogue", "c").check(4).err
+
+
+def test_a_log_of_another_state(archive):
+    """A backup that is copied over a catalogue whose run was killed is never changed by the log that the run has left."""
+    code = "import os, sys\nfrom exifnorm_pictures.catalogue.store import Catalogue\nCatalogue.close = lambda _: os._exit(9)\n"
+    write(archive / "p" / "c.jpg", jpeg(app1(exif(b"Abc")), app1_xmp(title("one"))))
+    run(archive, "index", "p", "--catalogue", "c", "--quiet", code=code)
+    assert os.path.getsize(archive / "c-wal") > 0
+    shutil.copy(archive / "good", archive / "c")
+    for words in COMMANDS:
+        ended = run(archive, *words).check(4)
+        assert "c-wal" in ended.err, (words, ended.err)
+    for name in ("c-wal", "c-shm"):
+        os.remove(archive / name)
+    assert "2 pictures" in run(archive, "same", "--catalogue", "c").check(0, 1, 2).out
+
+
+def test_the_log_of_a_killed_run_is_used(archive):
+    """The same log beside its own catalogue is what SQLite needs to complete it."""
+    code = "import os, sys\nfrom exifnorm_pictures.catalogue.store import Catalogue\nCatalogue.close = lambda _: os._exit(9)\n"
+    write(archive / "p" / "c.jpg", jpeg(app1(exif(b"Abc")), app1_xmp(title("one"))))
+    run(archive, "index", "p", "--catalogue", "c", "--quiet", code=code)
+    assert os.path.getsize(archive / "c-wal") > 0
+    assert "3 pictures" in run(archive, "same", "--catalogue", "c").check(0, 1, 2).out
+
+
+COARSE = """
+import os, sys
+from exifnorm_pictures.catalogue import records
+from exifnorm_pictures.scan import workers
+class Stat:
+    st_mtime_ns = st_ctime_ns = 1_700_000_000 * 10**9
+    def __init__(self, it): self.it = it
+    def __getattr__(self, name): return getattr(self.it, name)
+of, stat = records.Stamp.of, os.stat
+class System:
+    stat = staticmethod(lambda path: Stat(stat(path)))
+    def __getattr__(self, name): return getattr(os, name)
+records.Stamp.of = staticmethod(lambda it: of(Stat(it)))
+workers.os, workers._now = System(), lambda: Stat.st_mtime_ns + {later}
+"""
+
+
+@pytest.mark.parametrize("later", (0, 999_999_999, 10_000_000_000))
+def test_an_edit_within_a_tick(later, archive):
+    """Edits may leave the times as they were, where a file system has whole seconds: of a file that was just written no stamp is kept."""
+    picture = archive / "p" / "c.jpg"
+    looks = []
+    for make in (b"One", b"Two", b"Six"):
+        write(picture, jpeg(app1(exif(make)), app1_xmp(title("one"))))
+        run(archive, "index", "p", "--catalogue", "new", "--quiet", code=COARSE.format(later=later)).check(0)
+        with sqlite3.connect(archive / "new") as base:
+            looks.append(base.execute("SELECT exif FROM pictures ORDER BY path DESC").fetchone()[0])
+    assert len(set(looks)) == (3 if later < 2 * 10**9 else 1), "after two seconds no further edit has the same times"
+
+
+@pytest.mark.parametrize("number", (signal.SIGTERM, signal.SIGINT, signal.SIGHUP))
+def test_a_signal_in_a_long_query(number, archive):
+    """A signal ends a command also while SQLite works."""
+    code = (
+        "import sys\nfrom exifnorm_pictures.compare import groups\nfrom exifnorm_pictures.cli import same\n"
+        "def endless(catalogue, *_, **__):\n"
+        "    print('begun', flush=True)\n"
+        "    yield from catalogue.rows('WITH RECURSIVE n(i) AS (SELECT 1 UNION ALL SELECT i + 1 FROM n) SELECT i FROM n WHERE i < 0')\n"
+        "groups.groups = endless\n"
+        "from exifnorm_pictures.cli.main import main\nsys.exit(main(sys.argv[1:]))\n"
+    )
+    words = ["env", f"--default-signal={number.name[3:]}", sys.executable, "-c", code, "same", "--catalogue", "c"]
+    with subprocess.Popen(words, cwd=archive, stdout=subprocess.PIPE, stderr=subprocess.DEVNULL, env=Studio.environment()) as started:
+        try:
+            assert started.stdout.readline() == b"begun\n"
+            time.sleep(0.2)
+            started.send_signal(number)
+            assert started.wait(30) == (130 if number == signal.SIGINT else -number)
+        finally:
+            started.kill()
+
+
+def no_control(ended):
+    """Nothing that was printed controls a terminal or forges a line."""
+    for text in (ended.out, ended.err):
+        assert not RAW.search(text), repr(text[:2000])
+        assert "\nfalse line" not in text
+    return ended
+
+
+def test_a_picture_that_became_a_pipe(archive):
+    """No pipe and no device is opened, whoever names it: a catalogue, an argument or a list."""
+    for name in ("a.jpg", "b.jpg"):
+        os.remove(archive / "p" / name)
+        os.mkfifo(archive / "p" / name)
+    run(archive, "report", "--catalogue", "c", "--html", "page").check(0, 1, 2)
+    run(archive, "same", "--catalogue", "c").check(0, 1, 2)
+    for device in ("/dev/zero", "p/a.jpg", "p"):
+        for words in (["show", device], ["explain", device], ["captions", device], ["mend", device, "out"], ["show", "--block", device],
+                      ["index", device, "--catalogue", "new", "--quiet"]):  # fmt: skip
+            if words[0] == "index" and device == "p":
+                continue
+            ended = run(archive, *words).check(2)
+            assert len((ended.out + ended.err).splitlines()) >= 1, words
+    assert not (archive / "out").exists()
+
+
+@pytest.mark.parametrize("name", ("/dev/zero", "/dev/stdin", "p/a\0b.jpg", "/proc/self/mem"))
+def test_a_catalogue_that_names_devices(name, archive):
+    with sqlite3.connect(archive / "c") as base:
+        base.execute("UPDATE pictures SET path = ? WHERE id = 1", (name.encode(),))
+    for words in (["report", "--catalogue", "c", "--html", "page"], ["same", "--catalogue", "c"], ["changed", "good", "c"], ["changed", "c", "good"]):
+        no_control(run(archive, *words).check(0, 1, 2))
+
+
+@pytest.mark.parametrize("what", ("threading.Thread.start", "os.fork"))
+def test_no_further_thread_or_process(what, tmp_path):
+    """In a container with few processes one does all the work, and says so."""
+    (tmp_path / "p").mkdir()
+    for number in range(150):
+        write(tmp_path / "p" / f"{number}.jpg", jpeg(app1(exif(b"%03d" % number))))
+    module = what.partition(".")[0]
+    code = f"import {module}\ndef refused(*_, **__): raise RuntimeError(\"can't start new thread\")\n{what} = refused\n"
+    ended = run(tmp_path, "index", "p", "--catalogue", "c", "--quiet", "--jobs", "2", code=code).check(0)
+    assert ended.out == "150 accepted\n"
+    assert "one process looks at the pictures" in ended.err
+
+
+def test_fields_that_inflate(archive):
+    """Compressed fields of 400 kB that are 400 MB are damaged, and so are those of other types than ours."""
+    base = sqlite3.connect(archive / "c")
+    packing = zlib.compressobj(9)
+    zeros = b"".join(packing.compress(bytes(1 << 20)) for _ in range(400)) + packing.flush()
+    for fields in (zeros, zlib.compress(b"[" * 8_000_000), b'[["main","010f","ASCII","4","x"]]', b'[["main",1,"ASCII",4,null]]', b"{}", b"[[]]", b"[1]", b"\xff", 7):
+        with base:
+            base.execute("UPDATE pictures SET exif = 'x' || id, exif_octets = 'x' || id")
+            base.execute("UPDATE blocks SET digest = 'x', fields = ? WHERE kind = 'exif'", (fields,))
+        for words in (["changed", "good", "c"], ["report", "--catalogue", "c", "--since", "good", "--html", "page"]):
+            ended = no_control(run(archive, *words).check(4))
+            assert "c is damaged" in ended.err, ended.err
+    base.close()
+
+
+def test_texts_of_a_catalogue(archive):
+    """Texts of a foreign catalogue are escaped, on the page too."""
+    with sqlite3.connect(archive / "c") as base:
+        for table, column in (("pictures", "detail"), ("pictures", "type"), ("blocks", "name"), ("blocks", "source"), ("blocks", "cause"), ("runs", "exifnorm")):
+            base.execute(f"UPDATE {table} SET {column} = ?", (NASTY,))
+        base.execute("INSERT INTO not_read SELECT id, 7, ?, '' FROM pictures", (NASTY,))
+        base.execute("UPDATE pictures SET not_read = 'x', exif = 'y'")
+        base.execute("UPDATE pictures SET problem = ? WHERE id = 3", (NASTY,))
+        fields = json.dumps([["main", NASTY, "ASCII", 4, NASTY], [NASTY, "010f", NASTY, 4, NASTY]]).encode()
+        base.execute("UPDATE blocks SET fields = ?, digest = 'x'", (fields,))
+    for words in (["same"], ["changed", "good", "c", "--all"], ["changed", "c", "good", "--all"], ["report", "--html", "page"], ["report", "--html", "page", "--since", "good"],
+                  ["index", "p"], ["forget", "p"]):  # fmt: skip
+        more = [] if words[0] == "changed" else ["--catalogue", "c"]
+        no_control(run(archive, *words, *more).check(0, 1, 2, 4))
+        if (archive / "page").exists():
+            assert not RAW.search((archive / "page").read_text("utf-8"))
+
+
+def test_names_in_messages(archive):
+    """Names of catalogues, pages and lists that are wrong."""
+    (archive / "folder\n\x1b[2J").mkdir()
+    write(archive / "p" / "x\x9b\n.jpg", b"no picture")
+    for name in (NASTY, "folder\n\x1b[2J"):
+        for words in (["same", "--catalogue", name], ["index", "p", "--catalogue", name + "/c"], ["changed", name, "c"], ["changed", "c", name],
+                      ["report", "--catalogue", "c", "--html", name + "/x"], ["same", "--catalogue", "c", "--files-from", name], ["show", name],
+                      ["merge", name, "--catalogue", "c"], ["index", name, "--catalogue", "c"], ["mend", name, name], ["forget", name, "--catalogue", "c"],
+                      ["index", "p", "--catalogue", "c", "--keep-old", name + "/x"], [name], ["same", f"--{name}"], ["show", "--block", name]):  # fmt: skip
+            no_control(run(archive, *words).check(0, 1, 2, 3, 4))
+
+
+@pytest.mark.skipif(not shutil.which("exiftool"), reason="not installed: exiftool (package libimage-exiftool-perl)")
+def test_what_mend_prints(archive):
+    """Texts of a picture that ExifTool prints."""
+    subprocess.run(["exiftool", "-q", "-overwrite_original", f"-Artist={NASTY}", f"-XMP-dc:Title={NASTY}", f"-IPTC:Keywords={NASTY}", archive / "p" / "a.jpg"], check=True)
+    octets = (archive / "p" / "a.jpg").read_bytes()
+    at = octets.index(b"Exif\0\0") + 6
+    write(archive / "bad.jpg", octets[: at + 4] + b"\0\0\0\x09" + octets[at + 8 :])
+    for name in ("p/a.jpg", "bad.jpg"):
+        for words in (["mend", name, f"out-{os.path.basename(name)}"], ["show", name], ["captions", name], ["explain", name]):
+            no_control(run(archive, *words).check(0, 1, 2))
+
+
+FAKE = """#!/bin/sh
+while read -r line; do
+    case "$line" in
+    /*|./*) name=$line ;;
+    "{done"*) done=$line ;;
+    -execute) printf '[{"SourceFile":"%s","A:Error":"x\\\\u001b[2J\\\\u009b\\\\u202e\\\\nfalse line","A:FileType":"\\\\u001b[2J","A:MIMEType":"\\\\u009b"}]\\n' "$name"; echo "$done" ;;
+    esac
+done
+"""
+
+
+def test_texts_of_exiftool(archive):
+    (archive / "bin").mkdir()
+    write(archive / "bin" / "exiftool", FAKE.encode())
+    os.chmod(archive / "bin" / "exiftool", 0o755)
+    write(archive / "p" / "x.gif", b"GIF89a")
+    path = os.pathsep.join((str(archive / "bin"), os.environ["PATH"]))
+    for words in (["index", "p", "--catalogue", "c"], ["show", "p/x.gif"], ["report", "--catalogue", "c", "--html", "page"]):
+        no_control(run(archive, *words, PATH=path).check(0, 2))
+    assert not RAW.search((archive / "page").read_text("utf-8"))
+
+
+@pytest.mark.parametrize("scheduler", ("nonsense", "tcp://", "tls://127.0.0.1:1", "tcp://127.0.0.1:1", "x\x1b[2J", "ftp://a"))
+def test_schedulers(scheduler, archive):
+    """A name that is no address, and an address where nothing is: a line, without the tracebacks of Dask."""
+    ended = run(archive, "index", "p", "--catalogue", "new", "--quiet", "--limit", "1", "--scheduler", scheduler)
+    assert (ended.status, len(ended.err.splitlines())) == (4, 1), ended.err
+    assert "internal error" not in ended.err and "Traceback" not in ended.err
+    no_control(ended)

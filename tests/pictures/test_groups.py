@@ -1,0 +1,301 @@
+"""The groups of `same`: whoever keeps any one picture of each group loses no metadata, whatever links, copies and gaps a folder has."""
+
+import contextlib
+import io
+import json
+import os
+import shutil
+
+
+import hypothesis
+import hypothesis.strategies as st
+import pytest
+from exifnorm_pictures.cli import main
+from made_blocks import ASCII, BLOCKS, LONG, MAKE, UNDEFINED, block, entry, table
+from made_files import app1, app1_xmp, exif, jpeg, title, turned
+from studio import needs
+
+A, B = exif(b"abc"), exif(b"xyz")
+UNSORTED = block([entry(0x0110, ASCII, 4, int.from_bytes(b"mod\0", "big")), MAKE])
+SORTED = block([MAKE, entry(0x0110, ASCII, 4, int.from_bytes(b"mod\0", "big"))])
+
+# Files by what they say: those with one letter mean the same in other bytes
+FILES = {
+    "a1": jpeg(app1(A)), "a2": jpeg(app1(turned(A))), "a3": jpeg(app1(A + b"\0\0")), "b1": jpeg(app1(B)),
+    "c1": jpeg(app1(UNSORTED)), "c2": jpeg(app1(SORTED)), "c3": jpeg(app1(UNSORTED + b"\0\0")),
+    "d1": jpeg(app1(A), app1_xmp(title("one"))), "e1": jpeg(app1(A), app1_xmp(title("two"))), "f1": jpeg(app1_xmp(b"<x")),
+    "g1": jpeg(app1(A), behind=b"one"), "h1": jpeg(app1(A), behind=b"two"), "i1": jpeg(app1(BLOCKS["Doubled"])),
+}  # fmt: skip
+CONTENT = {octets: name[0] for name, octets in FILES.items()}
+
+
+@pytest.fixture
+def asked(folder, monkeypatch, capsys):
+    """Runs exifnorm-pictures in this process and in a folder of its own; returns its objects, and checks the status."""
+    monkeypatch.chdir(folder)
+
+    def call(*words, status=0):
+        capsys.readouterr()
+        assert main._run([*words, "--json"]) == status
+        return [json.loads(it) for it in capsys.readouterr().out.splitlines()]
+
+    return call
+
+
+def names_of(paths):
+    return [os.path.basename(it["path"]) for it in paths]
+
+
+def contents(top):
+    """What is said below a folder."""
+    found = set()
+    for folder, _, names in os.walk(top):
+        for name in names:
+            path = os.path.join(folder, name)
+            if os.path.isfile(path):
+                with open(path, "rb") as file:
+                    found.add(CONTENT[file.read()])
+    return found
+
+
+def indexed(asked, *folders):
+    asked("index", *folders, "--catalogue", "c", "--quiet")
+
+
+KINDS = st.sampled_from(("copy", "copy", "hard link", "symbolic link"))
+AFTERWARDS = st.sampled_from(("stays", "stays", "stays", "goes", "changes"))
+
+
+@hypothesis.settings(max_examples=60)  # each makes a folder, and two runs
+@hypothesis.given(
+    st.lists(st.tuples(st.sampled_from(sorted(FILES)), KINDS, AFTERWARDS), min_size=2, max_size=9),
+    st.booleans(),
+    st.randoms(use_true_random=False),
+)
+def test_whoever_keeps_one_of_each_group_loses_nothing(tmp_path_factory, files, through_a_link, random):
+    folder = str(tmp_path_factory.mktemp("groups"))
+    here = os.getcwd()
+    os.chdir(folder)
+    try:
+        os.makedirs("p/sub")
+        make_files(files)
+        os.symlink("p", "linked")
+        printed("index", "p", *(["linked"] if through_a_link else []), "--catalogue", "c", "--quiet")
+        for number, (name, _, afterwards) in enumerate(files):
+            change_file(number, name, afterwards)
+        before = contents("p")
+        for group in map(json.loads, printed("same", "--catalogue", "c", "--json")):
+            kept = random.choice(group["pictures"])["path"]
+            for it in group["pictures"]:
+                if it["path"] != kept and os.path.lexists(it["path"]):
+                    os.remove(it["path"])
+        assert contents("p") == before
+    finally:
+        os.chdir(here)
+        shutil.rmtree(folder)
+
+
+def printed(*words):
+    with contextlib.redirect_stdout(io.StringIO()) as lines:
+        assert main._run(words) == 0
+    return lines.getvalue().splitlines()
+
+
+def place(number):
+    return f"p/sub/{number}.jpg" if number % 3 == 2 else f"p/{number}.jpg"
+
+
+def make_files(files):
+    """Each file in turn: with its bytes, or a link to the file before it, whose name it then gets."""
+    for number, (name, kind, _) in enumerate(files):
+        if kind == "copy" or number == 0:
+            with open(place(number), "wb") as file:
+                file.write(FILES[name])
+        elif kind == "hard link":
+            os.link(os.path.realpath(place(number - 1)), place(number))
+        else:
+            os.symlink(os.path.abspath(place(number - 1)), place(number))
+
+
+def change_file(number, name, afterwards):
+    """What happens after the run: a file goes, or another one takes its name."""
+    if afterwards == "goes" and os.path.lexists(place(number)):
+        os.remove(place(number))
+    elif afterwards == "changes" and os.path.isfile(place(number)):
+        other = FILES["b1" if name != "b1" else "a1"]
+        with open(place(number) + ".new", "wb") as file:
+            file.write(other)
+        os.replace(place(number) + ".new", place(number))
+
+
+@pytest.mark.parametrize("one, other, basis", [
+    ("a1", "a2", "meaning"), ("a1", "b1", None), ("c1", "c2", "repair"), ("c1", "c3", "repair"), ("d1", "e1", None), ("g1", "h1", None),
+    ("i1", "a1", None), ("f1", "f1", "bytes"), ("i1", "i1", "bytes"),
+])  # fmt: skip
+def test_what_a_group_rests_on(asked, folder, one, other, basis):
+    (folder / "p").mkdir()
+    (folder / "p/1.jpg").write_bytes(FILES[one])
+    (folder / "p/2.jpg").write_bytes(FILES[other])
+    indexed(asked, "p")
+    found = asked("same", "--catalogue", "c")
+    assert [it["basis"] for it in found] == ([basis] if basis else [])
+    assert all(it["wholly_read"] is (basis == "meaning") for it in found)
+
+
+def test_a_later_group_has_one_of_each_earlier_one(asked, folder):
+    (folder / "p").mkdir()
+    for name in ("c1", "c2", "c3"):
+        for number in "12":
+            (folder / f"p/{name}-{number}.jpg").write_bytes(FILES[name])
+    indexed(asked, "p")
+    found = {it["basis"]: names_of(it["pictures"]) for it in asked("same", "--catalogue", "c")}
+    assert found["repair"] == ["c1-1.jpg", "c2-1.jpg", "c3-1.jpg"]
+    (repair,) = [it for it in asked("same", "--catalogue", "c") if it["basis"] == "repair"]
+    assert [it["others"] for it in repair["pictures"]] == [1, 1, 1]
+
+
+def test_names_of_one_file_are_links(asked, folder):
+    (folder / "p/sub").mkdir(parents=True)
+    (folder / "p/a.jpg").write_bytes(FILES["a1"])
+    os.link(folder / "p/a.jpg", folder / "p/b.jpg")
+    os.symlink("a.jpg", folder / "p/c.jpg")
+    os.symlink("p", folder / "linked")
+    asked("index", "p", "linked", "--catalogue", "c", "--quiet")
+    assert asked("same", "--catalogue", "c") == [], "it is one file"
+    (folder / "p/sub/copy.jpg").write_bytes(FILES["a1"])
+    indexed(asked, "p", "linked")
+    (group,) = asked("same", "--catalogue", "c")
+    how = {os.path.relpath(it["path"], folder): it["how"] for it in group["links"]}
+    assert group["count"] == 2
+    assert "hard link" in how["p/b.jpg"] and "symbolic link" in how["p/c.jpg"]
+    assert "deletes the picture" in how["linked/a.jpg"] and "deletes the picture" in how["linked/sub/copy.jpg"]
+
+
+def test_files_that_are_gone_or_have_changed(asked, folder):
+    (folder / "p").mkdir()
+    for name in "abcd":
+        (folder / f"p/{name}.jpg").write_bytes(FILES["a1"])
+    indexed(asked, "p")
+    (folder / "p/a.jpg").unlink()
+    (folder / "p/b.jpg").write_bytes(FILES["b1"] + b"longer")
+    (group,) = asked("same", "--catalogue", "c")
+    assert (names_of(group["pictures"]), names_of(group["gone"]), names_of(group["changed"])) == (["c.jpg", "d.jpg"], ["a.jpg"], ["b.jpg"])
+    (group,) = asked("same", "--catalogue", "c", "--no-look")
+    assert group["count"] == 4 and "gone" not in group
+    (folder / "p/c.jpg").unlink()
+    assert asked("same", "--catalogue", "c") == [], "one file is no group"
+
+
+def test_forget(asked, folder):
+    for name in ("p/sub/a.jpg", "p/subs/b.jpg", "p/c.jpg"):
+        (folder / name).parent.mkdir(parents=True, exist_ok=True)
+        (folder / name).write_bytes(FILES["a1"])
+    indexed(asked, "p")
+    shutil.rmtree(folder / "p/sub")
+    assert [it["forgotten"] for it in asked("forget", "p/sub", "p/nothing", "--catalogue", "c")] == [1, 0]
+    (group,) = asked("same", "--catalogue", "c")
+    assert names_of(group["pictures"]) == ["c.jpg", "b.jpg"]
+    assert [it["forgotten"] for it in asked("forget", "p/c.jpg", "--catalogue", "c")] == [1]
+    assert (folder / "p/c.jpg").exists()
+    asked("forget", "p", "--catalogue", "nothing", status=4)
+    assert not (folder / "nothing").exists()
+
+
+# Canon's MakerNote is a directory whose offsets count from the header; 0009 is OwnerName
+
+
+def with_note(owner, moved=0, wrong=False):
+    """A picture whose MakerNote has an owner's name of seven letters, and lies further behind; with `wrong` its offset stays as it was."""
+    make = entry(0x010F, ASCII, 6, 38 + 18)
+    start = 38 + 18 + 6 + moved
+    offset = 38 + 18 + 6 + 18 if wrong else start + 18
+    note = table([entry(0x0009, ASCII, 8, offset)]) + owner + b"\0"
+    octets = (
+        block([make, entry(0x8769, LONG, 1, 38)]) + table([entry(0x927C, UNDEFINED, len(note), start)]) + b"Canon\0" + bytes(moved) + note
+    )
+    return jpeg(app1(octets))
+
+
+@needs("exiftool")
+@pytest.mark.parametrize("other, result, status, basis", [
+    (with_note(b"Annette"), "same", 0, "meaning"),
+    (with_note(b"Annette", 64), "the same but for a MakerNote that moved", 2, None),
+    (with_note(b"Ottilie"), "only MakerNote differs", 1, None),
+    (with_note(b"Ottilie", 64), "different", 1, None),
+], ids=["itself", "moved", "of another owner", "moved, and of another owner"])  # fmt: skip
+def test_maker_notes(asked, folder, other, result, status, basis):
+    one = with_note(b"Annette")
+    for side, octets in (("before", one), ("after", other)):
+        (folder / side).mkdir()
+        (folder / side / "a.jpg").write_bytes(octets)
+    (found, _) = asked("changed", "before", "after", "--all", "--each", status=status)
+    assert found["result"] == result or (status == 1 and found["result"] in ("different", "only MakerNote differs"))
+    values = [it[1:] for it in found.get("maker_note", {}).get("values", [])]
+    assert (["Annette", "Ottilie"] in values) is (b"Ottilie" in other)
+    indexed(asked, "before", "after")
+    assert [it["basis"] for it in asked("same", "--catalogue", "c")] == ([basis] if basis else [])
+
+
+def with_short_note(moved=0):
+    """A picture whose MakerNote leads to nothing: its bytes are the same wherever it is."""
+    start = 38 + 18 + 6 + moved
+    note = table([entry(0x0009, ASCII, 4, int.from_bytes(b"Ann\0", "big"))])
+    octets = block([entry(0x010F, ASCII, 6, 38 + 18), entry(0x8769, LONG, 1, 38)]) + table([entry(0x927C, UNDEFINED, len(note), start)])
+    return jpeg(app1(octets + b"Canon\0" + bytes(moved) + note))
+
+
+@needs("exiftool")
+def test_a_maker_note_that_only_moved(asked, folder):
+    """ExifTool reads the same; without it nothing is known, and so nothing is the same."""
+    for number, moved in enumerate((0, 64, 64)):
+        (folder / f"p{number}").mkdir()
+        (folder / f"p{number}/a.jpg").write_bytes(with_short_note(moved))
+    (found, _) = asked("changed", "p0", "p1", "--all", status=2)
+    assert found["result"] == "the same but for a MakerNote that moved"
+    (found, _) = asked("changed", "p0", "p1", "--all", "--no-exiftool", status=2)
+    assert found["result"] == "not wholly read"
+    indexed(asked, "p0", "p1", "p2")
+    found = asked("same", "--catalogue", "c")
+    assert [(it["basis"], it["count"]) for it in found] == [("meaning", 2), ("maker note", 2)]
+    assert [it["basis"] for it in asked("same", "--catalogue", "c", "--no-look")] == ["meaning"]
+
+
+@needs("exiftool")
+def test_what_exiftool_reads_is_kept(asked, folder):
+    """With --maker-notes a comparison needs no earlier file; without, it says that it isn't known."""
+    (folder / "p").mkdir()
+    (folder / "p/a.jpg").write_bytes(with_note(b"Annette"))
+    for name, more in (("without", []), ("with", ["--maker-notes"])):
+        asked("index", "p", "--catalogue", name, "--quiet", *more)
+    (folder / "p/a.jpg").write_bytes(with_note(b"Annette", 64))
+    asked("index", "p", "--catalogue", "now", "--quiet")
+    assert asked("changed", "with", "now", status=2)[0]["result"] == "the same but for a MakerNote that moved"
+    (found, _) = asked("changed", "without", "now", status=1)
+    assert "the earlier picture" in found["fields"][0]["said"]
+
+
+def test_a_file_system_that_is_mounted_at_another_place(asked, folder):
+    """Its pictures have moved; those of another folder that isn't there are only not there."""
+    for name in ("disk", "other"):
+        (folder / name).mkdir()
+        (folder / name / "a.jpg").write_bytes(FILES["a1"])
+        (folder / name / "plain.jpg").write_bytes(jpeg())
+    indexed(asked, "disk", "other")
+    (folder / "disk").rename(folder / "place")
+    (folder / "other").rename(folder / "away")
+    *found, counts = asked("index", "place", "--catalogue", "c", "--quiet")
+    moved = {os.path.relpath(it["path"], folder): os.path.relpath(it["detail"][3:], folder) for it in found if it.get("problem") == "Moved"}
+    assert moved == {"disk/a.jpg": "place/a.jpg", "disk/plain.jpg": "place/plain.jpg"}
+    (folder / "away").rename(folder / "other")
+    assert asked("index", "other", "--catalogue", "c", "--quiet")[-1]["counts"] == {"unchanged": 2}
+    (group,) = asked("same", "--catalogue", "c")
+    assert sorted(os.path.relpath(it["path"], folder) for it in group["pictures"]) == ["other/a.jpg", "place/a.jpg"]
+
+
+def test_a_copy_of_a_disk_that_is_away_has_not_moved(asked, folder):
+    (folder / "disk").mkdir()
+    (folder / "disk/a.jpg").write_bytes(FILES["a1"])
+    indexed(asked, "disk")
+    shutil.copytree(folder / "disk", folder / "copy")
+    (folder / "disk").rename(folder / "away")
+    assert asked("index", "copy", "--catalogue", "c", "--quiet")[-1]["counts"] == {"accepted": 1}

@@ -1,0 +1,191 @@
+"""Repairs of refused Exif blocks, against ExifTool: what is the same after repair has the same values for it."""
+
+import json
+import os
+import re
+import struct
+import subprocess
+
+import pytest
+from exifnorm_pictures.cli import main
+from exifnorm_pictures.extract.formats.found import EXIF, FoundBlock
+from exifnorm_pictures.fields import normal_form
+from exifnorm_pictures.refusals import repaired_file, repairs, steps
+from made_blocks import ASCII, BLOCKS, LONG, SHORT, entry, table
+from made_files import app1, chunk, exif, jpeg, png, webp
+from studio import needs
+
+RATIONAL = 5
+# Numbers that say where something is, which a repair may move
+PLACES = ("ThumbnailOffset", "PreviewImageStart", "OtherImageStart", "StripOffsets")
+
+
+def camera(order=">", shared=False, unsorted=False, doubled=False, cut=False, empty=False):
+    """A block as a camera writes it, with each directory, and with these faults."""
+    short = (lambda number: number << 16) if order == ">" else (lambda number: number)
+    pack = lambda *rows: struct.pack(order + "H", len(rows)) + b"".join(struct.pack(order + "HHII", *it) for it in rows)  # noqa: E731
+    main_rows = [(0x010F, ASCII, 6, 300), (0x0110, ASCII, 8, 306), (0x0112, SHORT, 1, short(6)), (0x011A, RATIONAL, 1, 320),
+                 (0x011B, RATIONAL, 1, 320 if shared else 328), (0x8769, LONG, 1, 140), (0x8825, LONG, 1, 220)]  # fmt: skip
+    if doubled:
+        main_rows.insert(3, main_rows[2])
+    if unsorted:
+        main_rows[0], main_rows[1] = main_rows[1], main_rows[0]
+    exif_rows = [(0x829A, RATIONAL, 1, 336), (0x9003, ASCII, 20, 344), (0x9204, 10, 1, 364)]
+    gps_rows = [] if empty else [(0x0001, ASCII, 2, struct.unpack(order + "I", b"N\0\0\0")[0]), (0x0002, RATIONAL, 3, 372)]
+    made = bytearray(400)
+    made[:8] = (b"MM\0*" if order == ">" else b"II*\0") + struct.pack(order + "I", 8)
+    for at, rows in ((8, main_rows), (140, exif_rows), (220, gps_rows)):
+        made[at : at + len(pack(*rows))] = pack(*rows)
+    for at, octets in ((300, b"Maker\0"), (306, b"Model 7\0"), (344, b"2024:05:02 08:12:33\0")):
+        made[at : at + len(octets)] = octets
+    for at in (320, 328, 336, 364, 372, 380, 388):
+        struct.pack_into(order + "II", made, at, 720 if at < 336 else at, 10)  # both resolutions are equal
+    return bytes(made[: 396 if cut else 400])
+
+
+REFUSED = {
+    "unsorted": camera(unsorted=True), "shared": camera(shared=True), "doubled": camera(doubled=True), "empty": camera(empty=True),
+    "little": camera("<", unsorted=True, shared=True), "all": camera(unsorted=True, shared=True, doubled=True),
+}  # fmt: skip
+
+
+def values_of(folder, blocks):
+    """What ExifTool reads of some blocks, without places."""
+    for number, octets in enumerate(blocks):
+        (folder / f"{number:04}.jpg").write_bytes(jpeg(app1(octets)))
+    names = [f"{number:04}.jpg" for number in range(len(blocks))]
+    words = ["exiftool", "-config", "", "-q", "-q", "-m", "-json", "-a", "-u", "-n", "-G1:4", "-b", "-x", "File:all", "-x", "System:all", "-x",
+             "ExifTool:all", "-x", "Composite:all", *names]  # fmt: skip
+    done = subprocess.run(words, cwd=folder, capture_output=True, timeout=600)
+    found = json.loads(done.stdout)
+    assert [it.pop("SourceFile") for it in found] == names
+    return [
+        {(re.sub(r"Copy\d+:", "", key), str(value)) for key, value in it.items() if key.rpartition(":")[2] not in PLACES} for it in found
+    ]
+
+
+def fields_of(made):
+    return [(it.where, it.key, it.shown) for it in normal_form.fields(made.form)]
+
+
+def lossless(block):
+    """The repaired form of a block, if it is refused and the repair loses nothing."""
+    made = repairs.repaired(block)
+    return made if made and made.steps and not steps.loses(made.steps) else None
+
+
+@needs("exiftool")
+@pytest.mark.parametrize("name", REFUSED)
+def test_a_repaired_block_says_what_the_refused_one_said(folder, name):
+    made = lossless(REFUSED[name])
+    assert made is not None
+    before, after = values_of(folder, [REFUSED[name], made.block])
+    assert before == after and ("IFD0:Model", "Model 7") in after
+
+
+@needs("exiftool")
+def test_equal_repairs_have_equal_values(folder):
+    """Each bit of the refused blocks is turned: where the repaired form stays equal, ExifTool reads the same as before."""
+    pairs = []
+    for block in REFUSED.values():
+        form = lossless(block).form
+        for bit in range(8 * 8, 8 * len(block), 5):
+            turned = bytearray(block)
+            turned[bit // 8] ^= 1 << bit % 8
+            made = lossless(bytes(turned))
+            if made and made.form == form:
+                pairs.append((block, bytes(turned)))
+    assert len(pairs) >= 300
+    pairs = pairs[:: len(pairs) // 150]
+    found = values_of(folder, [it for pair in pairs for it in pair])
+    wrong = [number for number in range(len(pairs)) if found[2 * number] != found[2 * number + 1]]
+    assert not wrong, [found[2 * number : 2 * number + 2] for number in wrong[:3]]
+
+
+def test_each_cause(golden):
+    """The steps of the smallest block that has the cause, what they lose, and what is read then: in golden/repairs.txt."""
+    lines = []
+    for cause, block in BLOCKS.items():
+        made = repairs.repaired(block)
+        lines.append(f"{cause}:{'' if made else ' no repair is known'}")
+        lines += [f"  {it.what}{' (loses ' + it.loses + ')' if it.loses else ''}" for it in (made.steps if made else ())]
+        lines += [f"    {where}:{key} {shown}" for where, key, shown in (fields_of(made) if made else ())]
+    golden("repairs.txt", "\n".join(lines) + "\n")
+
+
+@pytest.mark.parametrize("count, is_repaired", [(100, True), (101, False)])
+def test_at_most_a_hundred_steps(count, is_repaired):
+    """Each of these entries stands twice."""
+    rows = [entry(0x0112, SHORT, 1, 1 << 16)] * (count + 1)
+    made = repairs.repaired(b"MM\0*\0\0\0\x08" + table(rows))
+    assert (made is not None) is is_repaired
+    assert made is None or len(made.steps) == count
+
+
+@pytest.mark.parametrize("length", range(0, 400, 7))
+def test_blocks_that_are_cut(length):
+    """A repair ends, and its result is accepted."""
+    for block in REFUSED.values():
+        made = repairs.repaired(block[:length])
+        assert made is None or repairs.repaired(made.block).steps == ()
+
+
+def test_which_repairs_make_pictures_the_same(folder, capsys, monkeypatch):
+    """Those that lose nothing; an edit is named, and one that loses something makes nothing the same."""
+    monkeypatch.chdir(folder)
+    plain = camera()
+    edited = plain.replace(b"Model 7", b"Model 8")
+    lossy = BLOCKS["Doubled"]
+    for name, before, after, result, status in (
+        ("same", REFUSED["all"], plain, "the same after repair", 2), ("both", REFUSED["unsorted"], REFUSED["little"], "the same after repair", 2),
+        ("edited", REFUSED["all"], edited, "different after repair", 1), ("lossy", lossy, exif(b"Abc"), "refused", 2), ("itself", lossy, lossy, "refused, the same bytes", 0),
+    ):  # fmt: skip
+        for side, octets in (("before", before), ("after", after)):
+            (folder / name / side).mkdir(parents=True)
+            (folder / name / side / "a.jpg").write_bytes(jpeg(app1(octets)))
+        capsys.readouterr()
+        assert main._run(["changed", f"{name}/before", f"{name}/after", "--json", "--all", "--no-exiftool"]) == status, name
+        found = json.loads(capsys.readouterr().out.splitlines()[0])
+        assert found["result"] == result
+        if name == "edited":
+            assert [it["name"] for it in found["fields"]] == ["main:Model"]
+
+
+@pytest.mark.parametrize("kind, holder", [
+    ("JPEG", lambda it: jpeg(app1(it), behind=b"rest")), ("PNG", lambda it: png(chunk(b"eXIf", it))), ("WEBP", lambda it: webp((b"EXIF", it))),
+])  # fmt: skip
+@pytest.mark.parametrize("name", ["unsorted", "shared", "all"])
+def test_the_rest_of_a_repaired_file_stays(kind, holder, name):
+    """Also where the block becomes longer."""
+    made = repairs.repaired(REFUSED[name])
+    found = [FoundBlock(EXIF, REFUSED[name], "Exif", "")]
+    octets, done = repaired_file.repaired_file(holder(REFUSED[name]), kind, found)
+    assert octets == holder(made.block) and done == made.steps
+
+
+def test_a_block_that_is_not_found_once_is_not_replaced():
+    block = REFUSED["unsorted"]
+    found = [FoundBlock(EXIF, block, "Exif", "")]
+    assert repaired_file.repaired_file(jpeg(app1(block), app1(block)), "JPEG", found) is None
+    assert repaired_file.repaired_file(jpeg(), "JPEG", found) is None
+    assert repaired_file.repaired_file(jpeg(app1(block)), "TIFF", found) is None
+
+
+def test_mend_without_exiftool(folder, capsys, monkeypatch):
+    """A repair that loses nothing needs no program."""
+    monkeypatch.chdir(folder)
+    monkeypatch.setenv("PATH", str(folder))
+    (folder / "a.jpg").write_bytes(jpeg(app1(REFUSED["all"])))
+    (folder / "b.jpg").write_bytes(jpeg(app1(BLOCKS["Doubled"])))
+    assert main._run(["mend", "a.jpg", "out.jpg"]) == 0
+    assert main._run(["explain", "out.jpg"]) == 0
+    assert main._run(["mend", "b.jpg", "other.jpg"]) == 2
+    assert not os.path.exists("other.jpg") and "libimage-exiftool-perl" in capsys.readouterr().out
+
+
+def test_shown_fields_of_a_refused_block(folder, capsys, monkeypatch):
+    monkeypatch.chdir(folder)
+    (folder / "a.jpg").write_bytes(jpeg(app1(REFUSED["unsorted"])))
+    assert main._run(["show", "a.jpg"]) == 2
+    printed = capsys.readouterr().out
+    assert "entries sorted" in printed and '"Model 7"' in printed and "tested, and not proved" in printed

@@ -1,0 +1,94 @@
+"""What `index` and the other commands end with, and what is looked at again although no file has changed."""
+
+import json
+import os
+import sqlite3
+
+import pytest
+from exifnorm_pictures import xmp
+from exifnorm_pictures.cli import main
+from exifnorm_pictures.extract.formats.found import UNREAD_TRAILER
+from exifnorm_pictures.refusals import causes
+from exifnorm_pictures.scan import index
+from made_blocks import BLOCKS
+from made_files import app1, app1_xmp, exif, jpeg, title
+from studio import needs
+
+GOOD = jpeg(app1(exif(b"abc")), app1_xmp(title("a")))
+
+
+@pytest.fixture
+def asked(folder, monkeypatch, capsys):
+    """Runs exifnorm-pictures in this process and in a folder with one good picture; returns its lines, and checks the status."""
+    monkeypatch.chdir(folder)
+    (folder / "p").mkdir()
+    (folder / "p/a.jpg").write_bytes(GOOD)
+
+    def call(*words, status=0):
+        capsys.readouterr()
+        assert main._run(words) == status
+        return capsys.readouterr().out.splitlines()
+
+    return call
+
+
+def make_link(path):
+    os.symlink("nothing", path)
+
+
+@pytest.mark.parametrize("make, problem, status", [
+    (os.mkfifo, "NotAFile", 0), (make_link, "LinkToNothing", 0), (lambda path: os.symlink(path, path), "LinkToNothing", 0),
+    (lambda path: os.symlink("/dev/zero", path), "NotAFile", 0), (lambda path: path.write_bytes(jpeg(app1(BLOCKS["Overlap"]))), "Exif", 0),
+], ids=["a pipe", "a link to nothing", "a link to itself", "a device", "a refused picture"])  # fmt: skip
+def test_a_line_and_the_status_of_index(asked, folder, make, problem, status):
+    make(folder / "p/b.jpg")
+    lines = asked("index", "p", "--catalogue", "c", "--quiet", status=status)
+    assert lines[0].startswith(f"{folder}/p/b.jpg: {problem}: ")
+
+
+@needs("exiftool")
+@pytest.mark.parametrize("octets, words", [(b"", "the file is empty"), (bytes(5000), "the file has only zeros")], ids=["empty", "zeros"])
+def test_a_file_of_which_nothing_is_left(asked, folder, octets, words):
+    (folder / "p/b.jpg").write_bytes(octets)
+    assert asked("index", "p", "--catalogue", "c", "--quiet")[0] == f"{folder}/p/b.jpg: NoPicture: {words}"
+
+
+def test_a_mistyped_folder_makes_no_catalogue(asked, folder):
+    asked("index", "q", "r", "--catalogue", "c", "--quiet", status=3)
+    assert not (folder / "c").exists()
+    assert asked("index", "q", "p", "--catalogue", "c", "--quiet", status=2)[-1] == "1 Unreadable, 1 accepted"
+    assert asked("index", "q", "--catalogue", "c", "--quiet", status=2)[-1] == "1 Unreadable"
+
+
+def test_a_file_that_never_was_is_not_gone(asked):
+    assert asked("show", "p/nothing.jpg", status=2) == ["NoFile: there is no such file"]
+
+
+@pytest.mark.parametrize("there", [True, False])
+@pytest.mark.parametrize("statement", [
+    "UPDATE pictures SET xmp = NULL; UPDATE blocks SET status = 'unreadable', cause = 'NeedsRdflib' WHERE kind = 'xmp'",
+    f"UPDATE pictures SET not_read = NULL; INSERT INTO not_read SELECT id, 0, '{UNREAD_TRAILER}', '' FROM pictures",
+], ids=["rdflib", "exiftool"])  # fmt: skip
+def test_what_a_missing_program_left_is_read_once_it_is_there(asked, monkeypatch, statement, there):
+    asked("index", "p", "--catalogue", "c", "--quiet")
+    base = sqlite3.connect("c")
+    base.executescript(statement)
+    base.close()
+    monkeypatch.setattr(index.importlib.util, "find_spec", lambda _: there or None)
+    monkeypatch.setattr(index.programs, "is_there", lambda _: there)
+    assert asked("index", "p", "--catalogue", "c", "--quiet") == ["1 accepted" if there else "1 unchanged"]
+
+
+def test_each_cause_has_its_meaning_and_remedy():
+    for cause in (*BLOCKS, *xmp.CAUSES, "NormalTooLong", "OutOfMemory"):
+        assert all(causes.words_of(cause)), cause
+
+
+def test_a_page_has_the_remedy_of_each_cause(asked, folder):
+    for number, octets in enumerate((b"<x", title("a") + b"<!", b"<!DOCTYPE x>" + title("a"))):
+        (folder / f"p/{number}.jpg").write_bytes(jpeg(app1_xmp(octets)))
+    asked("index", "p", "--catalogue", "c", "--quiet")
+    asked("report", "--catalogue", "c", "--html", "page")
+    page = (folder / "page").read_text()
+    found = {json.loads(it)["cause"] for it in asked("report", "--catalogue", "c", "--json") if '"refused"' in it[:12]}
+    assert len(found) > 1 and page.count("<b>Remedy.</b>") == len(found)
