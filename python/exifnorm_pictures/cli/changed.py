@@ -19,12 +19,13 @@ from ..refusals.steps import Step
 from ..scan.batches import How
 from ..scan.index import IndexOptions, index
 from .exit_codes import DIFFERENCE, SUCCESS, UNKNOWN
-from .names import from_list
+from .names import from_list, refuse_pictures
 from .output import Members, closed_folder, output, path_members, print_line, shown_path
 
 
 def run(arguments: argparse.Namespace) -> int:
     """Lists the differences between two states."""
+    refuse_pictures(arguments.before, arguments.after)
     names = from_list(arguments)
     only = None if names is None else {*names, *(os.path.abspath(it) for it in names)}
     counts: "Counter[str]" = Counter()

@@ -6,8 +6,12 @@ import argparse
 import os
 from typing import List, Optional, Sequence, Set
 
+from ..files.opening import reading
 from ..scan.walk import BadList, listed
+from .exit_codes import USAGE
+from .output import shown_path
 from .parser import parser
+from .signals import Failure
 
 
 def from_list(arguments: argparse.Namespace) -> Optional[List[bytes]]:
@@ -29,3 +33,31 @@ def named(arguments: argparse.Namespace, names: Sequence[str]) -> List[bytes]:
     if any(b"\0" in it for it in found):
         raise BadList("a name contains a NUL")
     return found
+
+
+class WrongCommand(Failure):
+    """Two names for which another command is meant."""
+
+    status = USAGE
+
+
+def _is_catalogue(name: str) -> bool:
+    try:
+        with reading(os.fsencode(name)) as file:
+            return file.read(16) == b"SQLite format 3\0"
+    except OSError:
+        return False
+
+
+def refuse_folders(*names: str) -> None:
+    """Raises `WrongCommand` if one of the names that `compare` gets is a folder or a catalogue."""
+    for it in names:
+        if os.path.isdir(it) or _is_catalogue(it):
+            what = "a folder" if os.path.isdir(it) else "a catalogue"
+            raise WrongCommand(f"{shown_path(it)} is {what}: compare takes two pictures; changed compares folders and catalogues")
+
+
+def refuse_pictures(*names: str) -> None:
+    """Raises `WrongCommand` if the names that `changed` gets are files and no catalogues."""
+    if all(os.path.isfile(it) and os.path.getsize(it) and not _is_catalogue(it) for it in names):
+        raise WrongCommand("changed compares folders and catalogues; for two pictures use: exifnorm-pictures compare A B")

@@ -14,9 +14,9 @@ SECONDS = 60.0  # that a program may take for one file
 
 _STATUSES = """Statuses:
   0    done, or the same (index: also if pictures are refused, which the catalogue records)
-  1    different (changed: something differs, also after repair, was moved or is missing; mend: the copy differs in a printed value)
-  2    it can't be decided wholly (changed, show, captions, explain: a block is refused or unreadable, or a picture or a part
-       wasn't read; changed: the same only after a repair, or but for a MakerNote; index: a picture that should be readable isn't,
+  1    different (changed, compare: something differs, also after repair, was moved or is missing; mend: the copy differs in a printed value)
+  2    it can't be decided wholly (changed, compare, show, captions, explain: a block is refused or unreadable, or a picture or a part
+       wasn't read; changed, compare: the same only after a repair, or but for a MakerNote; index: a picture that should be readable isn't,
        or a program failed at it; mend: no remedy worked, or the picture wasn't read)
   3    bad arguments, or names that lead to nothing
   4    the command itself failed: the catalogue, a stream, an output file, the disk or the memory
@@ -79,7 +79,7 @@ def parser() -> argparse.ArgumentParser:
         build(one)
         one.add_argument("--json", action="store_true", help="print one JSON object for each line")
         one.add_argument("--debug", action="store_true", help="print the traceback of an internal error, as EXIFNORM_DEBUG=1 does")
-        if name != "merge":
+        if name not in ("merge", "compare"):
             one.add_argument("--files-from", metavar="LIST", help="read names from the file LIST, - for standard input: one for each line")
             one.add_argument("-0", "--null", action="store_true", help="the names in LIST end with NUL, as from find -print0")
     return whole
@@ -163,6 +163,19 @@ def _changed_arguments(it: argparse.ArgumentParser) -> None:
     _many_arguments(it)
 
 
+def _example(it: argparse.ArgumentParser, text: str) -> None:
+    it.description = f"{it.description}\n\nExample:\n  exifnorm-pictures {text}"
+
+
+def _compare_arguments(it: argparse.ArgumentParser) -> None:
+    _example(it, "compare before.jpg after.jpg")
+    it.add_argument("before", type=_name, metavar="A", help="a picture")
+    it.add_argument("after", type=_name, metavar="B", help="a picture")
+    it.add_argument("--exact", action="store_true", help="each field with its tag, its type and its exact value")
+    it.add_argument("--no-exiftool", action="store_true", help="don't ask ExifTool whether MakerNotes that differ or have moved read the same")
+    _looking_arguments(it)
+
+
 def _pictures_arguments(it: argparse.ArgumentParser) -> None:
     it.add_argument("pictures", nargs="*", type=_name, metavar="PICTURE")
     it.add_argument("--block", action="store_true", help="each PICTURE is a block that was extracted before")
@@ -190,6 +203,7 @@ _COMMANDS: Tuple[Tuple[str, str, Callable[[argparse.ArgumentParser], None]], ...
     ("forget", "remove folders or pictures from a catalogue", _forget_arguments),
     ("same", "list groups of pictures that mean the same", _same_arguments),
     ("changed", "list the differences between two catalogues or folders, with the fields", _changed_arguments),
+    ("compare", "compare two pictures: what differs, side by side, in plain words", _compare_arguments),
     ("show", "print the fields of pictures", _pictures_arguments),
     ("captions", "print captions, names, keywords and rights of pictures", _pictures_arguments),
     ("explain", "explain why a block is refused, and name remedies", _pictures_arguments),

@@ -18,6 +18,7 @@ from ..fields.listing import Change, changes, only_maker_note
 from ..refusals import steps
 from ..refusals.steps import Step
 from .pairs import AFTER, BEFORE, Pair, Pairs
+from .sides import Sides
 from .verdicts import (
     ACCEPTED, DIFFERENT, DIFFERENT_REPAIRED, MOVED_NOTE, NOT_WHOLLY_READ, ONLY_REACHED, REACHED, REFUSED, SAME, SAME_REPAIRED, UNREADABLE,
     Verdict, left_open, result, sentence, verdicts,
@@ -70,7 +71,7 @@ def changed(
     with contextlib.closing(Pairs(before, after, only)) as pairs:
         there = 0
         came = (Compared(name, MISSING_BEFORE) for name in pairs.came())
-        for it in heapq.merge((_compared(pair, pairs, each, ask) for pair in pairs.differing(every)), came, key=lambda one: one.name):
+        for it in heapq.merge((compared(pair, pairs, each, ask) for pair in pairs.differing(every)), came, key=lambda one: one.name):
             there += it.result != MISSING_BEFORE
             counts[it.result] += 1
             yield it
@@ -78,7 +79,8 @@ def changed(
             counts[SAME] += pairs.count() - there
 
 
-def _compared(pair: Pair, pairs: Pairs, each: bool, ask: bool) -> Compared:
+def compared(pair: Pair, pairs: Sides, each: bool, ask: bool) -> Compared:
+    """Compares one picture before and after."""
     name, one, other, place = pair
     if one is None or other is None:
         return Compared(name, MISSING_AFTER) if place is None else Compared(name, MOVED, moved_to=place)
@@ -112,7 +114,7 @@ def _unread(name: bytes, one: Picture, other: Picture) -> Compared:
     return Compared(name, NOT_READ, ", ".join(notes))
 
 
-def _judge_maker_notes(it: Compared, one: Picture, other: Picture, pairs: Pairs, parts: List[str], each: bool, ask: bool) -> List[str]:
+def _judge_maker_notes(it: Compared, one: Picture, other: Picture, pairs: Sides, parts: List[str], each: bool, ask: bool) -> List[str]:
     """Asks ExifTool where the bytes or the place of a MakerNote differ, or the bytes that only it can reach. Returns the parts that stay open."""
     lines = [change for change in it.changes if change.name.endswith(_MAKER_NOTE) and change.before and change.after]
     both = bool(one.maker_notes and other.maker_notes)
@@ -181,7 +183,7 @@ def _extracted(blocks: Iterable[Block]) -> str:
 Packed = Tuple[Block, Optional[bytes]]  # a block and its packed fields
 
 
-def _add_details(it: Compared, blocks: List[List[Packed]], pairs: Pairs) -> None:
+def _add_details(it: Compared, blocks: List[List[Packed]], pairs: Sides) -> None:
     """Adds the fields that differ, and the causes of refusals."""
     first, second = ({(one[0].kind, one[0].name): one for one in side} for side in blocks)
     maker_note = [verdict.kind for verdict in it.verdicts if verdict.result == DIFFERENT] == [EXIF]

@@ -10,8 +10,8 @@ import zlib
 from typing import Dict, List, NamedTuple, Optional, Sequence
 
 from ..catalogue.records import Picture, Stamp, is_marked_as
-from ..catalogue.store import Catalogue
 from ..extract import exiftool, programs
+from .sides import KeepsNotes
 
 Values = Dict[str, str]
 
@@ -58,7 +58,7 @@ def unpacked(octets: bytes) -> Values:
     return dict(json.loads(zlib.decompress(octets)))
 
 
-def compared(before: Catalogue, one: Picture, after: Catalogue, other: Picture) -> Optional[List[Difference]]:
+def compared(before: KeepsNotes, one: Picture, after: KeepsNotes, other: Picture) -> Optional[List[Difference]]:
     """The values that differ between two pictures; None if they aren't known: a file has changed since, or there is no ExifTool."""
     known: Dict[int, Values] = {}
     for number, (catalogue, it) in enumerate(((before, one), (after, other))):

@@ -235,7 +235,7 @@ def changes(before: List[Field], after: List[Field]) -> List[Change]:
     """
     first, second = _by_name(before), _by_name(after)
     differ = [key for key in first.keys() | second.keys() if first.get(key) != second.get(key)]
-    return [Change(full_name(*key), _one_line(first.get(key)), _one_line(second.get(key))) for key in sorted(differ, key=_order)]
+    return [Change(full_name(*key), _one_line(first.get(key)), _one_line(second.get(key))) for key in sorted(differ, key=order_of)]
 
 
 def only_maker_note(before: List[Field], after: List[Field]) -> bool:
@@ -246,7 +246,8 @@ def only_maker_note(before: List[Field], after: List[Field]) -> bool:
 _PLACES = ["main", "exif", "interop", "gps", "thumb", "iptc", "xmp"]
 
 
-def _order(key: Tuple[str, str]) -> Tuple[int, Tuple[int, ...], str]:
+def order_of(key: Tuple[str, str]) -> Tuple[int, Tuple[int, ...], str]:
+    """The place of a field, by its directory and tag, in an ordered list."""
     where, tag = key
     number: Tuple[int, ...]
     if where == "xmp":

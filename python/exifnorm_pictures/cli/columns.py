@@ -1,0 +1,77 @@
+"""A table of three columns for people: names, and two values side by side."""
+
+from __future__ import annotations
+
+import unicodedata
+from typing import Iterator, List, Sequence
+
+LONGEST_NAME, NARROWEST, WIDEST = 34, 20, 60  # in columns of a terminal
+
+
+def width(text: str) -> int:
+    """The columns that a text takes on a terminal.
+
+    >>> width("Zürich"), width("京都"), width("e\\u0301")
+    (6, 4, 1)
+    """
+    return sum(0 if unicodedata.combining(it) else 2 if unicodedata.east_asian_width(it) in "WF" else 1 for it in text)
+
+
+def columns(rows: Sequence[Sequence[str]], screen: int) -> Iterator[str]:
+    """The lines of a table. The first row has the heads; a row of one cell is a heading, and the text of one of two cells isn't cut.
+
+    >>> print("\\n".join(columns([("", "a.jpg", "b.jpg"), ("Artist", "(none)", "Otto")], 60)))
+            a.jpg   b.jpg
+    Artist  (none)  Otto
+    """
+    names = min(LONGEST_NAME, max(width(it[0]) for it in rows if len(it) > 1))
+    column = max(NARROWEST, min(WIDEST, (screen - names - 4) // 2))
+    first = min(column, max([width(it[1]) for it in rows if len(it) > 2], default=0))
+    for it in rows:
+        if len(it) == 1:
+            yield it[0]
+            continue
+        cells = [
+            wrapped(it[0], names),
+            wrapped(it[1], first if len(it) > 2 else 2 * column),
+            wrapped(it[2], column) if len(it) > 2 else [""],
+        ]
+        for at in range(max(map(len, cells))):
+            name, one, other = (cell[at] if at < len(cell) else "" for cell in cells)
+            yield f"{_padded(name, names)}  {_padded(one, first)}  {other}".rstrip()
+
+
+def _padded(text: str, wanted: int) -> str:
+    return text + " " * (wanted - width(text))
+
+
+def wrapped(text: str, wanted: int) -> List[str]:
+    """The text in lines of so many columns, broken at blanks where it can be.
+
+    >>> wrapped("a vase of 1880", 8), wrapped("abcdefghij", 4)
+    (['a vase', 'of 1880'], ['abcd', 'efgh', 'ij'])
+    """
+    lines: List[str] = []
+    line = ""
+    for word in text.split(" "):
+        joined = f"{line} {word}" if line else word
+        if width(joined) <= wanted:
+            line = joined
+            continue
+        lines += [line] if line else []
+        line = word
+        while width(line) > wanted:
+            at = _fitting(line, wanted)
+            lines.append(line[:at])
+            line = line[at:]
+    return [*lines, line]
+
+
+def _fitting(text: str, wanted: int) -> int:
+    """How many characters fit, at least one."""
+    taken = 0
+    for at, it in enumerate(text):
+        taken += width(it)
+        if taken > wanted:
+            return max(at, 1)
+    return len(text)

@@ -1,0 +1,149 @@
+"""The command `compare`: two pictures side by side."""
+
+from __future__ import annotations
+
+import argparse
+import os
+import shutil
+from collections import Counter
+from typing import Iterator, List, Sequence
+
+from ..catalogue.records import WORDS
+from ..compare import changed as changes
+from ..compare import verdicts
+from ..compare.two_pictures import Comparison, Row, compare, read, with_position
+from ..extract import exiftool, programs
+from ..files import tempdir
+from ..scan.batches import How
+from .changed import status_of
+from .columns import columns
+from .exit_codes import SUCCESS, UNKNOWN
+from .names import refuse_folders
+from .output import Members, escaped, output, path_members, shown_path
+
+SCHEMA = 1
+NONE = "(none)"
+
+
+def run(arguments: argparse.Namespace) -> int:
+    """Compares two pictures."""
+    refuse_folders(arguments.before, arguments.after)
+    programs.set_limit(arguments.limit)
+    with tempdir.room() as room:
+        exiftool.begin(room)
+        try:
+            how = How(1, False, arguments.whole, arguments.limit, room)
+            one, other = (read(os.fsencode(it), how) for it in (arguments.before, arguments.after))
+            found = compare(one, other, arguments.exact, not arguments.no_exiftool, arguments.whole)
+        finally:
+            exiftool.finish()
+    rows = found.rows if arguments.exact else with_position(found.rows, one, other)
+    names = [os.fsencode(it) for it in (arguments.before, arguments.after)]
+    output(arguments, list(_lines(found, rows, names, arguments.exact)), _members(found, rows, names))
+    return _status(found)
+
+
+def _status(found: Comparison) -> int:
+    if found.is_identical or found.is_empty:
+        return SUCCESS
+    if any(it.problem in ("NoFile", "Unreadable", "LinkToNothing", "NotAFile") for it in found.records):
+        return UNKNOWN
+    return status_of(Counter([found.result]))
+
+
+# The page
+
+_SENTENCES = {
+    verdicts.SAME: "The same metadata.",
+    verdicts.MOVED_NOTE: "The same metadata but for a MakerNote that has moved; ExifTool reads the same from both.",
+    verdicts.SAME_REPAIRED: "The same metadata after a repair in memory.",
+    changes.ONLY_MAKER_NOTE: "Only the MakerNote differs.",
+    verdicts.ONLY_REACHED: "No field differs. Bytes differ that no field has, and that a MakerNote can lead to.",
+    verdicts.NOT_WHOLLY_READ: "No field differs, but not everything was read.",
+    verdicts.REFUSED: "The metadata can't be compared wholly: a block breaks the rules of its format.",
+    verdicts.UNREADABLE: "The metadata can't be compared wholly: XMP is unreadable.",
+    changes.REFUSED_SAME: "No difference: a block breaks the rules of its format, and has the same bytes in both.",
+    changes.UNREADABLE_SAME: "No difference: XMP is unreadable, and has the same bytes in both.",
+    changes.FILE_SAME: "The same bytes, in a format that isn't read.",
+    changes.FILE_DIFFERENT: "Different bytes, in a format that isn't read.",
+    changes.NOT_READ: "The metadata can't be compared: a file isn't read.",
+}  # fmt: skip
+
+
+def _lines(found: Comparison, rows: Sequence[Row], names: Sequence[bytes], exact: bool) -> Iterator[str]:
+    if found.is_identical:
+        yield "The two files are identical, byte for byte."
+        return
+    if found.is_empty:
+        yield "Nothing to compare: neither picture has Exif, IPTC or XMP."
+        return
+    yield _sentence(found, rows)
+    if any(it.problem for it in found.records):
+        yield from (f"{shown_path(name)}: {it.problem}: {it.detail}" for name, it in zip(names, found.records) if it.problem)
+        return
+    note = found.found.note
+    yield f"{note[:1].upper()}{note[1:]}. Only metadata was compared."
+    if any(it.status != verdicts.ACCEPTED for record in found.records for it in record.blocks):
+        yield "More about a block that isn't accepted: exifnorm-pictures explain PICTURE"
+    if rows:
+        yield ""
+        yield from _table(_heads(names), rows, exact)
+
+
+def _sentence(found: Comparison, rows: Sequence[Row]) -> str:
+    if found.result not in (verdicts.DIFFERENT, verdicts.DIFFERENT_REPAIRED):
+        return _SENTENCES[found.result]
+    equal = sum(it.is_equal_number for it in rows)
+    real = len(rows) - equal
+    what = [f"{real} field{'s differ' if real != 1 else ' differs'}"] if real else []
+    what += [f"{equal} equal number{'s are' if equal != 1 else ' is'} only written otherwise"] if equal else []
+    head = "Different metadata" + (" after a repair in memory" if found.result == verdicts.DIFFERENT_REPAIRED else "")
+    return f"{head}: {', and '.join(what)}." if what else f"{head}."
+
+
+def _heads(names: Sequence[bytes]) -> List[str]:
+    short = [os.path.basename(it) for it in names]
+    return [shown_path(it) for it in (short if short[0] != short[1] else names)]
+
+
+def _table(heads: Sequence[str], rows: Sequence[Row], exact: bool) -> Iterator[str]:
+    """The fields and their values in two columns."""
+    table: List[Sequence[str]] = [("", *heads)]
+    for equal in (False, True):
+        some = [it for it in rows if it.is_equal_number == equal]
+        if equal and some:
+            table.append(("Equal, but written otherwise:",))
+        table += [_cells(it, exact or equal) for it in some]
+    return columns(table, shutil.get_terminal_size((100, 24)).columns)
+
+
+def _cells(it: Row, exact: bool) -> Sequence[str]:
+    if it.note:
+        return (it.name, escaped(it.note))
+    name = f"{it.name} {_tag(it)}".rstrip() if exact else it.name
+    return (name, *(NONE if text is None else escaped(text) if not exact else text for text in (it.exact if exact else it.plain)))
+
+
+def _tag(it: Row) -> str:
+    """The number of a field's tag, where it isn't its name."""
+    key = it.differences[0].key if len(it.differences) == 1 and it.differences[0].where != "xmp" else ""
+    return key if ":" in key else f"0x{key}" if len(key) == 4 and f"0x{key}" not in it.name else ""
+
+
+# --json
+
+
+def _members(found: Comparison, rows: Sequence[Row], names: Sequence[bytes]) -> Members:
+    pictures = []
+    for name, it in zip(names, found.records):
+        one: Members = {**path_members(name), "type": it.type, "not_read": [part.what for part in it.not_read]}
+        pictures.append({**one, "problem": it.problem, "detail": it.detail} if it.problem else one)
+    whole: Members = {"schema": SCHEMA, "pictures": pictures, "result": found.result, "identical_files": found.is_identical}
+    kinds = {WORDS[it.kind]: it.result for it in found.found.verdicts}
+    return {**whole, "note": found.found.note, "kinds": kinds, "fields": [_row_members(it) for it in rows]}
+
+
+def _row_members(it: Row) -> Members:
+    exact = dict(zip(("before", "after"), it.exact))
+    made: Members = {"name": it.name, "before": it.plain[0], "after": it.plain[1], "exact": exact, "equal_number": it.is_equal_number}
+    return {**made, "note": it.note} if it.note else made

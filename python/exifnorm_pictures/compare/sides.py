@@ -1,0 +1,37 @@
+"""What a comparison of two pictures needs: of rows of two catalogues, or of two files that were read just now."""
+
+from __future__ import annotations
+
+from typing import List, Optional, Protocol, Tuple
+
+from ..catalogue.records import Block, Picture
+from ..extract.formats.found import NotRead
+from ..fields.listing import Field
+
+
+class KeepsNotes(Protocol):
+    """What may keep ExifTool's readings of MakerNotes."""
+
+    def maker_notes(self, picture: Picture) -> Optional[bytes]:
+        """The readings of a picture; None if they aren't kept."""
+        ...
+
+
+class Sides(Protocol):
+    """The pictures of two sides, numbered 0 and 1."""
+
+    @property
+    def catalogues(self) -> Tuple[KeepsNotes, KeepsNotes]:
+        ...
+
+    def blocks(self, side: int, picture: Picture) -> List[Tuple[Block, Optional[bytes]]]:
+        """A picture's blocks, each with its packed fields."""
+        ...
+
+    def fields(self, side: int, packed: Optional[bytes]) -> List[Field]:
+        """The fields of a block; none if they aren't kept."""
+        ...
+
+    def not_read(self, side: int, picture: Picture) -> List[NotRead]:
+        """The parts of a picture that were not read."""
+        ...

@@ -1,0 +1,277 @@
+"""Two pictures compared without a catalogue: the verdict that `changed` has for them, and the fields that differ, in plain words."""
+
+from __future__ import annotations
+
+import contextlib
+import filecmp
+import os
+from dataclasses import dataclass, field
+from typing import Dict, List, NamedTuple, Optional, Sequence, Tuple
+
+import exifnorm
+
+from .. import xmp
+from ..catalogue.records import KINDS, Block, Picture, PictureRecord, Stamp, digests
+from ..extract import extraction, programs
+from ..extract.budgets import TooMuch
+from ..extract.formats.found import NAMES, PROBLEMS, XMP, NotRead
+from ..fields.listing import Change, Field, shortened, unpacked
+from ..fields.plain_names import group_name
+from ..fields.plain_values import POSITION, plain, position
+from ..refusals import repairs
+from ..scan.batches import How
+from ..scan.walk import FoundFile
+from ..scan.workers import look
+from ..xmp.texts import texts
+from .changed import Compared, compared
+from .differing import Difference, differences
+from .pairs import Pair
+from .verdicts import ABSENT, ACCEPTED, SAME
+
+Octets = Dict[Tuple[str, str], List[bytes]]  # the values of fields of bytes, by directory and key
+
+
+class _KeepsNothing(NamedTuple):
+    """In place of a catalogue: no reading of a MakerNote is kept."""
+
+    def maker_notes(self, picture: Picture) -> Optional[bytes]:
+        """None is kept."""
+        del picture
+        return None
+
+
+@dataclass
+class TwoFiles:
+    """Two files that were read just now, in place of two catalogues."""
+
+    records: Tuple[PictureRecord, PictureRecord]
+    catalogues: Tuple[_KeepsNothing, _KeepsNothing] = (_KeepsNothing(), _KeepsNothing())
+
+    def blocks(self, side: int, picture: Picture) -> List[Tuple[Block, Optional[bytes]]]:
+        """A picture's blocks, each with its packed fields."""
+        del picture
+        return [(it, it.kept) for it in self.records[side].blocks]
+
+    def fields(self, side: int, packed: Optional[bytes]) -> List[Field]:
+        """The fields of a block."""
+        del side
+        return unpacked(packed) if packed else []
+
+    def not_read(self, side: int, picture: Picture) -> List[NotRead]:
+        """The parts of a picture that were not read."""
+        del picture
+        return list(self.records[side].not_read)
+
+
+class Row(NamedTuple):
+    """A field that differs; a side is None if the field isn't there."""
+
+    name: str
+    plain: Tuple[Optional[str], Optional[str]]
+    exact: Tuple[Optional[str], Optional[str]]
+    differences: Tuple[Difference, ...] = ()
+    note: str = ""  # in place of the values
+
+    @property
+    def is_equal_number(self) -> bool:
+        """Whether the field differs only in the form of its number."""
+        return len(self.differences) == 1 and self.differences[0].is_equal_number and not self.note
+
+
+@dataclass
+class Comparison:
+    """Two pictures, what `changed` finds, and the rows of a table."""
+
+    records: Tuple[PictureRecord, PictureRecord]
+    found: Compared
+    is_identical: bool
+    rows: List[Row] = field(default_factory=list)
+
+    @property
+    def result(self) -> str:
+        """The result as `changed` has it. Two files with the same bytes are the same, whatever was read of them."""
+        return SAME if self.is_identical else self.found.result
+
+    @property
+    def is_empty(self) -> bool:
+        """Whether neither picture has metadata."""
+        return all(it.result == ABSENT for it in self.found.verdicts) and not any(it.problem or it.not_read for it in self.records)
+
+
+def read(name: bytes, how: How) -> PictureRecord:
+    """Reads a picture, as `index` does."""
+    path = os.path.abspath(name)
+    stamp = None
+    with contextlib.suppress(OSError):
+        stamp = Stamp.of(os.stat(path))
+    if stamp is None and not os.path.lexists(path):
+        return PictureRecord(path, b"", problem="NoFile", detail=PROBLEMS["NoFile"])
+    return look(FoundFile(path, os.path.dirname(path), stamp), how)
+
+
+def compare(one: PictureRecord, other: PictureRecord, each: bool, ask: bool, whole: bool) -> Comparison:
+    """Compares two pictures that were read. `each` has each value of a MakerNote that reads otherwise; `ask` asks ExifTool for them."""
+    files = TwoFiles((one, other))
+    found = compared(Pair(os.path.basename(one.path), _picture(one), _picture(other), None), files, each, ask)
+    result = Comparison((one, other), found, _is_identical(one.path, other.path))
+    if not result.is_identical and found.changes:
+        result.rows = _rows(found.changes, _differences(one, other), [_Whole(it.path, whole) for it in files.records])
+    return result
+
+
+def _is_identical(one: bytes, other: bytes) -> bool:
+    with contextlib.suppress(OSError):
+        return os.path.getsize(one) == os.path.getsize(other) and filecmp.cmp(one, other, shallow=False)
+    return False
+
+
+def _picture(it: PictureRecord) -> Picture:
+    """A picture as a catalogue would keep it."""
+    exif, iptc, packet, unread, _, *octets, repaired, notes = digests(it)
+    size, *more = it.stamp[:4] if it.stamp else (None,) * 4
+    known = (it.path, it.root, it.type, it.extractor, it.problem, it.detail, size, unread, (exif, iptc, packet), tuple(map(str, octets)))
+    return Picture(0, *known, (size, *more), repaired, notes or "", it.file)
+
+
+def _differences(one: PictureRecord, other: PictureRecord) -> Dict[str, Difference]:
+    """All fields that differ, by their names in the changes of `changed`."""
+    first, second = ({(it.kind, it.name): it for it in record.blocks} for record in (one, other))
+    found = {}
+    for key in dict.fromkeys([*first, *second]):
+        both = [side.get(key) for side in (first, second)]
+        if all(it is None or it.status == ACCEPTED or it.repair for it in both):
+            before, after = (unpacked(it.kept) if it and it.kept else [] for it in both)
+            for it in differences(before, after, "" if key[1] == NAMES[key[0]] else key[1]):
+                found[it.change_name] = it
+    return found
+
+
+# The rows of the table
+
+
+class _Whole:
+    """The whole values of a picture's fields, of which a listing has only the beginning. The file is read again for them, once."""
+
+    def __init__(self, path: bytes, whole: bool) -> None:
+        self.path, self.whole = path, whole
+        self._blocks: Optional[Dict[str, Tuple[str, bytes]]] = None
+        self._octets: Dict[str, Octets] = {}
+
+    def octets(self, block: str, it: Field) -> List[bytes]:
+        """The bytes of a field; none if it has others by now."""
+        if block not in self._octets:
+            self._octets[block] = _octets_of(*self._block(block))
+        return self._octets[block].get((it.where, it.key), [])
+
+    def xmp(self, block: str, key: str) -> Optional[str]:
+        """The whole text of a property."""
+        packet = self._block(block)[1]
+        try:
+            return "; ".join(texts(xmp.statements(packet, {}, set()))[key])
+        except (xmp.Unreadable, TooMuch, KeyError):
+            return None
+
+    def _block(self, name: str) -> Tuple[str, bytes]:
+        if self._blocks is None:
+            self._blocks = {}
+            with contextlib.suppress(programs.Failed, programs.Missing):
+                found = extraction.blocks_of(self.path, self.whole).found
+                self._blocks = {it.name: (it.kind, it.data) for it in found}
+        return self._blocks.get(name, ("", b""))
+
+
+def _octets_of(kind: str, data: bytes) -> Octets:
+    found: Octets = {}
+    if not data or kind == XMP:
+        return found
+    try:
+        fields = exifnorm.fields(data)
+    except exifnorm.NormalTooLong:
+        return found
+    except exifnorm.Refused:
+        made = repairs.repaired(data)
+        fields = exifnorm.fields(made.block) if made else []
+    for it in fields:
+        if isinstance(it.values, bytes):
+            is_record = it.directory == "record"
+            key = ("iptc", f"{it.tag >> 8}:{it.tag & 255}") if is_record else (it.directory, f"{it.tag:04x}")
+            found.setdefault(key, []).append(it.values)
+    return found
+
+
+def _rows(changes: Sequence[Change], known: Dict[str, Difference], whole: Sequence[_Whole]) -> List[Row]:
+    """A row for each change; those of equal numbers at the end."""
+    rows = []
+    for change in changes:
+        it = known.get(change.name)
+        if it is None or change.said:
+            name = it.name if it else change.name.replace("exif:MakerNote", group_name("exif", "927c"))
+            values = (change.before, change.after)
+            rows.append(Row(name, values, values, (it,) if it else (), change.said))
+        else:
+            rows.append(_row(it, whole))
+    rows.sort(key=lambda row: (row.is_equal_number, _place(row)))
+    return rows
+
+
+def _place(it: Row) -> int:
+    where = it.differences[0].where if it.differences else "exif"
+    return KINDS.index({"iptc": KINDS[1], "xmp": KINDS[2]}.get(where, KINDS[0]))
+
+
+def _row(it: Difference, whole: Sequence[_Whole]) -> Row:
+    exact = [_exact(side) for side in (it.before, it.after)]
+    values = [_plain(side, it.block, files) for side, files in zip((it.before, it.after), whole)]
+    if values[0] == values[1]:  # what people see is equal, and what is there isn't
+        values = exact
+    return Row(it.name, (values[0], values[1]), (exact[0], exact[1]), (it,))
+
+
+def _exact(fields: Sequence[Field]) -> Optional[str]:
+    return ", ".join(f"{it.type.lower()}[{it.elements}] {shortened(it.shown)}" for it in fields) if fields else None
+
+
+def _plain(fields: Sequence[Field], block: str, whole: _Whole) -> Optional[str]:
+    if not fields:
+        return None
+    first = fields[0]
+    name = block or NAMES[{"iptc": KINDS[1], "xmp": KINDS[2]}.get(first.where, KINDS[0])]
+    if first.where == "xmp":
+        text = whole.xmp(name, first.key) if "sha256:" in first.shown and first.type != "structure" else None
+        return text or plain(first)
+    if not any("sha256:" in it.shown for it in fields) or first.where == "thumb" or first.key == "927c":
+        return "; ".join(plain(it) for it in fields)
+    octets = whole.octets(name, first)
+    if len(octets) != len(fields):
+        return "; ".join(plain(it) for it in fields)
+    return "; ".join(plain(it, one) for it, one in zip(fields, octets))
+
+
+def with_position(rows: List[Row], one: PictureRecord, other: PictureRecord) -> List[Row]:
+    """The rows with the four fields of a position as one, in degrees, if both positions are known."""
+    ours = [
+        it
+        for it in rows
+        if it.differences and it.differences[0].where == "gps" and it.differences[0].key in POSITION and not it.differences[0].block
+    ]
+    places = [_position(it) for it in (one, other)]
+    if not ours or places[0] == places[1] or any(place is None and has for place, has in zip(places, map(_has_position, (one, other)))):
+        return rows
+    exact = [None if place is None else "; ".join(f"{it.name} {it.exact[side]}" for it in ours) for side, place in enumerate(places)]
+    every = tuple(one for it in ours for one in it.differences)
+    row = Row("Composite:GPSPosition", (places[0], places[1]), (exact[0], exact[1]), every)
+    at = rows.index(ours[0])
+    return [*(it for it in rows[:at] if it not in ours), row, *(it for it in rows[at:] if it not in ours)]
+
+
+def _gps(it: PictureRecord) -> Dict[str, Field]:
+    blocks = [one for one in it.blocks if one.name == NAMES[KINDS[0]] and one.kept]
+    return {one.key: one for block in blocks for one in unpacked(block.kept or b"[]") if one.where == "gps"}
+
+
+def _has_position(it: PictureRecord) -> bool:
+    return any(key in POSITION for key in _gps(it))
+
+
+def _position(it: PictureRecord) -> Optional[str]:
+    return position(_gps(it))

@@ -1,0 +1,152 @@
+"""Values of fields in plain words: `turn 90° clockwise to view`, `1/125 s`, `2003-05-24 22:21:01`.
+
+A value is taken as a listing shows it, so a catalogue is enough. One without plain words stays as it is shown.
+"""
+
+from __future__ import annotations
+
+from typing import Dict, Optional
+
+from . import plain_numbers as numbers
+from .listing import Field, shortened
+from .plain_numbers import Rule, decimal, degrees, fractions, with_unit
+from .plain_texts import EMPTY, comment, guessed, octets_of, plain_xmp, shown_comment, text_of
+
+# Words for numbers: TIFF 6.0 and CIPA DC-008 (Exif 2.32), 4.6
+_WORDS: Dict[str, Dict[str, str]] = {}
+
+
+def _words(keys: str, text: str) -> None:
+    rows = dict(row.strip().split(" ", 1) for row in text.split(";"))
+    _WORDS.update({key: rows for key in keys.split()})
+
+
+_words("0112", "1 upright; 2 mirrored left to right; 3 turn 180° to view; 4 mirrored top to bottom;"
+       "5 mirrored left to right, then turn 90° counter-clockwise to view; 6 turn 90° clockwise to view;"
+       "7 mirrored left to right, then turn 90° clockwise to view; 8 turn 90° counter-clockwise to view")  # fmt: skip
+_words("0128 a210", "1 no unit; 2 inches; 3 centimetres")
+_words("8822", "0 not defined; 1 manual; 2 normal program; 3 aperture priority; 4 shutter priority; 5 creative program (depth of field);"
+       "6 action program (short exposure); 7 portrait; 8 landscape")  # fmt: skip
+_words("9207", "0 unknown; 1 average; 2 centre-weighted average; 3 spot; 4 multi-spot; 5 multi-segment; 6 partial; 255 other")
+_words("9208", "0 unknown; 1 daylight; 2 fluorescent; 3 tungsten; 4 flash; 9 fine weather; 10 cloudy; 11 shade; 12 daylight fluorescent;"
+       "13 day white fluorescent; 14 cool white fluorescent; 15 white fluorescent; 16 warm white fluorescent; 17 standard light A;"
+       "18 standard light B; 19 standard light C; 20 D55; 21 D65; 22 D75; 23 D50; 24 ISO studio tungsten; 255 other")  # fmt: skip
+_words("a001", "1 sRGB; 2 Adobe RGB; 65535 uncalibrated")
+_words("a402", "0 automatic; 1 manual; 2 bracket")
+_words("a403", "0 automatic; 1 manual")
+_words("a406", "0 standard; 1 landscape; 2 portrait; 3 night")
+_words("a408 a409", "0 normal; 1 low; 2 high")
+_words("a40a", "0 normal; 1 soft; 2 hard")
+_words("a407", "0 none; 1 low gain up; 2 high gain up; 3 low gain down; 4 high gain down")
+_words("a401", "0 normal; 1 custom")
+_words("a40c", "0 unknown; 1 macro; 2 close; 3 distant")
+_words("0103", "1 uncompressed; 2 CCITT 1D; 3 CCITT group 3; 4 CCITT group 4; 5 LZW; 6 JPEG (old form); 7 JPEG; 8 Deflate; 32773 PackBits")
+_words("0106", "0 white is zero; 1 black is zero; 2 RGB; 3 palette; 4 mask; 5 CMYK; 6 YCbCr; 8 CIELab")
+_words("0213", "1 centred; 2 co-sited")
+
+
+def _flash(shown: str) -> Optional[str]:
+    """Flash, bit by bit (CIPA DC-008, 4.6.5)."""
+    if not shown.isdigit():
+        return None
+    bits = int(shown)
+    if bits & 0x20:
+        return "no flash in the camera"
+    words = ["fired" if bits & 1 else "did not fire"]
+    words += {2: ["light returned isn't seen"], 3: ["light returned is seen"]}.get(bits >> 1 & 3, [])
+    words += {1: ["always on"], 2: ["always off"], 3: ["automatic"]}.get(bits >> 3 & 3, [])
+    return ", ".join(words + ["red-eye reduction"] * bool(bits & 0x40))
+
+
+def _table(words: Dict[str, str]) -> Rule:
+    return words.get
+
+
+_EXIF: Dict[str, Rule] = {
+    **{key: _table(words) for key, words in _WORDS.items()},
+    **dict.fromkeys(("0132", "9003", "9004"), numbers.date),
+    **dict.fromkeys(("9202", "9205"), numbers.aperture_value),
+    "829a": numbers.exposure_time, "829d": numbers.aperture_number, "9201": numbers.shutter_speed, "9204": numbers.exposure_value,
+    "920a": with_unit(" mm", 1), "a405": with_unit(" mm"), "9206": with_unit(" m", 2), "9203": with_unit(" EV", 2),
+    "9209": _flash, "a432": numbers.lens, "9286": shown_comment, "9000": numbers.version, "a000": numbers.version,
+}  # fmt: skip
+_GPS: Dict[str, Rule] = {
+    **dict.fromkeys(("0002", "0004", "0014", "0016"), numbers.angle),
+    **dict.fromkeys(("000f", "0011", "0018"), with_unit("°", 2)),
+    **dict.fromkeys(("001b", "001c"), shown_comment),
+    **dict.fromkeys(("0001", "0013"), _table({'"N"': "north", '"S"': "south"})),
+    **dict.fromkeys(("0003", "0015"), _table({'"E"': "east", '"W"': "west"})),
+    **dict.fromkeys(("000c", "0019"), _table({'"K"': "kilometres", '"M"': "miles", '"N"': "nautical miles"})),
+    "0000": numbers.dotted, "0005": _table({"0x00": "above sea level", "0x01": "below sea level"}), "0006": with_unit(" m", 1),
+    "0007": numbers.clock, "000d": with_unit("", 2), "001d": numbers.date, "001f": with_unit(" m", 1),
+}  # fmt: skip
+_IIM: Dict[str, Rule] = {
+    **dict.fromkeys(("1:70", "2:30", "2:37", "2:47", "2:55", "2:62"), numbers.iptc_date),
+    **dict.fromkeys(("1:80", "2:35", "2:38", "2:60", "2:63"), numbers.iptc_time),
+    **dict.fromkeys(("1:0", "1:20", "1:22", "2:0"), numbers.iptc_number),
+    "1:90": _table({'"\\x1b%G"': "UTF-8", "0x1b2547": "UTF-8"}),
+}
+_RULES = {"main": _EXIF, "exif": _EXIF, "thumb": _EXIF, "gps": _GPS, "iptc": _IIM}
+_COMMENTS = {("exif", "9286"), ("main", "9286"), ("gps", "001b"), ("gps", "001c")}
+
+
+def plain(it: Field, octets: Optional[bytes] = None) -> str:
+    """The value of a field as a person writes it. `octets`, its bytes if they are known, are for texts that a listing shortens.
+
+    >>> plain(Field("exif", "829a", "RATIONAL", 1, "10/1250")), plain(Field("main", "0112", "SHORT", 1, "6"))
+    ('1/125 s', 'turn 90° clockwise to view')
+    """
+    if it.where == "xmp":
+        return plain_xmp(it.shown) or EMPTY
+    if (it.where, it.key) in _COMMENTS and octets is not None and (text := comment(octets)) is not None:
+        return text or EMPTY
+    rule = _RULES.get(it.where, {}).get(it.key)
+    found = rule(it.shown) if rule else None
+    if found is not None:
+        return found
+    text = text_of(it.shown)
+    if text is not None:
+        return text.rstrip("\0 ") or EMPTY
+    return _of_octets(it, octets) or _of_numbers(it)
+
+
+def _of_octets(it: Field, octets: Optional[bytes]) -> Optional[str]:
+    """A text that isn't UTF-8 or too long to be shown, or the number of some bytes; None for a value that isn't bytes."""
+    is_text = it.type in ("ASCII", "UTF8") or it.where == "iptc"
+    if not is_text and it.type not in ("BYTE", "SBYTE", "UNDEFINED", "octets"):
+        return None
+    known = octets if octets is not None else octets_of(it.shown)
+    if is_text and known is not None:
+        return guessed(known) or EMPTY
+    if "sha256:" not in it.shown:
+        return None
+    return f"{it.elements:,} bytes (SHA-256 {it.shown.rpartition('sha256:')[2][:8]}..)"
+
+
+def _of_numbers(it: Field) -> str:
+    found = fractions(it.shown)
+    if found and "/" in it.shown:
+        return ", ".join(numbers.UNKNOWN if one is None else decimal(one) for one in found)
+    return shortened(it.shown)
+
+
+_HALVES = (("0001", "0002"), ("0003", "0004"))
+POSITION = tuple(key for half in _HALVES for key in half)  # the tags of the four fields
+
+
+def position(fields: Dict[str, Field]) -> Optional[str]:
+    """The position of the GPS directory in degrees, of its fields by tag; None if a part is missing.
+
+    >>> some = {"0001": '"N"', "0002": "46/1 30/1 0/1", "0003": '"E"', "0004": "7/1 1213/100 0/1"}
+    >>> position({key: Field("gps", key, "", 1, value) for key, value in some.items()})
+    '46.500000° N, 7.202167° E'
+    """
+    words = []
+    for letter, angle in _HALVES:
+        if letter not in fields or angle not in fields:
+            return None
+        found, name = degrees(fields[angle].shown), text_of(fields[letter].shown)
+        if found is None or name not in ("N", "S", "E", "W"):
+            return None
+        words.append(f"{float(found):.6f}° {name}")
+    return ", ".join(words)

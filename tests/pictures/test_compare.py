@@ -1,0 +1,216 @@
+"""`compare`: two pictures side by side, with the verdict that `changed` has for folders of them."""
+
+import json
+import os
+import struct
+
+import pytest
+from made_blocks import ASCII, BLOCKS, LONG, MAKE, SHORT, UNDEFINED, block, entry, table, with_exif
+from made_files import app1, app1_xmp, app13, chunk, exif, iim, jpeg, png, resource, xmp
+from studio import SMALL_JPEG, TOP, needs, tool
+from test_never_the_same import damages, parts, reached, segments, texts
+
+RATIONAL = 5
+
+
+@pytest.fixture
+def run(folder, capsys, monkeypatch):
+    """Runs a command in a folder with two pictures: its status and what it prints."""
+    from exifnorm_pictures.cli import main
+
+    monkeypatch.chdir(folder)
+
+    def call(*words, before=None, after=None):
+        for side, octets in (("a.jpg", before), ("b.jpg", after)):
+            if octets is not None:
+                (folder / side).write_bytes(octets)
+        status = main._run(list(words))
+        printed = capsys.readouterr()
+        return status, printed.out, printed.err
+
+    return call
+
+
+def compared(run, before, after, *words):
+    status, out, _ = run("compare", "a.jpg", "b.jpg", "--json", "--no-exiftool", *words, before=before, after=after)
+    return status, json.loads(out)
+
+
+# The same verdict as `changed`
+
+PAIRS = [pair for make in (parts, reached, segments, texts, damages) for pair in make()]
+REFUSED = [with_exif(SMALL_JPEG, BLOCKS[cause]) for cause in ("Unsorted", "Doubled", "Overlap", "UnknownType")]
+PLAIN = jpeg(app1(exif(b"abc")))
+
+
+def verdict_of_changed(folder, run, before, after):
+    for side, octets in (("before", before), ("after", after)):
+        (folder / side).mkdir(exist_ok=True)
+        (folder / side / "picture").write_bytes(octets)
+    status, out, _ = run("changed", "before", "after", "--all", "--json", "--no-exiftool")
+    found = json.loads(out.splitlines()[0])
+    return status, found["result"], {it["name"] for it in found["fields"]}
+
+
+@pytest.mark.parametrize("pair", PAIRS, ids=lambda it: it.name)
+def test_the_verdict_is_that_of_changed(pair, folder, run):
+    status, result, fields = verdict_of_changed(folder, run, pair.before, pair.after)
+    found_status, found = compared(run, pair.before, pair.after)
+    assert (found_status, found["result"], len(found["fields"])) == (status, result, len(fields))
+    assert status == pair.status
+
+
+@pytest.mark.parametrize("one, other", [(one, other) for one in REFUSED for other in (*REFUSED, PLAIN, jpeg()) if one != other])
+def test_refused_blocks_are_compared_by_the_repairs_of_changed(one, other, folder, run):
+    status, result, fields = verdict_of_changed(folder, run, one, other)
+    found_status, found = compared(run, one, other)
+    assert (found_status, found["result"], len(found["fields"])) == (status, result, len(fields))
+
+
+# What is shown
+
+
+def picture(artist, orientation=1, time=(1, 125)):
+    """A JPEG with an artist, an orientation and an exposure time."""
+    artist += b"\0"
+    head = [entry(0x0112, SHORT, 1, orientation << 16), entry(0x013B, ASCII, len(artist), 0), entry(0x8769, LONG, 1, 0)]
+    at = 8 + 2 + 12 * 3 + 4
+    directory = at + len(artist) + len(artist) % 2
+    head[1], head[2] = entry(0x013B, ASCII, len(artist), at), entry(0x8769, LONG, 1, directory)
+    inside = table([entry(0x829A, RATIONAL, 1, directory + 2 + 12 + 4)]) + struct.pack(">II", *time)
+    return jpeg(app1(block(head) + artist + bytes(len(artist) % 2) + inside))
+
+
+def rows(found):
+    return {it["name"]: (it["before"], it["after"]) for it in found["fields"]}
+
+
+def test_values_are_in_plain_words(run):
+    status, found = compared(run, picture(b"Anna", 1), picture(b"Otto Meier", 6, (1, 60)))
+    assert status == 1
+    assert rows(found) == {
+        "IFD0:Orientation": ("upright", "turn 90° clockwise to view"),
+        "IFD0:Artist": ("Anna", "Otto Meier"),
+        "ExifIFD:ExposureTime": ("1/125 s", "1/60 s"),
+    }
+
+
+def test_lines_have_the_verdict_first_and_both_values(run):
+    status, out, _ = run("compare", "a.jpg", "b.jpg", before=picture(b"Anna"), after=picture(b"Otto Meier"))
+    lines = out.splitlines()
+    assert status == 1 and lines[0] == "Different metadata: 1 field differs."
+    assert [it.split() for it in lines[3:]] == [["a.jpg", "b.jpg"], ["IFD0:Artist", "Anna", "Otto", "Meier"]]
+
+
+def test_exact_values_have_tag_and_type(run):
+    _, out, _ = run("compare", "a.jpg", "b.jpg", "--exact", before=picture(b"Anna"), after=picture(b"Anna", 8))
+    assert out.splitlines()[-1].split() == ["IFD0:Orientation", "0x0112", "short[1]", "1", "short[1]", "8"]
+
+
+def test_equal_numbers_are_told_apart_and_still_differ(run):
+    status, found = compared(run, picture(b"Anna", time=(10, 1250)), picture(b"Anna", time=(1, 125)))
+    assert status == 1 and [it["equal_number"] for it in found["fields"]] == [True]
+    assert found["fields"][0]["exact"] == {"before": "rational[1] 10/1250", "after": "rational[1] 1/125"}
+    _, out, _ = run("compare", "a.jpg", "b.jpg")
+    assert "10/1250" in out and "1 equal number is only written otherwise" in out
+
+
+def test_a_long_text_is_shown_whole(run):
+    text = b"A vase of clay. " * 60
+    record = app13(resource(0x0404, b"\x1c\x02\x78" + struct.pack(">H", len(text)) + text))
+    packet = app1_xmp(xmp(f"<dc:source>{text.decode()}end</dc:source>"))
+    _, found = compared(run, jpeg(), jpeg(record, packet))
+    assert rows(found)["IPTC:Caption-Abstract"] == (None, text.decode().rstrip())
+    assert rows(found)["XMP-dc:source"] == (None, text.decode() + "end")
+
+
+def test_a_comment_in_unicode_is_shown_whole(run):
+    text = "Köln am Rhein, Blick von Süden"
+    octets = b"UNICODE\0" + text.encode("utf-16-be")
+    inside = table([entry(0x9286, UNDEFINED, len(octets), 8 + 2 + 24 + 4 + 2 + 12 + 4)]) + octets
+    _, found = compared(run, jpeg(), jpeg(app1(block([MAKE, entry(0x8769, LONG, 1, 38)]) + inside)))
+    assert rows(found)["ExifIFD:UserComment"] == (None, text)
+
+
+def test_a_text_can_not_control_the_terminal(run):
+    _, out, _ = run("compare", "a.jpg", "b.jpg", before=jpeg(app13(resource(0x0404, iim(b"\x1b[31m")))), after=jpeg())
+    assert "\x1b" not in out
+
+
+# Verdicts of their own
+
+
+def test_identical_files(run):
+    status, out, _ = run("compare", "a.jpg", "b.jpg", before=REFUSED[2], after=REFUSED[2])
+    assert (status, out) == (0, "The two files are identical, byte for byte.\n")
+
+
+def test_two_pictures_without_metadata(run):
+    status, out, _ = run("compare", "a.jpg", "b.jpg", before=jpeg(), after=png())
+    assert (status, out) == (0, "Nothing to compare: neither picture has Exif, IPTC or XMP.\n")
+
+
+def test_the_same_metadata_in_other_formats(run):
+    status, out, _ = run("compare", "a.jpg", "b.jpg", before=PLAIN, after=png(chunk(b"eXIf", exif(b"abc"))))
+    assert status == 0 and out.startswith("The same metadata.\n")
+
+
+@pytest.mark.parametrize("missing", ["nosuch.jpg", "link.jpg", "."])
+def test_a_file_that_is_not_there_or_no_file(missing, run, folder):
+    (folder / "link.jpg").symlink_to("nothing")
+    status, out, err = run("compare", "a.jpg", missing, before=PLAIN)
+    assert (status, missing in out + err) == (3 if missing == "." else 2, True)
+
+
+def test_names_that_are_no_utf8(run, folder):
+    names = [str(folder).encode() + b"/\xe9" + it for it in (b"1.jpg", b"2.jpg")]
+    for name, octets in zip(names, (PLAIN, jpeg(app1(exif(b"xyz"))))):
+        with open(name, "wb") as file:
+            file.write(octets)
+    status, out, _ = run("compare", *map(os.fsdecode, names), "--json")
+    assert status == 1 and [it["path_hex"] for it in json.loads(out)["pictures"]] == [it.hex() for it in names]
+    status, out, _ = run("compare", *map(os.fsdecode, names))
+    assert r"\xe91.jpg" in out
+
+
+# Which command for what
+
+
+def test_changed_on_two_pictures_names_compare(run):
+    status, _, err = run("changed", "a.jpg", "b.jpg", before=PLAIN, after=PLAIN)
+    assert status == 3 and "compare A B" in err
+
+
+def test_compare_on_folders_and_catalogues_names_changed(run, folder):
+    (folder / "some").mkdir()
+    assert run("index", "some", "--catalogue", "c", "--quiet")[0] == 0
+    for words in (("some", "some"), ("c", "c"), ("a.jpg", "c")):
+        status, _, err = run("compare", *words, before=PLAIN)
+        assert status == 3 and "changed" in err, words
+
+
+# Others
+
+
+@needs("exiftool")
+def test_an_edit_by_exiftool(run, folder):
+    (folder / "a.jpg").write_bytes(PLAIN)
+    tool(folder, "exiftool", "-q", "-o", "b.jpg", "-Artist=Otto", "-GPSLatitude=47.5596", "-GPSLatitudeRef=N", "-GPSLongitude=7.5886",
+         "-GPSLongitudeRef=E", "-XMP-dc:Title=Krug", "-DateTimeOriginal=2003:05:24 23:21:01", "a.jpg")  # fmt: skip
+    status, out, _ = run("compare", "a.jpg", "b.jpg", "--json")
+    found = rows(json.loads(out))
+    assert status == 1
+    assert found["IFD0:Artist"] == (None, "Otto")
+    assert found["Composite:GPSPosition"] == (None, "47.559600° N, 7.588600° E")
+    assert found["XMP-dc:title"] == (None, "Krug")
+    assert found["ExifIFD:DateTimeOriginal"] == (None, "2003-05-24 23:21:01")
+
+
+def test_the_samples(run):
+    """The pictures of the repository, whose edits its script names."""
+    before, after = (f"{TOP}/samples/{side}/ceramics/2003-12-bowl.jpg" for side in ("before", "after"))
+    status, out, _ = run("compare", before, after, "--json", "--no-exiftool")
+    assert status == 1 and rows(json.loads(out)) == {
+        "IFD0:Copyright": (None, "Riverside Museum"),
+        "IPTC:Caption-Abstract": ("Bowl, celadon glaze, 1820", "Bowl, celadon glaze, 1280"),
+    }
