@@ -21,7 +21,7 @@ from studio import SMALL_JPEG, TOP, WithPictures, needs, read, tool, write
 
 from exifnorm_pictures.cli import main, mend as mend_cli, report as report_cli, same
 from exifnorm_pictures.extract import exiftool, extraction, judge, programs
-from exifnorm_pictures.fields import caption_texts, listing, names
+from exifnorm_pictures.fields import labels, listing, names
 from exifnorm_pictures.refusals import explain, mend
 from exifnorm_pictures.report import contents, page as report
 from exifnorm_pictures.scan import index, walk
@@ -93,9 +93,7 @@ class Names(unittest.TestCase):
     def test_texts_whose_encoding_is_not_declared(self):
         """Windows-1252 has signs where Latin-1 has control characters, and five bytes without one (RFC 1345 and Unicode's table CP1252)."""
         for octets, text in ((b"\x80\x93a\x94\x9f", "€“a”Ÿ"), (b"\xe9\x81\x8d\x8f\x90\x9d", "é\\x81\\x8d\\x8f\\x90\\x9d"), (b"\xff\0", "ÿ")):
-            self.assertEqual(caption_texts.read_text(octets, None), (text, "not UTF-8; guessed: Windows-1252"))
-        self.assertEqual(caption_texts.read_text(b"a\0\0", None), ("a\0", ""))
-        self.assertEqual(caption_texts.read_text(b"\xff", "declared"), ("declared", ""))
+            self.assertEqual(labels.decoded(octets), (text, "character set guessed: Windows-1252"))
 
     def test_files_in_the_order_of_their_names(self):
         """First those of a folder, then those of each folder in it; a catalogue is none, also where it is named by itself."""

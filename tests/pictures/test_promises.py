@@ -315,7 +315,7 @@ class Pictures(Promises):
         fields = [field["name"] for it in self.objects("show", "@/p/a.jpg") for field in it["fields"]]
         self.assertEqual(fields, ["main:Artist", "iptc:Keywords", "iptc:By-line", "iptc:CopyrightNotice", "iptc:CaptionAbstract"])
         labels = [one["label"] for it in self.objects("captions", "@/p/a.jpg") for one in it["captions"]]
-        self.assertEqual(sorted(labels), ["artist", "byline", "caption", "copyright", "keyword"])
+        self.assertEqual(sorted(labels), ["caption", "copyright", "creator", "creator", "keywords"])
 
     def test_long_values(self):
         write(self.path("long"), bytes.fromhex("4d4d002a00000008 0001 9999 0007 000000c8 0000001a 00000000") + bytes(200))
@@ -368,7 +368,8 @@ class Pictures(Promises):
 
     def test_blocks_and_whole_files(self):
         write(self.path("block"), b"\x1c\x02\x78\0\x04Vase")
-        self.assertEqual([self.printed(it, "--block", "@/block")[-1].split()[-1] for it in ("show", "captions", "explain")], ['"Vase"', "Vase", "ok"])
+        for command, word in (("show", '"Vase"'), ("captions", "Vase"), ("explain", "ok")):
+            self.assertIn(word, self.printed(command, "--block", "@/block")[-1].split())
         self.files("p", a=with_tail(app1(A), b""))
         self.index("@/p")
         self.assertEqual([len(self.printed("show", "@/p/a.jpg", *it)) for it in ([], ["--whole"])], [1, 2])

@@ -102,7 +102,14 @@ def _sentence(found: Comparison, rows: Sequence[Row]) -> str:
 
 
 def _heads(names: Sequence[bytes]) -> List[str]:
-    short = [os.path.basename(it) for it in names]
+    """The names of the two files, and if these are equal, the part of their paths that differs."""
+    parts = [it.split(b"/") for it in names]
+    short = [it[-1] for it in parts]
+    if short[0] == short[1]:
+        for end in (0, -1):
+            while all(len(it) > 1 for it in parts) and parts[0][end] == parts[1][end]:
+                parts = [it[1:] if end == 0 else it[:-1] for it in parts]
+        short = [b"/".join(it) for it in parts]
     return [shown_path(it) for it in (short if short[0] != short[1] else names)]
 
 

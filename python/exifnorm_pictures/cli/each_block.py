@@ -24,7 +24,7 @@ Described = Tuple[List[str], Members]
 Describe = Callable[[FoundBlock, Block], Described]
 
 
-def _blocks(arguments: argparse.Namespace, name: bytes) -> Blocks:
+def blocks_of(arguments: argparse.Namespace, name: bytes) -> Blocks:
     """The blocks of a picture, or the file as a block by itself."""
     if not arguments.block:
         try:
@@ -63,7 +63,7 @@ def each_block(arguments: argparse.Namespace, describe: Describe, refused_too: b
 
 
 def _one(arguments: argparse.Namespace, name: bytes, head: List[str], describe: Describe, refused_too: bool) -> int:
-    blocks = _blocks(arguments, name)
+    blocks = blocks_of(arguments, name)
     judged: List[Block] = []
     try:
         judged = [] if blocks.problem else judge_all(blocks, with_fields=True)

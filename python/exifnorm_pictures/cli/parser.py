@@ -14,8 +14,9 @@ SECONDS = 60.0  # that a program may take for one file
 
 _STATUSES = """Statuses:
   0    done, or the same (index: also if pictures are refused, which the catalogue records)
-  1    different (changed, compare: something differs, also after repair, was moved or is missing; mend: the copy differs in a printed value)
-  2    it can't be decided wholly (changed, compare, show, captions, explain: a block is refused or unreadable, or a picture or a part
+  1    different (changed, compare: something differs, also after repair, was moved or is missing; conflicts: a picture
+       contradicts itself; mend: the copy differs in a printed value)
+  2    it can't be decided wholly (changed, compare, show, captions, conflicts, explain: a block is refused or unreadable, or a picture or a part
        wasn't read; changed, compare: the same only after a repair, or but for a MakerNote; index: a picture that should be readable isn't,
        or a program failed at it; mend: no remedy worked, or the picture wasn't read)
   3    bad arguments, or names that lead to nothing
@@ -182,6 +183,23 @@ def _pictures_arguments(it: argparse.ArgumentParser) -> None:
     _looking_arguments(it)
 
 
+def _captions_arguments(it: argparse.ArgumentParser) -> None:
+    _example(it, "captions --csv pictures > captions.csv")
+    it.add_argument("pictures", nargs="*", type=_name, metavar="PICTURE", help="a picture, or a folder with all below it")
+    it.add_argument("--block", action="store_true", help="each PICTURE is a block that was extracted before")
+    it.add_argument("--csv", action="store_true", help="a table for spreadsheets: a row for each picture, a column for each label")
+    _looking_arguments(it)
+
+
+def _conflicts_arguments(it: argparse.ArgumentParser) -> None:
+    _example(it, "conflicts pictures")
+    it.set_defaults(block=False)
+    it.add_argument("pictures", nargs="*", type=_name, metavar="PICTURE", help="a picture, or a folder with all below it")
+    it.add_argument("--all", action="store_true", help="also list texts that are empty, cut, in a wrong character set, or a camera's own")
+    it.add_argument("--csv", action="store_true", help="a table for spreadsheets: a row for each label that differs in a picture")
+    _looking_arguments(it)
+
+
 def _report_arguments(it: argparse.ArgumentParser) -> None:
     it.add_argument("--catalogue", required=True, type=_name, metavar="FILE")
     it.add_argument("--since", type=_name, metavar="OLD", help="an older catalogue: also list the changes")
@@ -205,7 +223,8 @@ _COMMANDS: Tuple[Tuple[str, str, Callable[[argparse.ArgumentParser], None]], ...
     ("changed", "list the differences between two catalogues or folders, with the fields", _changed_arguments),
     ("compare", "compare two pictures: what differs, side by side, in plain words", _compare_arguments),
     ("show", "print the fields of pictures", _pictures_arguments),
-    ("captions", "print captions, names, keywords and rights of pictures", _pictures_arguments),
+    ("captions", "print captions, names, keywords and rights of pictures, each with its fields", _captions_arguments),
+    ("conflicts", "list pictures whose Exif, IPTC and XMP contradict each other", _conflicts_arguments),
     ("explain", "explain why a block is refused, and name remedies", _pictures_arguments),
     ("report", "write one page about a catalogue", _report_arguments),
     ("mend", "write a copy of a picture whose block is accepted", _mend_arguments),

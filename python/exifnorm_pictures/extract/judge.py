@@ -140,8 +140,3 @@ def _unreadable(at: FoundBlock, octets: str, cause: str) -> Block:
 def listing(block: bytes) -> str:
     """The listing of an accepted block, as `exifnorm show` prints it."""
     return exifnorm.show(block)
-
-
-def captions(block: bytes) -> List[exifnorm.Caption]:
-    """The captions of an accepted block, each with its label, its bytes and, if its encoding is declared, its text."""
-    return exifnorm.captions(block)

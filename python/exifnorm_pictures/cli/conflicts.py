@@ -1,0 +1,120 @@
+"""The command `conflicts`: pictures whose Exif, IPTC and XMP contradict each other."""
+
+from __future__ import annotations
+
+import argparse
+import csv
+import json
+import sys
+from collections import Counter
+from dataclasses import dataclass, field
+from typing import Dict, Iterator, List, Sequence
+
+from ..compare.conflicts import ALIKE, CAMERA, CHARACTERS, CUT, EMPTY, JOINED, ORDER, Conflict, conflicts
+from ..fields.labels import STANDARDS
+from .captions import text_members
+from .exit_codes import DIFFERENT, SUCCESS, UNKNOWN
+from .labelled import Labelled, cell, origins, pictures, together
+from .output import Members, escaped, print_line, shown_path
+
+LONGEST = 160  # characters of a text that is shown whole
+_WORDS = {
+    ORDER: "a list in another order", EMPTY: "an empty field", CAMERA: "a camera's own text", JOINED: "a list in one text",
+    CUT: "a text that IPTC has cut", CHARACTERS: "a wrong or undeclared character set",
+}  # fmt: skip
+
+
+@dataclass
+class _Counts:
+    """What was found in all pictures."""
+
+    pictures: int = 0
+    twice: int = 0  # with a label in two standards
+    real: int = 0
+    minor: int = 0  # that differ only in their form
+    unread: int = 0
+    labels: "Counter[str]" = field(default_factory=Counter)
+    kinds: "Counter[str]" = field(default_factory=Counter)
+
+
+def run(arguments: argparse.Namespace) -> int:
+    """Lists contradictions inside pictures."""
+    counts = _Counts()
+    table = csv.writer(sys.stdout, lineterminator="\n")
+    if arguments.csv:
+        table.writerow(["picture", "label", "kind", "detail", *STANDARDS])
+    for it in pictures(arguments):
+        found = [one for one in conflicts(it.texts) if one.kind != ALIKE]
+        _count(counts, it, found)
+        if arguments.csv:
+            table.writerows(_row(it.name, one) for one in found if one.is_real or arguments.all)
+        elif arguments.json:
+            if found or it.status != SUCCESS:
+                print(json.dumps(_members(it, found)))
+        else:
+            _print(it, [one for one in found if one.is_real or arguments.all])
+    if not arguments.csv and not arguments.json:
+        for line in _summary(counts, arguments.all):
+            print(line)
+    return UNKNOWN if counts.unread else DIFFERENT if counts.real else SUCCESS
+
+
+def _count(counts: _Counts, it: Labelled, found: Sequence[Conflict]) -> None:
+    counts.pictures += 1
+    counts.unread += it.status != SUCCESS
+    counts.twice += bool(conflicts(it.texts))
+    real = [one.label for one in found if one.is_real]
+    counts.real += bool(real)
+    counts.minor += bool(found) and not real
+    counts.labels.update(real)
+    counts.kinds.update({one.kind for one in found if not one.is_real})
+
+
+def _row(name: bytes, it: Conflict) -> List[str]:
+    texts: Dict[str, List[str]] = {}
+    for one in it.texts:
+        texts.setdefault(one.standard, []).append(one.line)
+    return [shown_path(name), it.label, it.kind, cell(it.detail), *(cell("; ".join(texts.get(standard, []))) for standard in STANDARDS)]
+
+
+def _members(it: Labelled, found: Sequence[Conflict]) -> Members:
+    rows = [
+        {"label": one.label, "kind": one.kind, "detail": one.detail, "texts": [text_members(text) for text in one.texts]} for one in found
+    ]
+    return {**it.members(), "conflicts": rows}
+
+
+# Lines
+
+
+def _print(it: Labelled, found: Sequence[Conflict]) -> None:
+    if found:
+        print(shown_path(it.name))
+    for one in found:
+        print_line(f"  {one.label}" + (f": {one.detail}" if one.detail else ""))
+        names = [(origins(ours), escaped(ours[0].line)) for ours in together(one.texts)]
+        width = max(len(name) for name, _ in names)
+        for name, text in names:
+            print_line(f"    {name:<{width}}  {text if len(text) <= LONGEST else f'{text[: LONGEST - 10]}.. ({len(text):,} characters)'}")
+    if it.problem:
+        print_line(f"{shown_path(it.name)}: {it.problem}: {it.detail}")
+
+
+def _summary(counts: _Counts, every: bool) -> Iterator[str]:
+    yield f"{_pictures(counts.pictures)} read, {counts.twice:,} of them with a label in more than one of Exif, IPTC and XMP"
+    if counts.real:
+        yield f"{_pictures(counts.real)} with a contradiction ({_listed(counts.labels)})"
+    if counts.minor:
+        kinds = Counter({_WORDS[kind]: number for kind, number in counts.kinds.items()})
+        yield f"{_pictures(counts.minor)} with differences of form alone" + ("" if every else ", which --all lists")
+        yield f"differences of form: {_listed(kinds)}"
+    if counts.unread:
+        yield f"{_pictures(counts.unread)} not wholly looked at: a block is refused or unreadable, or the file isn't read (explain)"
+
+
+def _listed(counts: "Counter[str]") -> str:
+    return ", ".join(f"{word} {number:,}" for word, number in counts.most_common())
+
+
+def _pictures(number: int) -> str:
+    return f"{number:,} picture{'' if number == 1 else 's'}"

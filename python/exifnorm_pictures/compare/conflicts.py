@@ -1,0 +1,208 @@
+"""Contradictions inside one picture: labels for which its Exif, IPTC and XMP have different texts, and how these differ."""
+
+from __future__ import annotations
+
+import re
+import unicodedata
+from datetime import datetime
+from typing import Iterator, List, NamedTuple, Optional, Sequence, Tuple
+
+from ..fields.labels import DATE, EXIF, IPTC, LABELS, STANDARDS, XMP, Label, LabelText
+
+ALIKE, ORDER, EMPTY, CAMERA, JOINED, CUT, CHARACTERS, DIFFERENT = (
+    "alike", "another order", "empty", "camera's text", "joined", "cut", "character set", "different",
+)  # fmt: skip
+KINDS = (ALIKE, ORDER, EMPTY, CAMERA, JOINED, CUT, CHARACTERS, DIFFERENT)  # the least first
+# Character sets that are tried on bytes outside ASCII. One is taken only if it gives exactly the text of another standard.
+_CHARACTER_SETS = {
+    "utf-8": "UTF-8", "cp1252": "Windows-1252", "mac_roman": "Mac Roman", "cp437": "DOS 437", "cp850": "DOS 850", "cp1250": "Windows-1250",
+    "iso8859_2": "Latin-2", "mac_latin2": "Mac Central European", "cp1251": "Windows-1251", "koi8_r": "KOI8-R", "cp1253": "Windows-1253",
+    "cp1254": "Windows-1254", "cp1257": "Windows-1257", "iso8859_15": "Latin-9", "shift_jis": "Shift JIS", "euc_jp": "EUC-JP",
+    "gb18030": "GB 18030", "big5": "Big5", "euc_kr": "EUC-KR",
+}  # fmt: skip
+# What cameras write into ImageDescription by themselves, in capitals
+_CAMERAS = {
+    "OLYMPUS DIGITAL CAMERA", "SONY DSC", "MINOLTA DIGITAL CAMERA", "KONICA MINOLTA DIGITAL CAMERA", "DIGITAL CAMERA", "DCIM", "SAMSUNG",
+    "SAMSUNG DIGITAL CAMERA", "SAMSUNG CAMERA PICTURES", "KODAK DIGITAL STILL CAMERA", "DIGITAL STILL CAMERA", "DEFAULT", "MAGINON",
+    "EXIF_JPEG_PICTURE", "EXIF JPEG", "JPEG", "USER COMMENTS", "PENTAX DIGITAL CAMERA", "CASIO COMPUTER CO.,LTD", "DIGITAL IMAGE",
+}  # fmt: skip
+_CLEAREST = (XMP, IPTC, EXIF)  # the order in which two texts are compared: that which is least often cut first
+
+
+class Conflict(NamedTuple):
+    """A label with texts in two standards at least, and how these differ."""
+
+    label: str
+    kind: str  # one of KINDS
+    detail: str
+    texts: Tuple[LabelText, ...]
+    worse: Tuple[str, ...] = ()  # the fields whose text is cut or in a wrong character set
+
+    @property
+    def is_real(self) -> bool:
+        """Whether the texts contradict each other."""
+        return self.kind == DIFFERENT
+
+
+class _How(NamedTuple):
+    kind: str
+    detail: str = ""
+    worse: str = ""  # a field
+
+
+def conflicts(found: Sequence[LabelText]) -> List[Conflict]:
+    """The labels with texts in two standards at least."""
+    result = []
+    for label in LABELS:
+        ours = [it for it in found if it.label == label.word and not it.block and not it.is_extra]
+        if len({it.standard for it in ours}) > 1 and any(not it.is_empty for it in ours):
+            result.append(_conflict(label, ours))
+    return result
+
+
+def _conflict(label: Label, ours: Sequence[LabelText]) -> Conflict:
+    hows = [_How(EMPTY, f"{it.field} is empty") for it in ours if it.is_empty]
+    hows += [_How(CAMERA, f"{it.field} has a camera's own text") for it in ours if is_of_a_camera(it)]
+    texts = [it for it in ours if not it.is_empty and not is_of_a_camera(it)]
+    texts.sort(key=lambda it: _CLEAREST.index(it.standard))
+    hows += [_pair(label, one, other) for at, one in enumerate(texts) for other in texts[at + 1 :] if one.standard != other.standard]
+    kind = max((it.kind for it in hows), key=KINDS.index, default=ALIKE)
+    details = dict.fromkeys(it.detail for it in hows if it.detail and (it.kind == kind or kind != DIFFERENT))
+    worse = tuple(it.worse for it in hows if it.worse)
+    shown = sorted(ours, key=lambda it: STANDARDS.index(it.standard))
+    return Conflict(label.word, kind, "; ".join(details), tuple(shown), worse)
+
+
+def is_of_a_camera(it: LabelText) -> bool:
+    """Whether a camera wrote the text by itself."""
+    return it.standard == EXIF and it.label == "caption" and it.line.strip().upper() in _CAMERAS
+
+
+def best(found: Sequence[LabelText], known: Sequence[Conflict]) -> str:
+    """The text of a label where there is space for one: the first in the order of the standards that is whole and isn't a camera's."""
+    worse = {field for it in known for field in it.worse}
+    some = [it for it in found if not it.block and not it.is_empty]
+    ranked = sorted(some, key=lambda it: (it.is_extra, is_of_a_camera(it), it.field in worse, STANDARDS.index(it.standard)))
+    return ranked[0].line if ranked else ""
+
+
+def _plain(text: str) -> str:
+    """A text without differences that no reader sees: kinds of line ends and of blanks, and how accents are composed."""
+    return " ".join(unicodedata.normalize("NFC", text).split())
+
+
+def _pair(label: Label, one: LabelText, other: LabelText) -> _How:
+    first, second = ([_plain(it) for it in texts.texts if _plain(it)] for texts in (one, other))
+    if first == second:
+        return _How(ALIKE)
+    if label.word == DATE:
+        return _How(ALIKE if _is_same_time(first[0], second[0]) else DIFFERENT)
+    if label.is_list and (found := _lists(first, second, one, other)):
+        return found
+    if len(first) != len(second):
+        return _How(DIFFERENT, f"{one.field} has {len(first)}, {other.field} {len(second)}" if label.is_list else "")
+    each = [_texts_differ(label, (mine, its), (one, other), at) for at, (mine, its) in enumerate(zip(first, second))]
+    return max(each, key=lambda it: KINDS.index(it.kind))
+
+
+def _lists(first: List[str], second: List[str], one: LabelText, other: LabelText) -> Optional[_How]:
+    """How two lists differ as wholes; None if only their texts can tell."""
+    if sorted(first) == sorted(second):
+        return _How(ORDER, "another order")
+    for joined, apart, whose in ((first, second, one), (second, first, other)):
+        if len(joined) == 1 and len(apart) > 1 and sorted(_parts(joined)) == sorted(apart):
+            return _How(JOINED, f"{whose.field} has the list in one text")
+    mine, its = set(_parts(first)), set(_parts(second))
+    if mine < its or its < mine:
+        more, fewer, whose = (second, mine, other) if mine < its else (first, its, one)
+        only = [it for it in _parts(more) if it not in fewer]
+        return _How(DIFFERENT, f"only {whose.field} has: {', '.join(only[:5])}{' ..' if len(only) > 5 else ''}")
+    return None
+
+
+def _parts(texts: Sequence[str]) -> List[str]:
+    return [part.strip() for text in texts for part in text.replace(",", ";").split(";") if part.strip()]
+
+
+def _texts_differ(label: Label, pair: Tuple[str, str], whose: Tuple[LabelText, LabelText], at: int) -> _How:
+    if pair[0] == pair[1]:
+        return _How(ALIKE)
+    for side in (0, 1):
+        for how in _explained(label, pair[side], pair[1 - side], whose[side], at):
+            return how._replace(worse=whose[side].field)
+    return _How(DIFFERENT)
+
+
+def _explained(label: Label, text: str, against: str, it: LabelText, at: int) -> Iterator[_How]:
+    """Why a text isn't the other one, although that was meant."""
+    octets = it.octets[at] if len(it.octets) > at else b""
+    for name, word in _CHARACTER_SETS.items() if not octets.isascii() else ():
+        try:
+            again = _plain(octets.rstrip(b"\0").decode(name))
+        except UnicodeDecodeError:
+            continue
+        if again == against:
+            yield _How(
+                CHARACTERS, f"{it.field} is in {word}, which {'is not what it declares' if 'declared' in it.guess else 'nothing declares'}"
+            )
+        if it.standard == IPTC and _is_cut(label, again, against, len(octets)):
+            yield _How(CUT, f"{it.field} is cut after {len(octets):,} bytes")
+    if _without_detour(text) == against:
+        yield _How(CHARACTERS, f"{it.field} was read in a wrong character set before it was written")
+    if _without_accents(text, against):
+        yield _How(CHARACTERS, f"{it.field} has ? for letters that it couldn't write")
+    if it.standard == IPTC and _is_cut(label, text, against, len(octets)):
+        yield _How(CUT, f"{it.field} is cut after {len(octets):,} bytes")
+
+
+def _is_cut(label: Label, text: str, against: str, octets: int) -> bool:
+    """Whether an IPTC text is the beginning of another and as long as the standard allows (a character or a blank less)."""
+    return bool(label.limit) and len(text) < len(against) and against.startswith(text.rstrip()) and octets >= label.limit - 4
+
+
+def _without_detour(text: str) -> str:
+    """The text that was meant where UTF-8 was taken for Windows-1252 and written as UTF-8 again; empty if it can't be so.
+
+    >>> _without_detour("KÃ¶ln"), _without_detour("Köln")
+    ('Köln', '')
+    """
+    try:
+        return _plain(text.encode("cp1252").decode("utf-8"))
+    except UnicodeError:
+        return ""
+
+
+def _without_accents(text: str, against: str) -> bool:
+    """Whether `?` replaces every letter outside ASCII, once or for each of its bytes.
+
+    >>> _without_accents("Z?rich", "Zürich"), _without_accents("Z??rich", "Zürich"), _without_accents("What?", "What!")
+    (True, True, False)
+    """
+    if "?" not in text or against.isascii():
+        return False
+    once = "".join(it if it.isascii() else "?" for it in against)
+    each = "".join(it if it.isascii() else "?" * len(it.encode("utf-8")) for it in against)
+    return text in (once, each)
+
+
+_TIME = re.compile(r"(\d{4}-\d\d-\d\d)(?: (\d\d:\d\d(?::\d\d)?)(?:\.\d+)?)?(Z|[+-]\d\d:\d\d)?")
+
+
+def _is_same_time(one: str, other: str) -> bool:
+    """Whether two dates are the same as far as both are known: to the day, the minute or the second, with or without a time zone.
+
+    >>> _is_same_time("2003-05-24", "2003-05-24 22:21:01"), _is_same_time("2003-05-24 22:21:01+02:00", "2003-05-24 20:21:01Z")
+    (True, True)
+    """
+    found = [_TIME.fullmatch(it) for it in (one, other)]
+    if not found[0] or not found[1]:
+        return False
+    zones = [it[3] for it in found if it]
+    if all(zones) and all(it and it[2] for it in found):
+        try:
+            both = [datetime.fromisoformat(f"{it[1]} {it[2]}{'+00:00' if it[3] == 'Z' else it[3]}") for it in found if it]
+        except ValueError:  # as of a month 13
+            return False
+        return both[0] == both[1]
+    first, second = (f"{it[1]} {it[2] or ''}".rstrip() for it in found if it)
+    return first.startswith(second) or second.startswith(first)

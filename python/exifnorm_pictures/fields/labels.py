@@ -1,0 +1,177 @@
+"""The texts of a picture by label: what Exif, IPTC and XMP have as its title, caption, creator and so on, each with its field.
+
+Which fields belong together is by the IPTC Photo Metadata Standard (mapping of IIM and XMP) and by the Metadata Working Group's guidelines.
+"""
+
+from __future__ import annotations
+
+import re
+from typing import Dict, Iterator, List, NamedTuple, Optional, Sequence, Set, Tuple
+
+import exifnorm
+
+from .plain_names import group_name
+from .plain_texts import comment
+
+EXIF, IPTC, XMP = "Exif", "IPTC", "XMP"
+STANDARDS = (EXIF, IPTC, XMP)  # the first one that has a text wins where there is space for one
+
+
+class Label(NamedTuple):
+    """A label, and its field in each standard; empty if the standard has none."""
+
+    word: str
+    exif: str  # the tag in the main directory
+    iptc: str
+    xmp: str
+    limit: int = 0  # bytes that IPTC-NAA IIM 4.2 allows for one text
+    is_list: bool = False
+
+
+LABELS = (
+    Label("title", "", "2:5", "dc:title", 64),
+    Label("caption", "010e", "2:120", "dc:description", 2000),
+    Label("headline", "", "2:105", "photoshop:Headline", 256),
+    Label("creator", "013b", "2:80", "dc:creator", 32, True),
+    Label("creator's job", "", "2:85", "photoshop:AuthorsPosition", 32),
+    Label("credit", "", "2:110", "photoshop:Credit", 32),
+    Label("source", "", "2:115", "photoshop:Source", 32),
+    Label("copyright", "8298", "2:116", "dc:rights", 128),
+    Label("keywords", "", "2:25", "dc:subject", 64, True),
+    Label("job identifier", "", "2:103", "photoshop:TransmissionReference", 32),
+    Label("date created", "9003", "2:55", "photoshop:DateCreated"),
+    Label("location", "", "2:92", "Iptc4xmpCore:Location", 32),
+    Label("city", "", "2:90", "photoshop:City", 32),
+    Label("state", "", "2:95", "photoshop:State", 32),
+    Label("country", "", "2:101", "photoshop:Country", 64),
+    Label("instructions", "", "2:40", "photoshop:Instructions", 256),
+    Label("usage terms", "", "", "xmpRights:UsageTerms"),
+)
+COMMENT, DATE = "comment", "date created"
+WORDS = (*(it.word for it in LABELS), COMMENT)
+# Texts that Windows writes beside the others, in UTF-16. They are shown, and nothing is compared with them.
+_WINDOWS = {"9c9b": "title", "9c9c": COMMENT, "9c9d": "creator", "9c9e": "keywords", "9c9f": "title"}
+
+
+class LabelText(NamedTuple):
+    """The texts of one field for a label."""
+
+    label: str
+    standard: str  # EXIF, IPTC or XMP
+    field: str  # `IFD0:Artist`
+    texts: Tuple[str, ...]  # several of a list
+    octets: Tuple[bytes, ...] = ()  # of Exif and IPTC, as they are in the file
+    guess: str = ""  # about the character set
+    block: str = ""  # of which block; empty for the first one of its kind
+    is_extra: bool = False  # nothing is compared with it
+
+    @property
+    def is_empty(self) -> bool:
+        """Whether the field is there and has no text."""
+        return not any(self.texts)
+
+    @property
+    def line(self) -> str:
+        """The texts in a line."""
+        return "; ".join(self.texts)
+
+
+def decoded(octets: bytes, declares_utf8: bool = False) -> Tuple[str, str]:
+    """The text of some bytes, and how its character set was found if it isn't declared, or isn't the declared one.
+
+    >>> decoded(b"Vase"), decoded(b"Z\\xfcrich"), decoded(b"Z\\xc3\\xbcrich", True)
+    (('Vase', ''), ('Zürich', 'character set guessed: Windows-1252'), ('Zürich', ''))
+    """
+    bare = octets.rstrip(b"\0")
+    try:
+        text = bare.decode("utf-8")
+        return text, "" if bare.isascii() or declares_utf8 else "character set guessed: UTF-8"
+    except UnicodeDecodeError:
+        said = "declared as UTF-8, which it isn't" if declares_utf8 else "character set guessed"
+        return bare.decode("cp1252", "backslashreplace"), f"{said}: Windows-1252"
+
+
+# Exif and IPTC
+
+
+_Values = Dict[str, List[bytes]]
+
+
+def of_fields(found: Sequence[exifnorm.Field]) -> Iterator[LabelText]:
+    """The texts of a block of Exif or IPTC, by its fields."""
+    exif: _Values = {}
+    record: _Values = {}
+    utf8: Set[str] = set()
+    for it in found:
+        if it.directory == "record" and isinstance(it.values, bytes):
+            record.setdefault(f"{it.tag >> 8}:{it.tag & 255}", []).append(it.values)
+        elif isinstance(it.values, bytes) and it.directory in ("main", "exif"):
+            exif[f"{it.tag:04x}"] = [it.values]
+            utf8.update({f"{it.tag:04x}"} if it.type == "UTF8" else ())
+    for label in LABELS:
+        if label.word == DATE:
+            yield from _dates(exif, record)
+        elif label.exif in exif:
+            yield _of_octets(label, EXIF, group_name("main", label.exif), exif[label.exif], label.exif in utf8)
+        if label.word != DATE and label.iptc in record:
+            is_utf8 = record.get("1:90") == [b"\x1b%G"]
+            yield _of_octets(label, IPTC, group_name("iptc", label.iptc), record[label.iptc], is_utf8)
+    yield from _extra(exif)
+
+
+def _of_octets(label: Label, standard: str, field: str, values: Sequence[bytes], is_utf8: bool) -> LabelText:
+    both = [decoded(it, is_utf8) for it in values]
+    guess = next((it for _, it in both if it), "")
+    return LabelText(label.word, standard, field, tuple(text.strip(" \0") for text, _ in both), tuple(values), guess)
+
+
+def _extra(exif: _Values) -> Iterator[LabelText]:
+    """The comment, and what Windows writes."""
+    for octets in exif.get("9286", []):
+        text = comment(octets)
+        if text:
+            yield LabelText(COMMENT, EXIF, group_name("exif", "9286"), (text,), is_extra=True)
+    for tag, word in _WINDOWS.items():
+        for octets in exif.get(tag, []):
+            text = octets[: len(octets) & ~1].decode("utf-16-le", "replace").rstrip("\0 ")
+            if text:
+                yield LabelText(word, EXIF, group_name("main", tag), (text,), is_extra=True)
+
+
+# Dates
+
+
+def _dates(exif: _Values, record: _Values) -> Iterator[LabelText]:
+    """The date of the picture, with its time and its parts of a second, if they are there."""
+    if "9003" in exif:
+        text = _text(exif["9003"]).replace(":", "-", 2)
+        text += f".{_text(exif['9291'])}" if _text(exif.get("9291")).isdigit() else ""
+        zone = _text(exif.get("9011"))
+        text += zone if re.fullmatch(r"Z|[+-]\d\d:\d\d", zone) else ""
+        yield LabelText(DATE, EXIF, group_name("exif", "9003"), (text if text.strip(" -:0.") else "",))
+    if "2:55" in record:
+        day, time = _text(record["2:55"]), _text(record.get("2:60"))
+        text = re.sub(r"^(\d{4})(\d\d)(\d\d)$", r"\1-\2-\3", day)
+        text += re.sub(r"^(\d\d)(\d\d)(\d\d)(?:([+-]\d\d)(\d\d))?$", _time, time) if re.match(r"\d{6}", time) else ""
+        yield LabelText(DATE, IPTC, group_name("iptc", "2:55"), (text if text.strip(" -:0+") else "",))
+
+
+def _time(it: "re.Match[str]") -> str:
+    return f" {it[1]}:{it[2]}:{it[3]}" + (f"{it[4]}:{it[5]}" if it[4] else "")
+
+
+def _text(values: Optional[Sequence[bytes]]) -> str:
+    return values[0].decode("ascii", "replace").strip(" \0") if values else ""
+
+
+# XMP
+
+
+def of_properties(found: Dict[str, Tuple[str, ...]]) -> Iterator[LabelText]:
+    """The texts of a packet, by its properties."""
+    for label in LABELS:
+        if label.xmp in found:
+            texts = tuple(it.strip() for it in found[label.xmp])
+            if label.word == DATE:
+                texts = tuple(it.replace("T", " ") for it in texts)
+            yield LabelText(label.word, XMP, group_name("xmp", label.xmp), texts)

@@ -1,0 +1,252 @@
+"""`captions`: the texts of Exif, IPTC and XMP by label, each with its fields."""
+
+import csv
+import io
+import json
+import os
+import re
+import struct
+import subprocess
+
+import pytest
+from made_blocks import ASCII, BLOCKS, LONG, UNDEFINED, block, entry, table, with_exif
+from made_files import app1, app1_xmp, app13, jpeg, mpf, resource, xmp
+from studio import SMALL_JPEG, needs, tool
+
+from exifnorm_pictures.fields.labels import LABELS
+
+# A text for each label, in each standard, by the names of ExifTool's tags
+TAGS = {
+    "title": ["IPTC:ObjectName", "XMP-dc:Title"],
+    "caption": ["IFD0:ImageDescription", "IPTC:Caption-Abstract", "XMP-dc:Description"],
+    "headline": ["IPTC:Headline", "XMP-photoshop:Headline"],
+    "creator": ["IFD0:Artist", "IPTC:By-line", "XMP-dc:Creator"],
+    "creator's job": ["IPTC:By-lineTitle", "XMP-photoshop:AuthorsPosition"],
+    "credit": ["IPTC:Credit", "XMP-photoshop:Credit"],
+    "source": ["IPTC:Source", "XMP-photoshop:Source"],
+    "copyright": ["IFD0:Copyright", "IPTC:CopyrightNotice", "XMP-dc:Rights"],
+    "keywords": ["IPTC:Keywords", "XMP-dc:Subject"],
+    "job identifier": ["IPTC:OriginalTransmissionReference", "XMP-photoshop:TransmissionReference"],
+    "location": ["IPTC:Sub-location", "XMP-iptcCore:Location"],
+    "city": ["IPTC:City", "XMP-photoshop:City"],
+    "state": ["IPTC:Province-State", "XMP-photoshop:State"],
+    "country": ["IPTC:Country-PrimaryLocationName", "XMP-photoshop:Country"],
+    "instructions": ["IPTC:SpecialInstructions", "XMP-photoshop:Instructions"],
+    "usage terms": ["XMP-xmpRights:UsageTerms"],
+}
+
+
+@pytest.fixture
+def captions(folder, capsys, monkeypatch):
+    """What `captions` prints of some files: the status, and the text."""
+    from exifnorm_pictures.cli import main
+
+    monkeypatch.chdir(folder)
+
+    def call(*words, **files):
+        for name, octets in files.items():
+            (folder / f"{name}.jpg").write_bytes(octets)
+        status = main._run(["captions", *words, *(f"{it}.jpg" for it in files)])
+        return status, capsys.readouterr().out
+
+    return call
+
+
+def data_set(number, octets, record=2):
+    return struct.pack(">BBBH", 0x1C, record, number, len(octets)) + octets
+
+
+def with_record(*sets):
+    return app13(resource(0x0404, b"".join(sets)))
+
+
+def with_texts(**texts):
+    """An Exif segment with ImageDescription, Artist and Copyright."""
+    tags = {"description": 0x010E, "artist": 0x013B, "copyright": 0x8298}
+    at, entries, values = 8 + 2 + 12 * len(texts) + 4, [], b""
+    for name in sorted(texts, key=lambda it: tags[it]):
+        octets = texts[name] + b"\0" * (5 - len(texts[name]) if len(texts[name]) < 4 else 1)
+        entries.append(entry(tags[name], ASCII, len(octets), at + len(values)))
+        values += octets + bytes(len(octets) % 2)
+    return app1(block(entries) + values)
+
+
+# The table of labels
+
+
+@needs("exiftool")
+def test_each_label_as_exiftool_writes_it(captions, folder):
+    (folder / "a.jpg").write_bytes(SMALL_JPEG)
+    words = [f"-{tag}={label[:3]} {number}" for label, tags in TAGS.items() for number, tag in enumerate(tags)]
+    tool(folder, "exiftool", "-q", "-overwrite_original", *words, "a.jpg")
+    status, out = captions("--json", "a.jpg")
+    found = [(it["label"], it["texts"]) for it in json.loads(out)["captions"]]
+    assert status == 0
+    assert found and sorted(found) == sorted(
+        (label, [f"{label[:3]} {number}"]) for label, tags in TAGS.items() for number in range(len(tags))
+    )
+
+
+@needs("exiftool")
+def test_limits_are_those_of_iim(checks):
+    """ExifTool's table has the greatest length of each DataSet of IPTC-NAA IIM 4.2."""
+    listed = subprocess.run(["exiftool", "-listx", "-IPTC:All"], capture_output=True, text=True, check=True).stdout
+    application = listed.partition("<table name='IPTC::ApplicationRecord'")[2].partition("</table>")[0]
+    longest = {f"2:{number}": int(count) for number, count in re.findall(r"<tag id='(\d+)'[^>]* count='(\d+)'", application)}
+    for label in LABELS:
+        if label.limit:
+            checks.equal(label.word, label.limit, longest[label.iptc])
+
+
+@needs("exiftool")
+def test_dates_as_exiftool_writes_them(captions, folder):
+    (folder / "a.jpg").write_bytes(SMALL_JPEG)
+    tool(folder, "exiftool", "-q", "-overwrite_original", "-SubSecTimeOriginal=25", "-DateTimeOriginal=2003:05:24 22:21:01",
+         "-OffsetTimeOriginal=+02:00", "-IPTC:DateCreated=2003:05:24", "-IPTC:TimeCreated=22:21:01+02:00",
+         "-XMP-photoshop:DateCreated=2003:05:24 22:21:01+02:00", "a.jpg")  # fmt: skip
+    _, out = captions("--json", "a.jpg")
+    found = {it["field"]: it["texts"] for it in json.loads(out)["captions"]}
+    assert found == {
+        "ExifIFD:DateTimeOriginal": ["2003-05-24 22:21:01.25+02:00"],
+        "IPTC:DateCreated": ["2003-05-24 22:21:01+02:00"],
+        "XMP-photoshop:DateCreated": ["2003-05-24 22:21:01+02:00"],
+    }
+
+
+# Lines
+
+ALL = jpeg(with_texts(artist=b"Anna"), with_record(data_set(80, b"Anna"), data_set(5, b"Vase")), app1_xmp(xmp("<dc:format>x</dc:format>")))
+
+
+def test_equal_texts_are_one_line_with_all_fields(captions):
+    status, out = captions(a=ALL)
+    assert status == 0
+    assert [it.split("   ")[-1] for it in out.splitlines()] == ["[IPTC:ObjectName]", "[IFD0:Artist, IPTC:By-line]"]
+
+
+def test_different_texts_are_marked(captions):
+    _, out = captions(a=jpeg(with_texts(artist=b"Anna"), with_record(data_set(80, b"Otto"))))
+    assert [it.split()[1] for it in out.splitlines()] == ["Anna", "Otto"]
+    assert all(it.endswith("they differ") for it in out.splitlines())
+
+
+@pytest.mark.parametrize(
+    "sets, text, guess",
+    [
+        ([data_set(5, b"Z\xfcrich")], "Zürich", "character set guessed: Windows-1252"),
+        ([data_set(5, "Zürich".encode())], "Zürich", "character set guessed: UTF-8"),
+        ([data_set(90, b"\x1b%G", 1), data_set(5, "Zürich".encode())], "Zürich", ""),
+        ([data_set(90, b"\x1b%G", 1), data_set(5, b"Z\xfcrich")], "Zürich", "declared as UTF-8, which it isn't: Windows-1252"),
+        ([data_set(5, b"Vase")], "Vase", ""),
+    ],
+)
+def test_character_sets_of_iptc(sets, text, guess, captions):
+    _, out = captions("--json", a=jpeg(with_record(*sets)))
+    found = json.loads(out)["captions"][0]
+    assert (found["texts"], found.get("guess", "")) == ([text], guess)
+
+
+def test_a_guess_is_named_and_a_confirmed_one_is_not(captions):
+    record = with_record(data_set(5, b"Z\xfcrich"))
+    _, out = captions(a=jpeg(record))
+    assert "guessed: Windows-1252" in out
+    packet = xmp("<dc:title><rdf:Alt><rdf:li xml:lang='x-default'>Zürich</rdf:li></rdf:Alt></dc:title>")
+    _, out = captions(a=jpeg(record, app1_xmp(packet)))
+    assert "guessed" not in out and "[IPTC:ObjectName, XMP-dc:title]" in out
+
+
+def test_the_default_language_of_xmp(captions):
+    items = "<rdf:li xml:lang='de'>Krug</rdf:li><rdf:li xml:lang='x-default'>Vase</rdf:li>"
+    _, out = captions("--json", a=jpeg(app1_xmp(xmp(f"<dc:title><rdf:Alt>{items}</rdf:Alt></dc:title>"))))
+    assert json.loads(out)["captions"][0]["texts"] == ["Vase"]
+
+
+def test_a_comment_and_a_text_can_not_control_the_terminal(captions):
+    octets = b"ASCII\0\0\0\x1b[31mred\n"
+    inside = table([entry(0x9286, UNDEFINED, len(octets), 8 + 2 + 12 + 4 + 2 + 12 + 4)]) + octets
+    _, out = captions(a=jpeg(app1(block([entry(0x8769, LONG, 1, 26)]) + inside)))
+    assert out.split()[:2] == ["comment:", r"\x1b[31mred"]
+
+
+def test_texts_of_a_further_picture_are_named_and_not_compared(captions):
+    status, out = captions(a=mpf(with_texts(artist=b"Anna"), jpeg(with_texts(artist=b"Otto"))))
+    lines = out.splitlines()
+    assert status == 0 and "Exif of MPF picture 2" in lines[1] and "differ" not in out
+
+
+# What can't be read
+
+
+def test_a_refused_block_is_read_after_its_repair(captions):
+    record = with_record(data_set(5, b"Vase"))
+    status, out = captions("--json", a=with_exif(jpeg(record, base=SMALL_JPEG), BLOCKS["Unsorted"]))
+    found = json.loads(out)
+    assert status == 2 and "repair" in found["refused"][0] and [it["texts"] for it in found["captions"]] == [["Vase"]]
+
+
+@pytest.mark.parametrize("octets", [b"", b"no picture", SMALL_JPEG[:100]])
+def test_other_files_have_a_line(octets, captions):
+    status, out = captions(a=octets)
+    assert status in (0, 2) and len(out.splitlines()) >= 1
+
+
+def test_a_block_by_itself(captions):
+    _, out = captions("--block", "--json", a=data_set(5, b"Vase"))
+    assert json.loads(out)["captions"][0]["texts"] == ["Vase"]
+
+
+def test_names_that_are_no_utf8(captions, folder):
+    with open(os.fsencode(folder) + b"/\xe9.jpg", "wb") as file:
+        file.write(ALL)
+    _, out = captions("--json", ".")
+    assert json.loads(out)["path_hex"] == b"./\xe9.jpg".hex()
+
+
+# Tables
+
+
+def rows(out):
+    return list(csv.DictReader(io.StringIO(out)))
+
+
+def test_a_row_for_each_picture_of_a_folder(captions, folder):
+    (folder / "notes.txt").write_bytes(b"no picture")
+    (folder / "below").mkdir()
+    (folder / "below" / "b.jpg").write_bytes(jpeg(with_record(data_set(25, b"clay"), data_set(25, b"vase"))))
+    (folder / "a.jpg").write_bytes(ALL)
+    status, out = captions("--csv", ".")
+    found = {it["picture"]: it for it in rows(out)}
+    assert status == 0 and list(found) == ["./a.jpg", "./below/b.jpg"]
+    assert (found["./a.jpg"]["creator"], found["./below/b.jpg"]["keywords"]) == ("Anna", "clay; vase")
+
+
+LONG_NAME = "Anna-Katharina von der Hohenfriedeburg-Waldenfels"
+CREATOR = app1_xmp(xmp(f"<dc:creator><rdf:Seq><rdf:li>{LONG_NAME}</rdf:li></rdf:Seq></dc:creator>"))
+
+
+@pytest.mark.parametrize(
+    "segments, label, text",
+    [
+        ([with_texts(artist=b"Anna"), with_record(data_set(80, b"Otto"))], "creator", "Anna"),
+        ([with_record(data_set(80, b"Otto")), CREATOR], "creator", "Otto"),
+        ([with_record(data_set(80, LONG_NAME[:32].encode())), CREATOR], "creator", LONG_NAME),
+        ([with_texts(artist=b"    "), CREATOR], "creator", LONG_NAME),
+        ([with_texts(description=b"SONY DSC"), with_record(data_set(120, b"Vase"))], "caption", "Vase"),
+        ([with_texts(description=b"SONY DSC")], "caption", "SONY DSC"),
+    ],
+    ids=["Exif wins over IPTC", "IPTC wins over XMP", "a cut text doesn't win", "nor an empty one", "nor a camera's", "unless it is alone"],
+)
+def test_which_text_wins_in_a_table(segments, label, text, captions):
+    _, out = captions("--csv", a=jpeg(*segments))
+    assert rows(out)[0][label] == text
+
+
+@pytest.mark.parametrize("text", ["=1+1", "+1", "-1", "@a"])
+def test_a_text_is_no_formula(text, captions):
+    _, out = captions("--csv", a=jpeg(with_record(data_set(5, text.encode()))))
+    assert rows(out)[0]["title"] == f"'{text}"
+
+
+def test_a_text_with_line_ends_is_one_cell(captions):
+    _, out = captions("--csv", a=jpeg(with_record(data_set(120, b'a, "b"\nc\x1b'))))
+    assert rows(out)[0]["caption"] == 'a, "b"\nc\\x1b'
