@@ -111,7 +111,7 @@ class ShowAndCaptions(WithPictures):
         self.copied(collection())
         (found,) = (json.loads(it) for it in self.asked("captions", "--json", "picture.jpg"))
         texts = {it["field"]: it["texts"] for it in found["captions"]}
-        self.assertEqual([texts[it] for it in ("IFD0:Artist", "IPTC:Caption-Abstract", "IPTC:Keywords")], [["Zürich"], ["Zürich"], ["one"]])
+        self.assertEqual([texts[it] for it in ("IFD0:Artist", "IPTC:Caption-Abstract", "IPTC:Keywords")], [["Zürich"], ["Zürich"], ["one", "two"]])
 
     @needs("exiv2")
     def test_tiff(self):

@@ -1,0 +1,210 @@
+"""Values and names in plain words, beside ExifTool's own."""
+
+import json
+import os
+import re
+import subprocess
+from xml.etree import ElementTree
+
+import pytest
+from studio import SMALL_JPEG, needs, tool
+
+from exifnorm_pictures.fields.listing import Field
+from exifnorm_pictures.fields.names import _EXIF, _GPS, _IIM, _INTEROP, _TIFF
+from exifnorm_pictures.fields.plain_names import group_name, plain_name
+from exifnorm_pictures.fields.plain_values import plain
+
+
+def shown(where, key, kind, value):
+    return plain(Field(where, key, kind, 1, value))
+
+
+# Names
+
+TABLES = {"main": _TIFF, "exif": _EXIF, "gps": _GPS, "interop": _INTEROP, "iptc": _IIM}
+GROUPS = {
+    "Exif::Main": ("main", "exif", "interop"),
+    "GPS::Main": ("gps",),
+    "IPTC::EnvelopeRecord": ("1",),
+    "IPTC::ApplicationRecord": ("2",),
+}
+# Pointers, which are no fields; those for which ExifTool has several names; and those that ExifTool 12.57 doesn't know
+OTHERS = {"8649", "8769", "8773", "8825", "a005", "014a", "927c", "a436", "a437", "a438", "a439", "a43a", "a43b", "a43c"}
+
+
+@pytest.fixture(scope="module")
+def names_of_exiftool():
+    """The names of tags by directory and number."""
+    found = {}
+    for group in ("-EXIF:All", "-IPTC:All"):
+        listed = subprocess.run(["exiftool", "-listx", group], capture_output=True, check=True).stdout
+        for table in ElementTree.fromstring(listed):
+            for place in GROUPS.get(table.get("name"), ()):
+                for tag in table.findall("tag"):
+                    key = ("iptc", f"{place}:{tag.get('id')}") if place.isdigit() else (place, f"{int(tag.get('id')):04x}")
+                    found.setdefault(key, set()).add(tag.get("name"))
+    return found
+
+
+@needs("exiftool")
+def test_names_are_those_of_exiftool(names_of_exiftool, checks):
+    for where, table in TABLES.items():
+        for key in table:
+            if key not in OTHERS:
+                checks.check(f"{where} {key}", plain_name(where, key) in names_of_exiftool.get((where, key), ()), plain_name(where, key))
+
+
+@pytest.mark.parametrize("key", ["fe01", "9999"])
+def test_a_tag_without_a_name_has_its_number(key):
+    assert group_name("exif", key) == f"ExifIFD:0x{key}"
+
+
+# Values that ExifTool writes, beside those that it prints
+
+WRITTEN = {
+    "ExposureTime": ["1/125", "1/8000", "0.5", "30", "1.3"],
+    "FNumber": ["2.8", "11", "5.6"],
+    "FocalLength": ["50", "17.3"],
+    "ApertureValue": ["2.8", "8"],
+    "ShutterSpeedValue": ["1/125", "2"],
+    "ExposureCompensation": ["+0.5", "-2", "0"],
+    "DateTimeOriginal": ["2003:05:24 22:21:01", "1999:12:31 23:59:59"],
+    "UserComment": ["Vase", "Köln am Rhein", "日本の花瓶"],
+    "ISO": ["400"],
+    "LensInfo": ["24 70 2.8 2.8", "50 50 1.4 1.4", "18 55 3.5 5.6"],
+    "SubjectDistance": ["2.5"],
+}
+
+
+def exiftool_json(path, *words):
+    done = subprocess.run(["exiftool", "-j", "-G1", "-struct", *words, path], capture_output=True, check=True)
+    return json.loads(done.stdout)[0]
+
+
+@pytest.fixture
+def rows(folder, capsys):
+    """The rows that `compare` has for a picture without metadata and one in which ExifTool has written some tags."""
+    from exifnorm_pictures.cli import main
+
+    def call(*words):
+        (folder / "a.jpg").write_bytes(SMALL_JPEG)
+        tool(folder, "exiftool", "-q", "-o", "b.jpg", *words, "a.jpg")
+        main._run(["compare", str(folder / "a.jpg"), str(folder / "b.jpg"), "--json", "--no-exiftool"])
+        found = {it["name"]: it["after"] for it in json.loads(capsys.readouterr().out)["fields"]}
+        return found, exiftool_json(os.fspath(folder / "b.jpg"))
+
+    return call
+
+
+def number(text):
+    """The number in a value, of a fraction too."""
+    found = re.search(r"[-+]?\d+(?:\.\d+)?(?:/\d+)?", text)
+    above, _, below = found[0].partition("/")
+    return float(above) / float(below or 1)
+
+
+@needs("exiftool")
+@pytest.mark.parametrize("tag, value", [(tag, value) for tag, values in WRITTEN.items() for value in values])
+def test_values_as_exiftool_prints_them(tag, value, rows):
+    found, printed = rows(f"-ExifIFD:{tag}={value}")
+    mine, theirs = found[f"ExifIFD:{tag}"], str(printed[f"ExifIFD:{tag}"])
+    if tag == "DateTimeOriginal":
+        assert mine.replace("-", ":") == theirs
+    elif tag == "UserComment":
+        assert mine == theirs == value
+    elif tag == "LensInfo":
+        assert mine == theirs.replace("mm", " mm")
+    else:
+        assert number(mine) == pytest.approx(number(theirs), rel=0.02)
+
+
+@needs("exiftool")
+@pytest.mark.parametrize("latitude, longitude", [(47.5596, 7.5886), (-33.856784, 151.215297), (0.000278, -179.999722)])
+def test_a_position_is_the_one_of_exiftool(latitude, longitude, rows):
+    found, _ = rows(
+        f"-GPSLatitude={abs(latitude)}", f"-GPSLatitudeRef={latitude}", f"-GPSLongitude={abs(longitude)}", f"-GPSLongitudeRef={longitude}"
+    )
+    first, second = re.fullmatch(r"([\d.]+)° ([NS]), ([\d.]+)° ([EW])", found["Composite:GPSPosition"]).group(1, 3)
+    letters = re.findall("[NSEW]", found["Composite:GPSPosition"])
+    assert letters == ["NS"[latitude < 0], "EW"[longitude < 0]]
+    assert (float(first), float(second)) == (pytest.approx(abs(latitude), abs=2e-6), pytest.approx(abs(longitude), abs=2e-6))
+
+
+# Flash and orientation, whose words are ours: what turns a picture, by the figures of TIFF 6.0 and Exif 2.32
+
+ORIENTATIONS = {1: "Horizontal (normal)", 2: "Mirror horizontal", 3: "Rotate 180", 4: "Mirror vertical", 5: "Mirror horizontal and rotate 270 CW",
+                6: "Rotate 90 CW", 7: "Mirror horizontal and rotate 90 CW", 8: "Rotate 270 CW"}  # fmt: skip
+
+
+def in_exiftools_words(text):
+    """Our words for an orientation in ExifTool's."""
+    text = text.replace(" to view", "").replace(", then turn", " and turn").replace("upright", "Horizontal (normal)")
+    text = text.replace("mirrored left to right", "Mirror horizontal").replace("mirrored top to bottom", "Mirror vertical")
+    turns = {"90° clockwise": "90 CW", "90° counter-clockwise": "270 CW", "180°": "180"}
+    for turn in sorted(turns, key=len, reverse=True):
+        text = text.replace(f"turn {turn}", f"rotate {turns[turn]}")
+    return text[:1].upper() + text[1:]
+
+
+@needs("exiftool")
+@pytest.mark.parametrize("value", ORIENTATIONS)
+def test_orientation(value, rows):
+    found, printed = rows("-n", f"-IFD0:Orientation={value}", "-IFD0:Artist=a")
+    assert in_exiftools_words(found["IFD0:Orientation"]) == ORIENTATIONS[value] == printed["IFD0:Orientation"]
+
+
+@pytest.mark.parametrize(
+    "value, words",
+    [
+        ("0", "did not fire"),
+        ("1", "fired"),
+        ("7", "fired, light returned is seen"),
+        ("16", "did not fire, always off"),
+        ("32", "no flash in the camera"),
+        ("89", "fired, automatic, red-eye reduction"),
+    ],
+)
+def test_flash(value, words):
+    """By the bits of CIPA DC-008: 0 fired, 1 and 2 light returned, 3 and 4 the mode, 5 no flash, 6 red-eye reduction."""
+    assert shown("exif", "9209", "SHORT", value) == words
+
+
+# Values without a plain form stay as they are
+
+
+@pytest.mark.parametrize(
+    "where, key, kind, value, expected",
+    [
+        ("main", "0112", "SHORT", "9", "9"),
+        ("exif", "829a", "RATIONAL", "1/0", "unknown"),
+        ("exif", "829a", "RATIONAL", "0/10", "0 s"),
+        ("exif", "9201", "SRATIONAL", "1000000/1", "1000000"),
+        ("exif", "9202", "RATIONAL", "4294967295/1", "4294967295"),
+        ("exif", "9003", "ASCII", '"yesterday"', "yesterday"),
+        ("exif", "9003", "ASCII", '"0000:00:00 00:00:00"', "unknown"),
+        ("exif", "9209", "SHORT", "1 2", "1 2"),
+        ("gps", "0002", "RATIONAL", "47/1 33/0 0/1", "47, unknown, 0"),
+        ("gps", "0007", "RATIONAL", "1/1", "1"),
+        ("iptc", "2:55", "octets", '"2003"', "2003"),
+        ("iptc", "2:55", "octets", '"20030524"', "2003-05-24"),
+        ("iptc", "2:60", "octets", '"222101+0200"', "22:21:01+02:00"),
+        ("iptc", "2:120", "octets", "0x5afc72696368", "Zürich"),
+        ("main", "013b", "ASCII", '""', "(empty)"),
+        ("exif", "9000", "UNDEFINED", '"0231"', "2.31"),
+        ("xmp", "dc:subject", "Bag", 'Bag["a", "b"]', "a; b"),
+        ("xmp", "dc:subject", "Bag", "Bag[]", "(empty)"),
+    ],
+)
+def test_other_values(where, key, kind, value, expected):
+    assert shown(where, key, kind, value) == expected
+
+
+@pytest.mark.parametrize(
+    "tag", [*WRITTEN, "Orientation", "Flash", "LightSource", "MeteringMode", "GPSLatitude", "GPSTimeStamp", "GPSAltitude"]
+)
+def test_no_value_is_an_error(tag):
+    """Each rule takes any type, as another program may have written it."""
+    key = {name: (where, key) for where, table in TABLES.items() for key, name in table.items() for name in (plain_name(where, key),)}[tag]
+    for kind, value in (("ASCII", '"x"'), ("SHORT", "1 2 3"), ("RATIONAL", "0/0"), ("SRATIONAL", "-1/-1 5/0 7/1"), ("UNDEFINED", "0x00ff"),
+                        ("LONG", "1.. sha256:00"), ("DOUBLE", "7ff0000000000000"), ("ASCII", ""), ("RATIONAL", "")):  # fmt: skip
+        assert isinstance(plain(Field(*key, kind, 1, value)), str)
