@@ -53,6 +53,14 @@ class _Parser(argparse.ArgumentParser):
             super()._print_message(message, file)
 
 
+class _Formatter(argparse.RawDescriptionHelpFormatter):
+    """Leaves space for the longest command, whose indentation argparse doesn't count."""
+
+    def __init__(self, prog: str) -> None:
+        super().__init__(prog)
+        self._action_max_length = 2 + max(len(name) + self._indent_increment for name, *_ in _COMMANDS)
+
+
 class _Version(argparse.Action):
     """Prints the version of this command and of the library, and ends."""
 
@@ -70,7 +78,7 @@ def parser() -> argparse.ArgumentParser:
         description="Compares the Exif, IPTC and XMP metadata of many pictures: finds pictures that mean the same, lists changed"
         " pictures with their fields, and explains and mends refused ones.",
         epilog=_STATUSES,
-        formatter_class=argparse.RawDescriptionHelpFormatter,
+        formatter_class=_Formatter,
     )
     whole.add_argument("--version", action=_Version, nargs=0, help="the version")
     commands = whole.add_subparsers(dest="command", metavar="COMMAND", required=True)
