@@ -169,9 +169,9 @@ def test_a_comment_and_a_text_can_not_control_the_terminal(captions):
 
 
 def test_texts_of_a_further_picture_are_named_and_not_compared(captions):
-    status, out = captions(a=mpf(with_texts(artist=b"Anna"), jpeg(with_texts(artist=b"Otto"))))
+    status, out = captions(a=mpf(with_texts(artist=b"Anna"), jpeg(with_record(data_set(80, b"Otto")))))
     lines = out.splitlines()
-    assert status == 0 and "Exif of MPF picture 2" in lines[1] and "differ" not in out
+    assert status == 0 and "IPTC of MPF picture 2" in lines[1] and "differ" not in out
 
 
 # What can't be read

@@ -115,6 +115,38 @@ def test_equal_numbers_are_told_apart_and_still_differ(run):
     assert "10/1250" in out and "1 equal number is only written otherwise" in out
 
 
+def test_values_that_look_alike_are_exact(run):
+    """What people see is equal, and what is in the file isn't."""
+    status, found = compared(run, picture(b"Anna"), picture(b"Anna "))
+    assert status == 1 and rows(found) == {"IFD0:Artist": ('ascii[5] "Anna"', 'ascii[6] "Anna "')}
+
+
+def gps(latitude):
+    """A JPEG with a position, whose latitude is three fractions."""
+    at = 8 + 2 + 12 + 4 + 2 + 4 * 12 + 4
+    tags = [entry(1, ASCII, 2, 0x4E000000), entry(2, RATIONAL, 3, at), entry(3, ASCII, 2, 0x45000000), entry(4, RATIONAL, 3, at + 24)]
+    numbers = struct.pack(">12I", *latitude, 7, 1, 30, 1, 0, 1)
+    return jpeg(app1(block([entry(0x8825, LONG, 1, 26)]) + table(tags) + numbers))
+
+
+def test_a_position_that_moved_is_one_row(run):
+    _, found = compared(run, gps((47, 1, 30, 1, 0, 1)), gps((48, 1, 30, 1, 0, 1)))
+    assert rows(found) == {"Composite:GPSPosition": ("47.500000° N, 7.500000° E", "48.500000° N, 7.500000° E")}
+
+
+def test_a_position_in_other_fractions_is_exact(run):
+    _, found = compared(run, gps((47, 1, 30, 1, 0, 1)), gps((47, 1, 1800, 60, 0, 1)))
+    assert rows(found) == {"GPS:GPSLatitude": ("rational[3] 47/1 30/1 0/1", "rational[3] 47/1 1800/60 0/1")}
+
+
+@pytest.mark.parametrize(
+    "one, other, equal", [((1, 2), (2, 4), True), ((0, 1), (0, 0), False), ((1, 0), (0, 1), False), ((1, 2), (1, 3), False)]
+)
+def test_which_numbers_are_equal(one, other, equal, run):
+    _, found = compared(run, picture(b"Anna", time=one), picture(b"Anna", time=other))
+    assert [it["equal_number"] for it in found["fields"]] == [equal]
+
+
 def test_a_long_text_is_shown_whole(run):
     text = b"A vase of clay. " * 60
     record = app13(resource(0x0404, b"\x1c\x02\x78" + struct.pack(">H", len(text)) + text))
@@ -143,6 +175,11 @@ def test_a_text_can_not_control_the_terminal(run):
 def test_identical_files(run):
     status, out, _ = run("compare", "a.jpg", "b.jpg", before=REFUSED[2], after=REFUSED[2])
     assert (status, out) == (0, "The two files are identical, byte for byte.\n")
+
+
+def test_identical_files_are_the_same_whatever_they_contain(run):
+    status, found = compared(run, REFUSED[2], REFUSED[2])
+    assert (status, found["result"], found["identical_files"], found["fields"]) == (0, "same", True, [])
 
 
 def test_two_pictures_without_metadata(run):
