@@ -13,7 +13,7 @@ from typing import Dict, Iterator, List, Sequence
 from ..compare.conflicts import ALIKE, CAMERA, CHARACTERS, CUT, EMPTY, JOINED, ORDER, Conflict, conflicts
 from ..fields.labels import STANDARDS
 from .captions import text_members
-from .exit_codes import DIFFERENT, SUCCESS, UNKNOWN
+from .exit_codes import DIFFERENCE, SUCCESS, UNKNOWN
 from .labelled import Labelled, cell, origins, pictures, together
 from .output import Members, escaped, print_line, shown_path
 
@@ -56,7 +56,7 @@ def run(arguments: argparse.Namespace) -> int:
     if not arguments.csv and not arguments.json:
         for line in _summary(counts, arguments.all):
             print(line)
-    return UNKNOWN if counts.unread else DIFFERENT if counts.real else SUCCESS
+    return UNKNOWN if counts.unread else DIFFERENCE if counts.real else SUCCESS
 
 
 def _count(counts: _Counts, it: Labelled, found: Sequence[Conflict]) -> None:
