@@ -98,10 +98,7 @@ def run_tests(tree: Path, words: list[str]) -> subprocess.CompletedProcess[str]:
     with tempfile.TemporaryDirectory() as folder:
         os.chmod(folder, 0o755)  # some tests run commands as another user
         environment = {**os.environ, "TMPDIR": folder}
-        ran = subprocess.run(command, cwd=tree, env=environment, capture_output=True, text=True, stdin=subprocess.DEVNULL, check=False)
-    if ran.returncode not in (0, 1):
-        raise SystemExit(f"{' '.join(command)} ended with status {ran.returncode}:\n{ran.stdout[-2000:]}{ran.stderr[-2000:]}")
-    return ran
+        return subprocess.run(command, cwd=tree, env=environment, stdin=subprocess.DEVNULL, stdout=subprocess.PIPE, text=True, check=False)
 
 
 def try_all(chosen: list[Mistake], words: list[str], jobs: int) -> int:
@@ -123,7 +120,7 @@ def try_all(chosen: list[Mistake], words: list[str], jobs: int) -> int:
             return passed
 
         if (ran := run_tests(Path(folder, "0"), words)).returncode:
-            raise SystemExit(f"a test fails without a mistake:\n{ran.stdout[-3000:]}")
+            raise SystemExit(f"the tests don't pass without a mistake:\n{ran.stdout[-3000:]}")
         return sum(pool.map(gets_through, chosen))
 
 
