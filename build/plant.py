@@ -22,6 +22,7 @@ import tempfile
 from concurrent.futures import ThreadPoolExecutor
 from itertools import accumulate
 from pathlib import Path
+from subprocess import DEVNULL, PIPE, STDOUT
 from typing import Any, Iterator, NamedTuple
 
 TOP = Path(__file__).resolve().parent.parent
@@ -37,7 +38,7 @@ def changed_lines(since: str) -> dict[Path, set[int]]:
     """The lines that differ from a commit, by file."""
     words = ["git", "diff", "--unified=0", "--no-prefix", f"{since}...", "--", "*.py", ":!tests", ":!bench"]
     found: dict[Path, set[int]] = {}
-    for line in subprocess.run(words, cwd=TOP, stdout=subprocess.PIPE, text=True, check=True).stdout.splitlines():
+    for line in subprocess.run(words, cwd=TOP, stdout=PIPE, text=True, check=True).stdout.splitlines():
         if line.startswith("+++ ") and line != "+++ /dev/null":
             lines = found.setdefault(Path(line[4:]), set())
         elif at := re.match(r"@@ .* \+(\d+)(?:,(\d+))? @@", line):
@@ -98,7 +99,7 @@ def run_tests(tree: Path, words: list[str]) -> subprocess.CompletedProcess[str]:
     with tempfile.TemporaryDirectory() as folder:
         os.chmod(folder, 0o755)  # some tests run commands as another user
         environment = {**os.environ, "TMPDIR": folder}
-        return subprocess.run(command, cwd=tree, env=environment, stdin=subprocess.DEVNULL, stdout=subprocess.PIPE, text=True, check=False)
+        return subprocess.run(command, cwd=tree, env=environment, stdin=DEVNULL, stdout=PIPE, stderr=STDOUT, text=True, check=False)
 
 
 def try_all(chosen: list[Mistake], words: list[str], jobs: int) -> int:
