@@ -296,7 +296,7 @@ def test_a_picture_that_became_a_pipe(archive):
     for device in ("/dev/zero", "p/a.jpg", "p"):
         for words in (["show", device], ["explain", device], ["captions", device], ["mend", device, "out"], ["show", "--block", device],
                       ["index", device, "--catalogue", "new", "--quiet"]):  # fmt: skip
-            if words[0] == "index" and device == "p":
+            if words[0] in ("captions", "index") and device == "p":  # which read folders
                 continue
             ended = run(archive, *words).check(2)
             assert len((ended.out + ended.err).splitlines()) >= 1, words

@@ -270,8 +270,12 @@ class Catalogues(InFolder):
         self.database("foreign", "CREATE TABLE x (y)")
         self.database("empty", "PRAGMA application_id = 7", "VACUUM")
         self.database("bare", "CREATE TABLE x (y)", "DROP TABLE x", "VACUUM")
-        for name in ("text", "foreign", "empty", "bare"):
+        for name in ("foreign", "empty", "bare"):
             self.refused(name, name)
+        for call in (["index", "p", "--catalogue", "text"], ["same", "--catalogue", "text"], ["merge", "text", "--catalogue", "text"]):
+            self.asked(*call, status=4)
+            self.assertIn("text", self.complaint)
+        self.assertEqual(read(self.path("text")), b"a text\n")
         os.mkdir(self.path("folder"))
         os.mkfifo(self.path("pipe"))
         for name in ("folder", "pipe"):

@@ -11,7 +11,7 @@ import pytest
 from made_blocks import BLOCKS, with_exif, with_iptc
 from studio import SMALL_JPEG
 
-from exifnorm_pictures import report
+from exifnorm_pictures.report import contents, page
 
 TOP = Path(__file__).resolve().parent.parent.parent
 RECORD = b"\x1c\x02\x78"  # the head of a DataSet, without the rest
@@ -53,6 +53,6 @@ def test_refused_blocks_have_the_kinds_of_the_command(refused: List[Dict[str, An
 
 @pytest.mark.parametrize("more", [0, 1])
 def test_a_page_counts_what_it_leaves_out(more: int) -> None:
-    number = report.MOST_GROUPS + more
-    page = report.page(report.Gathered(all_groups=(number, 2 * number)), "a title")
-    assert (".. and 1 more groups" in page, ".. and 0 more" in page) == (more == 1, False)
+    number = contents.MOST_GROUPS + more
+    made = page.page(contents.Gathered(all_groups=(number, 2 * number)), "a title")
+    assert (".. and 1 more groups" in made, ".. and 0 more" in made) == (more == 1, False)

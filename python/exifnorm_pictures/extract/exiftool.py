@@ -122,7 +122,8 @@ class _Own:
 
 def begin(room: str) -> None:
     """Gives this process a folder for its links and for its ExifTool, which starts at the first call."""
-    _Own.session, _Own.pid = None, os.getpid()
+    finish()
+    _Own.pid = os.getpid()
     _Own.room = os.path.join(room, str(_Own.pid))
     os.makedirs(_Own.room, exist_ok=True)
 
