@@ -28,8 +28,17 @@ from typing import Any, Iterator, NamedTuple
 TOP = Path(__file__).resolve().parent.parent
 PYTHON = "/usr/bin/python3"  # Debian's, which has pytest
 LEFT_OUT = shutil.ignore_patterns(".git", "__pycache__", "*.rlib", "stage", "wheel", "dist", "*.log")
-SWAPPED: dict[type, Any] = {ast.Eq: ast.NotEq, ast.Lt: ast.LtE, ast.Gt: ast.GtE, ast.In: ast.NotIn, ast.Is: ast.IsNot,
-                             ast.Add: ast.Sub, ast.Mult: ast.FloorDiv, ast.And: ast.Or, ast.BitAnd: ast.BitOr}  # fmt: skip
+SWAPPED: dict[type, Any] = {
+    ast.Eq: ast.NotEq,
+    ast.Lt: ast.LtE,
+    ast.Gt: ast.GtE,
+    ast.In: ast.NotIn,
+    ast.Is: ast.IsNot,
+    ast.Add: ast.Sub,
+    ast.Mult: ast.FloorDiv,
+    ast.And: ast.Or,
+    ast.BitAnd: ast.BitOr,
+}
 SWAPPED.update({new: old for old, new in SWAPPED.items()})
 Mistake = NamedTuple("Mistake", [("path", Path), ("line", int), ("span", slice), ("text", str)])
 

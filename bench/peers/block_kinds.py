@@ -5,7 +5,7 @@ from typing import Callable, Dict, Iterable
 
 import orders
 from kinds import ORIENTATION, OfStrips, camera
-from meanings import *  # noqa: F403 (the numbers of the types)
+from meanings import *  # the numbers of the types
 from meanings import Exif, Layout, Value, laid
 
 LEAST, MOST = "<", ">"  # the byte orders

@@ -6,7 +6,7 @@ import sys
 if os.path.abspath(sys.path[0]) == os.getcwd() != os.path.dirname(os.path.dirname(os.path.abspath(__file__))):
     del sys.path[0]  # the current folder, which Python puts first, and where a file could be imported in place of a module
 
-from .cli.main import main  # noqa: E402
+from .cli.main import main
 
 if __name__ == "__main__":
     sys.exit(main())

@@ -8,7 +8,7 @@ from dataclasses import dataclass
 from random import Random
 
 import orders
-from meanings import *  # noqa: F403 (the numbers of the types)
+from meanings import *  # the numbers of the types
 from meanings import Exif, Layout, Record, Value, laid
 
 
@@ -69,27 +69,56 @@ def camera():
     text = lambda words: Value(ASCII, words.encode() + b"\0")
     note = bytes(Random(7).randbytes(1500))
     main = {
-        0x010E: text("          "), 0x010F: text("Maker"), 0x0110: text("Model 1"), 0x0112: Value(SHORT, [1]),
-        0x011A: Value(RATIONAL, [(72, 1)]), 0x011B: Value(RATIONAL, [(72, 1)]), 0x0128: Value(SHORT, [2]),
-        0x0131: text("1.0"), 0x0132: text("2009:07:08 10:11:12"), 0x0213: Value(SHORT, [2]), 0x8298: text("nobody"),
+        0x010E: text("          "),
+        0x010F: text("Maker"),
+        0x0110: text("Model 1"),
+        0x0112: Value(SHORT, [1]),
+        0x011A: Value(RATIONAL, [(72, 1)]),
+        0x011B: Value(RATIONAL, [(72, 1)]),
+        0x0128: Value(SHORT, [2]),
+        0x0131: text("1.0"),
+        0x0132: text("2009:07:08 10:11:12"),
+        0x0213: Value(SHORT, [2]),
+        0x8298: text("nobody"),
     }
     photo = {
-        0x829A: Value(RATIONAL, [(1, 60)]), 0x829D: Value(RATIONAL, [(28, 10)]), 0x8822: Value(SHORT, [2]),
-        0x8827: Value(SHORT, [200]), 0x9000: Value(UNDEFINED, b"0221"), 0x9003: text("2009:07:08 10:11:12"),
-        0x9004: text("2009:07:08 10:11:12"), 0x9101: Value(UNDEFINED, b"\1\2\3\0"), 0x9102: Value(RATIONAL, [(3, 1)]),
-        0x9204: Value(SRATIONAL, [(-1, 3)]), 0x9205: Value(RATIONAL, [(30, 10)]), 0x9207: Value(SHORT, [5]),
-        0x9208: Value(SHORT, [0]), 0x9209: Value(SHORT, [24]), 0x920A: Value(RATIONAL, [(61, 10)]),
-        0x927C: Value(UNDEFINED, note), 0x9286: Value(UNDEFINED, b"ASCII\0\0\0a comment"), 0xA000: Value(UNDEFINED, b"0100"),
-        0xA001: Value(SHORT, [1]), 0xA002: Value(SHORT, [4000]), 0xA003: Value(LONG, [3000]), 0xA217: Value(SHORT, [2]),
-        0xA300: Value(UNDEFINED, b"\3"), 0xA301: Value(UNDEFINED, b"\1"), 0xA401: Value(SHORT, [0]), 0xA402: Value(SHORT, [0]),
-        0xA404: Value(RATIONAL, [(0, 0)]), 0xA406: Value(SHORT, [0]),
+        0x829A: Value(RATIONAL, [(1, 60)]),
+        0x829D: Value(RATIONAL, [(28, 10)]),
+        0x8822: Value(SHORT, [2]),
+        0x8827: Value(SHORT, [200]),
+        0x9000: Value(UNDEFINED, b"0221"),
+        0x9003: text("2009:07:08 10:11:12"),
+        0x9004: text("2009:07:08 10:11:12"),
+        0x9101: Value(UNDEFINED, b"\1\2\3\0"),
+        0x9102: Value(RATIONAL, [(3, 1)]),
+        0x9204: Value(SRATIONAL, [(-1, 3)]),
+        0x9205: Value(RATIONAL, [(30, 10)]),
+        0x9207: Value(SHORT, [5]),
+        0x9208: Value(SHORT, [0]),
+        0x9209: Value(SHORT, [24]),
+        0x920A: Value(RATIONAL, [(61, 10)]),
+        0x927C: Value(UNDEFINED, note),
+        0x9286: Value(UNDEFINED, b"ASCII\0\0\0a comment"),
+        0xA000: Value(UNDEFINED, b"0100"),
+        0xA001: Value(SHORT, [1]),
+        0xA002: Value(SHORT, [4000]),
+        0xA003: Value(LONG, [3000]),
+        0xA217: Value(SHORT, [2]),
+        0xA300: Value(UNDEFINED, b"\3"),
+        0xA301: Value(UNDEFINED, b"\1"),
+        0xA401: Value(SHORT, [0]),
+        0xA402: Value(SHORT, [0]),
+        0xA404: Value(RATIONAL, [(0, 0)]),
+        0xA406: Value(SHORT, [0]),
     }
     interop = {0x0001: Value(ASCII, b"R98\0"), 0x0002: Value(UNDEFINED, b"0100")}
     gps = {0x0000: Value(BYTE, b"\2\2\0\0"), 0x0001: Value(ASCII, b"N\0"), 0x0002: Value(RATIONAL, [(52, 1), (22, 1), (1, 7)])}
     thumb = {0x0103: Value(SHORT, [6]), 0x011A: Value(RATIONAL, [(72, 1)]), 0x011B: Value(RATIONAL, [(72, 1)])}
     picture = b"\xff\xd8" + Random(8).randbytes(5001) + b"\xff\xd9"
     yield exif("a block as a camera writes it", Exif(main, photo, interop, gps, thumb, jpeg=picture))
-    yield exif("the same, in the order that a camera writes", Exif(main, photo, interop, gps, thumb, jpeg=picture), Layout("<"), Layout(">"))
+    yield exif(
+        "the same, in the order that a camera writes", Exif(main, photo, interop, gps, thumb, jpeg=picture), Layout("<"), Layout(">")
+    )
 
 
 def thumbnails():
@@ -130,10 +159,23 @@ def directories():
 def records():
     """Caption records by themselves and inside an Exif block, after other entries and without any."""
     keywords = [(2, 25, bytes(f"keyword {i}", "ascii").ljust(1000, b".")) for i in range(70)]
-    some = [(1, 90, b"\x1b\x25\x47"), (2, 80, b"A"), (2, 5, b"T\xc3\xa9"), (2, 85, b"a"), (2, 80, b"B"), (2, 120, b"c\\\n"), (2, 0, b"\0\2")]
+    some = [
+        (1, 90, b"\x1b\x25\x47"),
+        (2, 80, b"A"),
+        (2, 5, b"T\xc3\xa9"),
+        (2, 85, b"a"),
+        (2, 80, b"B"),
+        (2, 120, b"c\\\n"),
+        (2, 0, b"\0\2"),
+    ]
     long = [(2, 120, Random(11).randbytes(40_000)), (7, 20, b""), (0, 0, b"x"), (255, 255, b"y")]
     each = [(record, number, b"%d:%d" % (record, number)) for record in (3, 2, 1) for number in range(255, -1, -1)]
-    told = {"some captions": some, "70 keywords of 1,000 octets": keywords, "a caption of 40,000 octets": long, "a DataSet of each number": each}
+    told = {
+        "some captions": some,
+        "70 keywords of 1,000 octets": keywords,
+        "a caption of 40,000 octets": long,
+        "a DataSet of each number": each,
+    }
     for name, datasets in told.items():
         record = Record(datasets)
         yield Kind(name, record, [record.spelled(), record.spelled(extended=3, zeros=3)])
@@ -210,7 +252,9 @@ def random_records():
     for seed in range(6, 9):
         chance = Random(seed)
         names = orders.random(chance.randrange(65, 100_000), seed)
-        yield of_record(f"DataSets of random names and lengths, {seed}", Record([(*it, chance.randbytes(chance.randrange(9))) for it in names]))
+        yield of_record(
+            f"DataSets of random names and lengths, {seed}", Record([(*it, chance.randbytes(chance.randrange(9))) for it in names])
+        )
 
 
 def long_values():

@@ -66,8 +66,17 @@ def record(names: Names, data: bytes = b"") -> Record:
 def captions() -> Record:
     """25 DataSets of 13 groups, in the order in which a picture's editor writes them."""
     texts: List[Tuple[int, bytes]] = [
-        (0, b"\0\4"), (120, b"A vase of the second century, found in 1998"), (80, b"Lee"), (85, b"Staff"), (110, b"The Museum"),
-        (5, b"Vase"), (55, b"20090708"), (90, b"Zurich"), (101, b"Switzerland"),
-        *((25, b"keyword %d" % it) for it in range(13)), (116, b"The Museum, 2009"), (103, b"1998.7"),
-    ]  # fmt: skip
+        (0, b"\0\4"),
+        (120, b"A vase of the second century, found in 1998"),
+        (80, b"Lee"),
+        (85, b"Staff"),
+        (110, b"The Museum"),
+        (5, b"Vase"),
+        (55, b"20090708"),
+        (90, b"Zurich"),
+        (101, b"Switzerland"),
+        *((25, b"keyword %d" % it) for it in range(13)),
+        (116, b"The Museum, 2009"),
+        (103, b"1998.7"),
+    ]
     return Record([(1, 90, b"\x1b%G"), *((2, number, text) for number, text in texts)])

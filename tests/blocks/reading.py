@@ -7,7 +7,7 @@ It shares nothing with the program, so that any block can be judged by both. All
 
 import struct
 
-from meanings import *  # noqa: F403 (the numbers of the types)
+from meanings import *  # the numbers of the types
 from meanings import Exif, Record, Value
 
 PREFIX = b"Exif\0\0"

@@ -13,7 +13,7 @@ TESTS = Path(__file__).resolve().parent.parent
 sys.path[:0] = [str(TESTS / "blocks")]
 
 from blocks import Blocks  # noqa: E402 (it is found only now)
-from kinds import small_kinds  # noqa: E402
+from kinds import small_kinds
 
 LONGEST = 4096  # longer blocks take longer, and show little more
 

@@ -37,7 +37,9 @@ def extended(packets, length):
 
 def rare(nodes):
     """A packet of many nodes that have names of their own, which only rdflib reads."""
-    inside = "".join(f"<rdf:Description rdf:nodeID='n{number}'><dc:a rdf:nodeID='n{number + 1}'/></rdf:Description>" for number in range(nodes))
+    inside = "".join(
+        f"<rdf:Description rdf:nodeID='n{number}'><dc:a rdf:nodeID='n{number + 1}'/></rdf:Description>" for number in range(nodes)
+    )
     return f"<rdf:RDF {SPACES}>{inside}</rdf:RDF>".encode()
 
 
@@ -83,19 +85,36 @@ FILES = {
     "sparse.png": (sparse(png()), "trailer"),
     "sparse.tif": (sparse(tiff(ONE_PAGE)), "trailer"),
     "sparse.webp": (sparse(webp((b"VP8 ", b"abcd"))), "trailer"),
-    "resources.png": (written(lambda: png(chunk(b"zTXt", b"Raw profile type 8bim\0\0" + zlib.compress(profile_text(resources(2_600_000)), 9)))), "TooMuch"),
+    "resources.png": (
+        written(lambda: png(chunk(b"zTXt", b"Raw profile type 8bim\0\0" + zlib.compress(profile_text(resources(2_600_000)), 9)))),
+        "TooMuch",
+    ),
     "resources-in-lines.png": (written(lambda: png(*[profile(b"8bim", resources(6000))] * 20)), "TooMuch"),
     "pages-of-resources.tif": (written(lambda: sharing(resources(2300), 9000, 0x8649, 7)), "TooMuch"),
     "resources.jpg": (written(lambda: jpeg(*[app13(resources(5000))] * 100)), "TooMuch"),
-    "attributes.png": (written(lambda: png(png_xmp(xmp("", " ".join(f"dc:a{number}='1'" for number in range(1_000_000))), packed=True))), "TooLong"),
+    "attributes.png": (
+        written(lambda: png(png_xmp(xmp("", " ".join(f"dc:a{number}='1'" for number in range(1_000_000))), packed=True))),
+        "TooLong",
+    ),
     "language.png": (written(lambda: png(png_xmp(xmp("<dc:a>x</dc:a>" * 1000, f"xml:lang='{A_TEXT}'"), packed=True))), "TooLong"),
-    "bags.png": (written(lambda: png(png_xmp(xmp("<dc:a>" + "<rdf:Bag><rdf:li>" * 20 + A_TEXT + "</rdf:li></rdf:Bag>" * 20 + "</dc:a>"), packed=True))), ""),
+    "bags.png": (
+        written(
+            lambda: png(png_xmp(xmp("<dc:a>" + "<rdf:Bag><rdf:li>" * 20 + A_TEXT + "</rdf:li></rdf:Bag>" * 20 + "</dc:a>"), packed=True))
+        ),
+        "",
+    ),
     "tags.png": (written(lambda: png(png_xmp(xmp("<dc:a/>" * 600_000), packed=True))), "TooLong"),
     "segments.jpg": (written(lambda: b"\xff\xd8" + b"\xff\xfe\0\2" * 1_000_000), "TooMuch"),
-    "directories.tif": (written(lambda: b"MM\0*\0\0\0\x08" + b"".join(struct.pack(">HI", 0, 14 + 6 * it) for it in range(1_000_000))), "TooMuch"),
+    "directories.tif": (
+        written(lambda: b"MM\0*\0\0\0\x08" + b"".join(struct.pack(">HI", 0, 14 + 6 * it) for it in range(1_000_000))),
+        "TooMuch",
+    ),
     "chunks.png": (written(lambda: png(*[chunk(b"aaaa", b"")] * 1_000_000)), "TooMuch"),
     "chunks.webp": (written(lambda: webp(*[(b"abcd", b"")] * 1_000_000)), "TooMuch"),
-    "inflated.png": (written(lambda: png(*[chunk(b"zTXt", b"xml:com.adobe.xmp\0\0" + zlib.compress(bytes(30 << 20), 9))] * 100)), "TooMuch"),
+    "inflated.png": (
+        written(lambda: png(*[chunk(b"zTXt", b"xml:com.adobe.xmp\0\0" + zlib.compress(bytes(30 << 20), 9))] * 100)),
+        "TooMuch",
+    ),
     "record.jpg": (written(lambda: jpeg_record(b"\x1c\2\x19\0\1a" * 2_700_000)), ""),
     "entries.tif": (written(lambda: b"MM\0*" + entries(20, 65_000)), "TooMuch"),
     "scans.jpg": (written(lambda: SMALL_JPEG[:-2] + b"\xff\xc0\0\2" * 1_500_000), ""),

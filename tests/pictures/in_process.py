@@ -40,7 +40,11 @@ class InProcess(WithPictures):
         lines = []
         for status, *words in calls:
             found = self.printed(*words, status=status)
-            lines += ["$ exifnorm-pictures " + " ".join(words).replace("@", "F").replace("\n", "\\n"), *found, *(f"(stderr) {it}" for it in self.complaint.splitlines())]
+            lines += [
+                "$ exifnorm-pictures " + " ".join(words).replace("@", "F").replace("\n", "\\n"),
+                *found,
+                *(f"(stderr) {it}" for it in self.complaint.splitlines()),
+            ]
             lines += [f"(status {status})"] * bool(status) + [""]
         return "\n".join(lines)
 

@@ -160,8 +160,17 @@ def _directory(made, page, order):
 
 def page(*more, pixels=b"\x55"):
     """The entries of a page of one grey point, whose strip is at 0 of the file's own bytes."""
-    known = [(0x100, LONG, 1), (0x101, LONG, 1), (0x102, SHORT, 8), (0x103, SHORT, 1), (0x106, SHORT, 1), (0x111, LONG, 8),
-             (0x115, SHORT, 1), (0x116, LONG, 1), (0x117, LONG, len(pixels))]  # fmt: skip
+    known = [
+        (0x100, LONG, 1),
+        (0x101, LONG, 1),
+        (0x102, SHORT, 8),
+        (0x103, SHORT, 1),
+        (0x106, SHORT, 1),
+        (0x111, LONG, 8),
+        (0x115, SHORT, 1),
+        (0x116, LONG, 1),
+        (0x117, LONG, len(pixels)),
+    ]
     tags = {it[0] for it in more}
     return [it for it in known if it[0] not in tags] + list(more)
 

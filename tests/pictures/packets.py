@@ -15,14 +15,37 @@ PACKET = (
     "<dc:format>image/jpeg</dc:format></rdf:Description></rdf:RDF></x:xmpmeta><?xpacket end='w'?>  "
 )
 _ATTRIBUTES = (
-    "rdf:about='u:1'", "rdf:about=''", "xml:lang='fr'", "xml:lang='!'", "rdf:parseType='Resource'", "rdf:parseType='Literal'", "rdf:ID='i'",
-    "rdf:resource='http://q/'", "rdf:nodeID='n'", "rdf:datatype='http://www.w3.org/2001/XMLSchema#integer'", "xmp:c='3'", "about='z'",
-    "rdf:type='http://t/'", "rdf:bagID='b'", "xml:base='http://b/'",
-)  # fmt: skip
+    "rdf:about='u:1'",
+    "rdf:about=''",
+    "xml:lang='fr'",
+    "xml:lang='!'",
+    "rdf:parseType='Resource'",
+    "rdf:parseType='Literal'",
+    "rdf:ID='i'",
+    "rdf:resource='http://q/'",
+    "rdf:nodeID='n'",
+    "rdf:datatype='http://www.w3.org/2001/XMLSchema#integer'",
+    "xmp:c='3'",
+    "about='z'",
+    "rdf:type='http://t/'",
+    "rdf:bagID='b'",
+    "xml:base='http://b/'",
+)
 _CONTENTS = (
-    "<dc:x>01</dc:x>", "<dc:x/>", "text", "<!--c-->", "<![CDATA[q]]>", "<rdf:value>r</rdf:value>", "<rdf:_3>k</rdf:_3>", "&#10;", " ",
-    "<rdf:Description rdf:about=''/>", "<dc:y><rdf:Bag/></dc:y>", "<rdf:type rdf:resource='http://t2/'/>", "<rdf:li>z</rdf:li>",
-)  # fmt: skip
+    "<dc:x>01</dc:x>",
+    "<dc:x/>",
+    "text",
+    "<!--c-->",
+    "<![CDATA[q]]>",
+    "<rdf:value>r</rdf:value>",
+    "<rdf:_3>k</rdf:_3>",
+    "&#10;",
+    " ",
+    "<rdf:Description rdf:about=''/>",
+    "<dc:y><rdf:Bag/></dc:y>",
+    "<rdf:type rdf:resource='http://t2/'/>",
+    "<rdf:li>z</rdf:li>",
+)
 _NAMES = ("rdf:Bag", "rdf:Seq", "rdf:li", "dc:title", "xmp:a", "xmp:z", "rdf:Description", "xmp:d")
 
 

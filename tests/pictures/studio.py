@@ -26,8 +26,15 @@ SMALL_JPEG = base64.b64decode(
     "X/xAAWEQADAAAAAAAAAAAAAAAAAAAAFWH/2gAMAwEAAhEDEQA/AMxbS2oLFlhDC+6pfbRBYEMDqn//2Q=="
 )
 
-PROGRAMS = {"exiftool": "libimage-exiftool-perl", "exiv2": "exiv2", "convert": "imagemagick", "chromium": "chromium",
-            "parallel": "parallel", "sqlite3": "sqlite3", "perl": "perl"}  # fmt: skip
+PROGRAMS = {
+    "exiftool": "libimage-exiftool-perl",
+    "exiv2": "exiv2",
+    "convert": "imagemagick",
+    "chromium": "chromium",
+    "parallel": "parallel",
+    "sqlite3": "sqlite3",
+    "perl": "perl",
+}
 MODULES = {"piexif": "python3-piexif", "distributed": "python3-distributed", "PIL": "python3-pil", "rdflib": "python3-rdflib"}
 
 
@@ -40,7 +47,11 @@ def modules_of(python):
     """Those of MODULES that a Python has."""
     if python == sys.executable:
         return [it for it in MODULES if importlib.util.find_spec(it)]
-    return subprocess.run([python, "-c", ARE_THERE, *MODULES], stdout=subprocess.PIPE, text=True).stdout.split() if os.path.exists(python) else []
+    return (
+        subprocess.run([python, "-c", ARE_THERE, *MODULES], stdout=subprocess.PIPE, text=True).stdout.split()
+        if os.path.exists(python)
+        else []
+    )
 
 
 def interpreter_with(module):
@@ -111,8 +122,15 @@ def run(words, folder, given=None, seconds=120, **more):
     """Runs a command; words and folder may be bytes."""
     environment = Studio.environment(**more)
     found = shutil.which(os.fsdecode(words[0]), path=environment["PATH"]) or words[0]
-    return subprocess.run([found, *words[1:]], cwd=folder, input=given, capture_output=True, timeout=seconds, env=environment,
-                          stdin=subprocess.DEVNULL if given is None else None)  # fmt: skip
+    return subprocess.run(
+        [found, *words[1:]],
+        cwd=folder,
+        input=given,
+        capture_output=True,
+        timeout=seconds,
+        env=environment,
+        stdin=subprocess.DEVNULL if given is None else None,
+    )
 
 
 def write(path, octets):
@@ -149,8 +167,17 @@ def make_collection(folder):
     first = jpeg(pictures, "first.jpg")
     small = jpeg(folder, "small.jpg", "40x30")
     fields = ["-ExifByteOrder=II", "-Make=Leica", "-Artist=Zürich", "-UserComment=a comment", "-IPTC:Keywords=one", "-IPTC:Keywords=two"]
-    tool(folder, "exiftool", "-q", "-overwrite_original", *fields, "-IPTC:CodedCharacterSet=UTF8",
-         "-IPTC:Caption-Abstract=Zürich", f"-ThumbnailImage<={small}", first)  # fmt: skip
+    tool(
+        folder,
+        "exiftool",
+        "-q",
+        "-overwrite_original",
+        *fields,
+        "-IPTC:CodedCharacterSet=UTF8",
+        "-IPTC:Caption-Abstract=Zürich",
+        f"-ThumbnailImage<={small}",
+        first,
+    )
     shutil.copy(first, os.path.join(pictures, "sub", "copy.jpg"))
     turned = os.path.join(pictures, "turned.jpg")  # the same meaning in other bytes
     shutil.copy(first, turned)
@@ -171,8 +198,17 @@ def make_collection(folder):
 
 def small_tiff():
     """One grey point."""
-    values = [(0x100, 4, 1), (0x101, 4, 1), (0x102, 3, 8 << 16), (0x103, 3, 1 << 16), (0x106, 3, 1 << 16), (0x111, 4, 8),
-              (0x115, 3, 1 << 16), (0x116, 4, 1), (0x117, 4, 1)]  # fmt: skip
+    values = [
+        (0x100, 4, 1),
+        (0x101, 4, 1),
+        (0x102, 3, 8 << 16),
+        (0x103, 3, 1 << 16),
+        (0x106, 3, 1 << 16),
+        (0x111, 4, 8),
+        (0x115, 3, 1 << 16),
+        (0x116, 4, 1),
+        (0x117, 4, 1),
+    ]
     table = struct.pack(">H", len(values)) + b"".join(struct.pack(">HHII", tag, kind, 1, value) for tag, kind, value in values)
     return b"MM\0*\0\0\0\x0a\x80\0" + table + bytes(4)
 

@@ -71,8 +71,17 @@ def run(folder, *words, code="", **variables):
         os.dup2(writing, 3)
 
     try:
-        done = subprocess.run([sys.executable, "-c", code + CALL, *words], cwd=folder, stdin=subprocess.DEVNULL, capture_output=True, timeout=300,
-                              preexec_fn=begin, close_fds=True, pass_fds=(3,), env=Studio.environment(EXIFNORM_DEBUG="", **variables))  # fmt: skip
+        done = subprocess.run(
+            [sys.executable, "-c", code + CALL, *words],
+            cwd=folder,
+            stdin=subprocess.DEVNULL,
+            capture_output=True,
+            timeout=300,
+            preexec_fn=begin,
+            close_fds=True,
+            pass_fds=(3,),
+            env=Studio.environment(EXIFNORM_DEBUG="", **variables),
+        )
     finally:
         os.close(writing)
         with os.fdopen(reading, "rb") as used:
@@ -119,8 +128,11 @@ class TestCurrentFolder:
     @pytest.mark.parametrize("path", (":/x", ".", "../{name}:/x", "/x::/y", ""))
     def test_the_installed_command(self, folder, path):
         command = folder / "bin" / "exifnorm-pictures"
-        script = subprocess.run([sys.executable, os.path.join(TOP, "packaging", "command.py"), command.parent, os.path.join(TOP, "python")],
-                                stdout=subprocess.PIPE, check=True).stdout  # fmt: skip
+        script = subprocess.run(
+            [sys.executable, os.path.join(TOP, "packaging", "command.py"), command.parent, os.path.join(TOP, "python")],
+            stdout=subprocess.PIPE,
+            check=True,
+        ).stdout
         write(command, script)
         os.chmod(command, 0o755)
         (folder / "exifnorm_pictures").mkdir()
@@ -136,16 +148,22 @@ class TestCurrentFolder:
         self.see_that_it_runs([sys.executable, "bin/script"], folder, os.pathsep.join((python, path)))
 
     def see_that_it_runs(self, command, folder, path):
-        done = subprocess.run([*command, "same", "--catalogue", "nothing"], cwd=folder, capture_output=True,
-                              env={**Studio.environment(), "PYTHONPATH": path})  # fmt: skip
+        done = subprocess.run(
+            [*command, "same", "--catalogue", "nothing"], cwd=folder, capture_output=True, env={**Studio.environment(), "PYTHONPATH": path}
+        )
         assert (done.returncode, done.stderr) == (4, b"exifnorm-pictures: there is no catalogue nothing\n"), done
 
 
 COMMANDS = (
-    ["same", "--catalogue", "c"], ["changed", "c", "c"], ["changed", "good", "c"], ["report", "--catalogue", "c", "--html", "page"],
-    ["report", "--catalogue", "c", "--json"], ["merge", "c", "--catalogue", "into"], ["index", "p", "--catalogue", "c", "--quiet"],
+    ["same", "--catalogue", "c"],
+    ["changed", "c", "c"],
+    ["changed", "good", "c"],
+    ["report", "--catalogue", "c", "--html", "page"],
+    ["report", "--catalogue", "c", "--json"],
+    ["merge", "c", "--catalogue", "into"],
+    ["index", "p", "--catalogue", "c", "--quiet"],
     ["forget", "p", "--catalogue", "c"],
-)  # fmt: skip
+)
 # What nothing printed may have: control characters but the end of a line, and marks that turn the direction of a text
 RAW = re.compile("[\0-\x09\x0b-\x1f\x7f-\x9f\u2028\u2029\u202a-\u202e\u2066-\u2069\udc80-\udcff]")
 NASTY = "x\x1b[2J\x9b31m\u202etxt\u2066\r\nfalse line"
@@ -294,8 +312,14 @@ def test_a_picture_that_became_a_pipe(archive):
     run(archive, "report", "--catalogue", "c", "--html", "page").check(0, 1, 2)
     run(archive, "same", "--catalogue", "c").check(0, 1, 2)
     for device in ("/dev/zero", "p/a.jpg", "p"):
-        for words in (["show", device], ["explain", device], ["captions", device], ["mend", device, "out"], ["show", "--block", device],
-                      ["index", device, "--catalogue", "new", "--quiet"]):  # fmt: skip
+        for words in (
+            ["show", device],
+            ["explain", device],
+            ["captions", device],
+            ["mend", device, "out"],
+            ["show", "--block", device],
+            ["index", device, "--catalogue", "new", "--quiet"],
+        ):
             if words[0] in ("captions", "index") and device == "p":  # which read folders
                 continue
             ended = run(archive, *words).check(2)
@@ -307,7 +331,12 @@ def test_a_picture_that_became_a_pipe(archive):
 def test_a_catalogue_that_names_devices(name, archive):
     with sqlite3.connect(archive / "c") as base:
         base.execute("UPDATE pictures SET path = ? WHERE id = 1", (name.encode(),))
-    for words in (["report", "--catalogue", "c", "--html", "page"], ["same", "--catalogue", "c"], ["changed", "good", "c"], ["changed", "c", "good"]):
+    for words in (
+        ["report", "--catalogue", "c", "--html", "page"],
+        ["same", "--catalogue", "c"],
+        ["changed", "good", "c"],
+        ["changed", "c", "good"],
+    ):
         no_control(run(archive, *words).check(0, 1, 2))
 
 
@@ -318,7 +347,7 @@ def test_no_further_thread_or_process(what, tmp_path):
     for number in range(150):
         write(tmp_path / "p" / f"{number}.jpg", jpeg(app1(exif(b"%03d" % number))))
     module = what.partition(".")[0]
-    code = f"import {module}\ndef refused(*_, **__): raise RuntimeError(\"can't start new thread\")\n{what} = refused\n"
+    code = f'import {module}\ndef refused(*_, **__): raise RuntimeError("can\'t start new thread")\n{what} = refused\n'
     ended = run(tmp_path, "index", "p", "--catalogue", "c", "--quiet", "--jobs", "2", code=code).check(0)
     assert ended.out == "150 accepted\n"
     assert "one process looks at the pictures" in ended.err
@@ -329,7 +358,17 @@ def test_fields_that_inflate(archive):
     base = sqlite3.connect(archive / "c")
     packing = zlib.compressobj(9)
     zeros = b"".join(packing.compress(bytes(1 << 20)) for _ in range(400)) + packing.flush()
-    for fields in (zeros, zlib.compress(b"[" * 8_000_000), b'[["main","010f","ASCII","4","x"]]', b'[["main",1,"ASCII",4,null]]', b"{}", b"[[]]", b"[1]", b"\xff", 7):
+    for fields in (
+        zeros,
+        zlib.compress(b"[" * 8_000_000),
+        b'[["main","010f","ASCII","4","x"]]',
+        b'[["main",1,"ASCII",4,null]]',
+        b"{}",
+        b"[[]]",
+        b"[1]",
+        b"\xff",
+        7,
+    ):
         with base:
             base.execute("UPDATE pictures SET exif = 'x' || id, exif_octets = 'x' || id")
             base.execute("UPDATE blocks SET digest = 'x', fields = ? WHERE kind = 'exif'", (fields,))
@@ -342,15 +381,29 @@ def test_fields_that_inflate(archive):
 def test_texts_of_a_catalogue(archive):
     """Texts of a foreign catalogue are escaped, on the page too."""
     with sqlite3.connect(archive / "c") as base:
-        for table, column in (("pictures", "detail"), ("pictures", "type"), ("blocks", "name"), ("blocks", "source"), ("blocks", "cause"), ("runs", "exifnorm")):
+        for table, column in (
+            ("pictures", "detail"),
+            ("pictures", "type"),
+            ("blocks", "name"),
+            ("blocks", "source"),
+            ("blocks", "cause"),
+            ("runs", "exifnorm"),
+        ):
             base.execute(f"UPDATE {table} SET {column} = ?", (NASTY,))
         base.execute("INSERT INTO not_read SELECT id, 7, ?, '' FROM pictures", (NASTY,))
         base.execute("UPDATE pictures SET not_read = 'x', exif = 'y'")
         base.execute("UPDATE pictures SET problem = ? WHERE id = 3", (NASTY,))
         fields = json.dumps([["main", NASTY, "ASCII", 4, NASTY], [NASTY, "010f", NASTY, 4, NASTY]]).encode()
         base.execute("UPDATE blocks SET fields = ?, digest = 'x'", (fields,))
-    for words in (["same"], ["changed", "good", "c", "--all"], ["changed", "c", "good", "--all"], ["report", "--html", "page"], ["report", "--html", "page", "--since", "good"],
-                  ["index", "p"], ["forget", "p"]):  # fmt: skip
+    for words in (
+        ["same"],
+        ["changed", "good", "c", "--all"],
+        ["changed", "c", "good", "--all"],
+        ["report", "--html", "page"],
+        ["report", "--html", "page", "--since", "good"],
+        ["index", "p"],
+        ["forget", "p"],
+    ):
         more = [] if words[0] == "changed" else ["--catalogue", "c"]
         no_control(run(archive, *words, *more).check(0, 1, 2, 4))
         if (archive / "page").exists():
@@ -362,17 +415,41 @@ def test_names_in_messages(archive):
     (archive / "folder\n\x1b[2J").mkdir()
     write(archive / "p" / "x\x9b\n.jpg", b"no picture")
     for name in (NASTY, "folder\n\x1b[2J"):
-        for words in (["same", "--catalogue", name], ["index", "p", "--catalogue", name + "/c"], ["changed", name, "c"], ["changed", "c", name],
-                      ["report", "--catalogue", "c", "--html", name + "/x"], ["same", "--catalogue", "c", "--files-from", name], ["show", name],
-                      ["merge", name, "--catalogue", "c"], ["index", name, "--catalogue", "c"], ["mend", name, name], ["forget", name, "--catalogue", "c"],
-                      ["index", "p", "--catalogue", "c", "--keep-old", name + "/x"], [name], ["same", f"--{name}"], ["show", "--block", name]):  # fmt: skip
+        for words in (
+            ["same", "--catalogue", name],
+            ["index", "p", "--catalogue", name + "/c"],
+            ["changed", name, "c"],
+            ["changed", "c", name],
+            ["report", "--catalogue", "c", "--html", name + "/x"],
+            ["same", "--catalogue", "c", "--files-from", name],
+            ["show", name],
+            ["merge", name, "--catalogue", "c"],
+            ["index", name, "--catalogue", "c"],
+            ["mend", name, name],
+            ["forget", name, "--catalogue", "c"],
+            ["index", "p", "--catalogue", "c", "--keep-old", name + "/x"],
+            [name],
+            ["same", f"--{name}"],
+            ["show", "--block", name],
+        ):
             no_control(run(archive, *words).check(0, 1, 2, 3, 4))
 
 
 @pytest.mark.skipif(not shutil.which("exiftool"), reason="not installed: exiftool (package libimage-exiftool-perl)")
 def test_what_mend_prints(archive):
     """Texts of a picture that ExifTool prints."""
-    subprocess.run(["exiftool", "-q", "-overwrite_original", f"-Artist={NASTY}", f"-XMP-dc:Title={NASTY}", f"-IPTC:Keywords={NASTY}", archive / "p" / "a.jpg"], check=True)
+    subprocess.run(
+        [
+            "exiftool",
+            "-q",
+            "-overwrite_original",
+            f"-Artist={NASTY}",
+            f"-XMP-dc:Title={NASTY}",
+            f"-IPTC:Keywords={NASTY}",
+            archive / "p" / "a.jpg",
+        ],
+        check=True,
+    )
     octets = (archive / "p" / "a.jpg").read_bytes()
     at = octets.index(b"Exif\0\0") + 6
     write(archive / "bad.jpg", octets[: at + 4] + b"\0\0\0\x09" + octets[at + 8 :])

@@ -101,9 +101,19 @@ def test_limits_are_those_of_iim(checks):
 @needs("exiftool")
 def test_dates_as_exiftool_writes_them(captions, folder):
     (folder / "a.jpg").write_bytes(SMALL_JPEG)
-    tool(folder, "exiftool", "-q", "-overwrite_original", "-SubSecTimeOriginal=25", "-DateTimeOriginal=2003:05:24 22:21:01",
-         "-OffsetTimeOriginal=+02:00", "-IPTC:DateCreated=2003:05:24", "-IPTC:TimeCreated=22:21:01+02:00",
-         "-XMP-photoshop:DateCreated=2003:05:24 22:21:01+02:00", "a.jpg")  # fmt: skip
+    tool(
+        folder,
+        "exiftool",
+        "-q",
+        "-overwrite_original",
+        "-SubSecTimeOriginal=25",
+        "-DateTimeOriginal=2003:05:24 22:21:01",
+        "-OffsetTimeOriginal=+02:00",
+        "-IPTC:DateCreated=2003:05:24",
+        "-IPTC:TimeCreated=22:21:01+02:00",
+        "-XMP-photoshop:DateCreated=2003:05:24 22:21:01+02:00",
+        "a.jpg",
+    )
     _, out = captions("--json", "a.jpg")
     found = {it["field"]: it["texts"] for it in json.loads(out)["captions"]}
     assert found == {

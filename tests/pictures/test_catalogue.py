@@ -61,7 +61,9 @@ class Archive(InFolder):
         self.run_again("--again", TZ="Asia/Tokyo")
         after = time.strftime("%Y-%m-%dT%H:%M:%SZ", time.gmtime())
         base = sqlite3.connect(self.path("c"))
-        (first, *_), (started, ended, library, exiftool, exiv2) = base.execute("SELECT started, ended, exifnorm, exiftool, exiv2 FROM runs ORDER BY id")
+        (first, *_), (started, ended, library, exiftool, exiv2) = base.execute(
+            "SELECT started, ended, exifnorm, exiftool, exiv2 FROM runs ORDER BY id"
+        )
         base.close()
         moments = [first, before, started, ended, after]
         self.assertEqual(moments, sorted(moments))
@@ -172,7 +174,9 @@ class Archive(InFolder):
     def test_a_folder_that_is_gone_and_back(self):
         os.rename(self.path("p"), self.path("away"))
         lines = self.asked("index", "p", "--catalogue", "c", "--quiet", status=2)
-        self.assertEqual((lines[0].startswith(f"{self.path('p')}: Unreadable: "), " 4 " in lines[0], lines[1:]), (True, True, ["1 Unreadable"]), lines)
+        self.assertEqual(
+            (lines[0].startswith(f"{self.path('p')}: Unreadable: "), " 4 " in lines[0], lines[1:]), (True, True, ["1 Unreadable"]), lines
+        )
         self.assertEqual(self.changed_rows(), {})
         os.rename(self.path("away"), self.path("p"))
         self.assertEqual(self.run_again(), ({}, {"unchanged": 4}))
@@ -234,8 +238,9 @@ class Archive(InFolder):
         write(self.path("p", "trailer.jpg"), ONE + b"a trailer")
         shutil.copy(self.path("c"), self.path("d"))
         self.rows_by_path("c")
-        one, several = (self.asked("index", "p", "--catalogue", name, "--quiet", "--again", "--jobs", jobs)
-                        for name, jobs in (("c", "1"), ("d", "3")))  # fmt: skip
+        one, several = (
+            self.asked("index", "p", "--catalogue", name, "--quiet", "--again", "--jobs", jobs) for name, jobs in (("c", "1"), ("d", "3"))
+        )
         self.assertEqual(one, several)
         self.assertEqual(sum("Moved: to " in it for it in one), 3)
         self.assertEqual([it.split() for it in one[-3:-1]][1], ["1", "trailer"])
@@ -245,8 +250,10 @@ class Archive(InFolder):
         base = sqlite3.connect(self.path("d"))
         self.assertEqual(base.execute(query, (os.fsencode(self.path("p", "never.jpg")),)).fetchone(), (None,) * 4, "nothing is known")
         base.close()
-        again, of_several = (self.asked("index", "p", "--catalogue", name, "--quiet", "--json", "--again", "--jobs", jobs)
-                             for name, jobs in (("c", "1"), ("d", "3")))  # fmt: skip
+        again, of_several = (
+            self.asked("index", "p", "--catalogue", name, "--quiet", "--json", "--again", "--jobs", jobs)
+            for name, jobs in (("c", "1"), ("d", "3"))
+        )
         self.assertEqual(again, of_several)
 
     def rows_by_path(self, name):
@@ -383,8 +390,14 @@ class Rights(WithPictures):
         self.assertEqual(done.returncode, 2, done)
         *found, counts = [json.loads(it) for it in done.stdout.splitlines()]
         said = {os.path.basename(it["path"]): (it["problem"], it["detail"]) for it in found}
-        self.assertEqual(said, {"b.jpg": ("Unreadable", "permission denied"), "d.jpg": ("Vanished", PROBLEMS["Vanished"]),
-                                "closed": ("Unreadable", "permission denied; its 1 pictures stay as they were")})  # fmt: skip
+        self.assertEqual(
+            said,
+            {
+                "b.jpg": ("Unreadable", "permission denied"),
+                "d.jpg": ("Vanished", PROBLEMS["Vanished"]),
+                "closed": ("Unreadable", "permission denied; its 1 pictures stay as they were"),
+            },
+        )
         self.assertEqual(counts["counts"], {"unchanged": 1, "Unreadable": 2, "Vanished": 1})
         base = sqlite3.connect(self.path("c"))
         kept = base.execute("SELECT problem FROM pictures WHERE CAST(path AS TEXT) LIKE '%c.jpg'").fetchall()
@@ -463,10 +476,12 @@ class Kinds(InFolder):
         one, other = (jpeg(app1(exif(make)), app13(resource(0x0404, iim(word))), app1_xmp(title(german))) for make, word, german in texts)
         found = self.compared(one, other)
         self.assertEqual(found["kinds"], dict.fromkeys(("exif", "iptc", "xmp"), "different"))
-        self.assertCountEqual([(it["before"], it["after"]) for it in found["fields"]], [('"Abc"', '"Xyz"'), ('"one"', '"two"'), ('"eins"', '"zwei"')])
+        self.assertCountEqual(
+            [(it["before"], it["after"]) for it in found["fields"]], [('"Abc"', '"Xyz"'), ('"one"', '"two"'), ('"eins"', '"zwei"')]
+        )
 
     def test_fields_of_a_second_block(self):
-        one, other = (SMALL_JPEG[:2] + with_exif(SMALL_JPEG, block([MAKE]))[2:-len(SMALL_JPEG) + 2] + it[2:] for it in (ONE, OTHER))
+        one, other = (SMALL_JPEG[:2] + with_exif(SMALL_JPEG, block([MAKE]))[2 : -len(SMALL_JPEG) + 2] + it[2:] for it in (ONE, OTHER))
         found = self.compared(one, other)
         self.assertEqual(found["fields"], [{"name": "second Exif: main:Make", "before": '"One"', "after": '"Two"'}])
 
@@ -508,7 +523,9 @@ class Kinds(InFolder):
                 write(self.path(side, f"{number:02}.jpg"), with_exif(SMALL_JPEG, block([MAKE[:-4] + artist])))
             write(self.path(side, "other.jpg"), with_exif(SMALL_JPEG, block([MAKE, MODEL[:-4] + artist])))
         lines = self.asked("changed", "before", "after", status=1)
-        self.assertEqual(lines[:2], ["12 pictures: different (Exif is different, no IPTC and no XMP)", '  ~ main:Make: "Old" -> "New" in 12 pictures'])
+        self.assertEqual(
+            lines[:2], ["12 pictures: different (Exif is different, no IPTC and no XMP)", '  ~ main:Make: "Old" -> "New" in 12 pictures']
+        )
         self.assertEqual([it.strip() for it in lines[2:14]], [f"{number:02}.jpg" for number in range(12)])
         self.assertEqual(lines[14].split(":")[0], "other.jpg")
         self.assertEqual(lines[-1], "13 different")

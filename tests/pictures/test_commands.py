@@ -55,7 +55,9 @@ class Index(WithPictures):
         self.assertEqual(told[-1]["counts"]["Vanished"], 1)
         changed = self.asked("changed", "old", "c", status=1)
         self.assertEqual(changed[0], "bare.jpg: missing after")
-        self.assertEqual(changed[1:3], ["first.jpg: different (IPTC is the same, Exif is different, no XMP)", '  ~ main:Artist: "Zürich" -> "Other"'])
+        self.assertEqual(
+            changed[1:3], ["first.jpg: different (IPTC is the same, Exif is different, no XMP)", '  ~ main:Artist: "Zürich" -> "Other"']
+        )
         self.assertEqual(changed[3], "new.jpg: missing before")
 
     def test_names_from_standard_input(self):
@@ -103,7 +105,7 @@ class ShowAndCaptions(WithPictures):
         lines = [it.split(None, 2) for it in self.asked("show", "picture.jpg")]
         self.assertIn(["013b", "Artist", 'ascii[8]       "Zürich"'], lines)
         self.assertIn(["2:25", "Keywords", 'octets[3]      "one"'], lines)
-        self.assertIn("ascii \"a comment\"", "\n".join(self.asked("show", "picture.jpg")))
+        self.assertIn('ascii "a comment"', "\n".join(self.asked("show", "picture.jpg")))
         thumbnail = [it for it in lines if it[0] == "jpeg"]
         self.assertRegex(thumbnail[0][2], r"thumbnail +octets\[\d+\] +sha256:[0-9a-f]{12}$")
 
@@ -111,7 +113,9 @@ class ShowAndCaptions(WithPictures):
         self.copied(collection())
         (found,) = (json.loads(it) for it in self.asked("captions", "--json", "picture.jpg"))
         texts = {it["field"]: it["texts"] for it in found["captions"]}
-        self.assertEqual([texts[it] for it in ("IFD0:Artist", "IPTC:Caption-Abstract", "IPTC:Keywords")], [["Zürich"], ["Zürich"], ["one", "two"]])
+        self.assertEqual(
+            [texts[it] for it in ("IFD0:Artist", "IPTC:Caption-Abstract", "IPTC:Keywords")], [["Zürich"], ["Zürich"], ["one", "two"]]
+        )
 
     @needs("exiv2")
     def test_tiff(self):
@@ -211,8 +215,14 @@ class Mend(InFolder):
 
 class Words(WithPictures):
     def test_refused_arguments(self):
-        for words, wrong in (((), "are required: COMMAND"), (("nothing",), "COMMAND: invalid choice: 'nothing'"), (("index",), "are required: --catalogue"),
-                             (("show",), ": show: "), (("report", "--catalogue", "c"), ": report: "), (("mend", "a"), ": mend: ")):  # fmt: skip
+        for words, wrong in (
+            ((), "are required: COMMAND"),
+            (("nothing",), "COMMAND: invalid choice: 'nothing'"),
+            (("index",), "are required: --catalogue"),
+            (("show",), ": show: "),
+            (("report", "--catalogue", "c"), ": report: "),
+            (("mend", "a"), ": mend: "),
+        ):
             with self.subTest(words):
                 self.asked(*words, status=3)
                 self.assertIn("usage:", self.complaint)
@@ -231,7 +241,9 @@ class Words(WithPictures):
         environment = {**Studio.environment(), "PATH": self.path("bin")}
 
         def asked(*words):
-            return subprocess.run([sys.executable, "-m", "exifnorm_pictures", *words], cwd=self.folder, capture_output=True, env=environment)
+            return subprocess.run(
+                [sys.executable, "-m", "exifnorm_pictures", *words], cwd=self.folder, capture_output=True, env=environment
+            )
 
         return asked
 

@@ -232,8 +232,21 @@ def test_compare_on_folders_and_catalogues_names_changed(run, folder):
 @needs("exiftool")
 def test_an_edit_by_exiftool(run, folder):
     (folder / "a.jpg").write_bytes(PLAIN)
-    tool(folder, "exiftool", "-q", "-o", "b.jpg", "-Artist=Otto", "-GPSLatitude=47.5596", "-GPSLatitudeRef=N", "-GPSLongitude=7.5886",
-         "-GPSLongitudeRef=E", "-XMP-dc:Title=Krug", "-DateTimeOriginal=2003:05:24 23:21:01", "a.jpg")  # fmt: skip
+    tool(
+        folder,
+        "exiftool",
+        "-q",
+        "-o",
+        "b.jpg",
+        "-Artist=Otto",
+        "-GPSLatitude=47.5596",
+        "-GPSLatitudeRef=N",
+        "-GPSLongitude=7.5886",
+        "-GPSLongitudeRef=E",
+        "-XMP-dc:Title=Krug",
+        "-DateTimeOriginal=2003:05:24 23:21:01",
+        "a.jpg",
+    )
     status, out, _ = run("compare", "a.jpg", "b.jpg", "--json")
     found = rows(json.loads(out))
     assert status == 1

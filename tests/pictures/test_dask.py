@@ -49,13 +49,31 @@ class Cluster(WithPictures):
     def cluster(self, **more):
         """The address of a new cluster, whose scheduler drops a picture at which one worker died."""
         told = self.path("scheduler.json")
-        self.started("distributed.cli.dask_scheduler", "--host", "127.0.0.1", "--port", "0", "--no-dashboard", "--scheduler-file", told,
-                     DASK_DISTRIBUTED__SCHEDULER__ALLOWED_FAILURES=more.pop("failures", "3"))  # fmt: skip
+        self.started(
+            "distributed.cli.dask_scheduler",
+            "--host",
+            "127.0.0.1",
+            "--port",
+            "0",
+            "--no-dashboard",
+            "--scheduler-file",
+            told,
+            DASK_DISTRIBUTED__SCHEDULER__ALLOWED_FAILURES=more.pop("failures", "3"),
+        )
         ends = time.monotonic() + PATIENCE
         while not self.is_written(told) and time.monotonic() < ends:
             time.sleep(0.1)
-        self.started("distributed.cli.dask_worker", "--scheduler-file", told, "--nthreads", "2", "--no-dashboard",
-                     "--local-directory", self.path("worker"), **more)  # fmt: skip
+        self.started(
+            "distributed.cli.dask_worker",
+            "--scheduler-file",
+            told,
+            "--nthreads",
+            "2",
+            "--no-dashboard",
+            "--local-directory",
+            self.path("worker"),
+            **more,
+        )
         with open(told) as file:
             return json.load(file)["address"]
 
@@ -92,7 +110,9 @@ class Cluster(WithPictures):
     def test_a_picture_that_kills_workers_is_a_line(self):
         write(self.path("p", "a.gif"), GIF)
         lines = self.index("p", "--scheduler", self.cluster(PATH=self.deadly("true"), failures="0"), status=2)
-        self.assertEqual(lines, [f"{self.path('p', 'a.gif')}: ToolFailed: the workers that looked at it died", "150 accepted, 1 ToolFailed"])
+        self.assertEqual(
+            lines, [f"{self.path('p', 'a.gif')}: ToolFailed: the workers that looked at it died", "150 accepted, 1 ToolFailed"]
+        )
 
     def test_another_path_of_the_folder_on_the_workers(self):
         os.rename(self.path("p"), self.path("there"))
@@ -109,12 +129,33 @@ class Cluster(WithPictures):
         self.assertEqual(self.index("p")[-1], "150 unchanged, 1 Vanished")
 
     def test_what_is_wrong_is_an_error(self):
-        done = run([self.python, "-m", "exifnorm_pictures", "index", "p", "--catalogue", "c", "--scheduler", "tcp://127.0.0.1:9",
-                    "--limit", "1"], self.folder)  # fmt: skip
+        done = run(
+            [self.python, "-m", "exifnorm_pictures", "index", "p", "--catalogue", "c", "--scheduler", "tcp://127.0.0.1:9", "--limit", "1"],
+            self.folder,
+        )
         self.assertEqual((done.returncode, len(done.stderr.splitlines())), (4, 1), done)
-        done = run([self.python, "-m", "exifnorm_pictures", "index", "p", "there", "--catalogue", "c", "--scheduler", "tcp://127.0.0.1:9",
-                    "--limit", "1", "--elsewhere", "/x"], self.folder)  # fmt: skip
-        self.assertEqual((done.returncode, done.stderr), (4, b"exifnorm-pictures: --elsewhere is the path of one folder: give one FOLDER\n"))
+        done = run(
+            [
+                self.python,
+                "-m",
+                "exifnorm_pictures",
+                "index",
+                "p",
+                "there",
+                "--catalogue",
+                "c",
+                "--scheduler",
+                "tcp://127.0.0.1:9",
+                "--limit",
+                "1",
+                "--elsewhere",
+                "/x",
+            ],
+            self.folder,
+        )
+        self.assertEqual(
+            (done.returncode, done.stderr), (4, b"exifnorm-pictures: --elsewhere is the path of one folder: give one FOLDER\n")
+        )
 
 
 FAR = "tcp://127.0.0.1:9"
@@ -188,9 +229,9 @@ class Tasks(unittest.TestCase):
 
     def looked(self, near, work, elsewhere=None, seconds=60.0):
         """The results for some files, each looked at as if it were a GIF."""
-        with mock.patch.multiple(cluster, create=True, distributed=near, KilledWorker=Killed, CommClosedError=Closed), \
-             mock.patch.object(cluster.workers, "look", lambda it, whole: PictureRecord(it.path, it.root, it.stamp, "GIF" if whole else "JPEG")), \
-             mock.patch.object(cluster.programs, "set_limit") as limit:  # fmt: skip
+        with mock.patch.multiple(cluster, create=True, distributed=near, KilledWorker=Killed, CommClosedError=Closed), mock.patch.object(
+            cluster.workers, "look", lambda it, whole: PictureRecord(it.path, it.root, it.stamp, "GIF" if whole else "JPEG")
+        ), mock.patch.object(cluster.programs, "set_limit") as limit:
             looker = cluster.looker(FAR, elsewhere, [b"/"])
             result = list(looker(work, How(seconds=seconds, room="/tmp/room", whole=True)))
         self.limits = limit.mock_calls
@@ -203,8 +244,16 @@ class Tasks(unittest.TestCase):
         self.assertEqual(near.calls[0], (FAR, 60.0))
         heads = [(root, len(names), names[0], names[-1], *more) for root, names, *more in near.calls[1:-1]]
         rest = ["", 60.0, False, 2]
-        self.assertEqual(heads, [(b"/p", 64, b"0", b"63", *rest), (b"/p", 64, b"64", b"127", *rest), (b"/p", 2, b"128", b"129", *rest),
-                                 (b"/q", 1, b"x", b"x", *rest), (b"/p", 1, b"s/y", b"s/y", *rest)])  # fmt: skip
+        self.assertEqual(
+            heads,
+            [
+                (b"/p", 64, b"0", b"63", *rest),
+                (b"/p", 64, b"64", b"127", *rest),
+                (b"/p", 2, b"128", b"129", *rest),
+                (b"/q", 1, b"x", b"x", *rest),
+                (b"/p", 1, b"s/y", b"s/y", *rest),
+            ],
+        )
         self.assertEqual(near.calls[-1], "closed")
         self.assertEqual(near.waits, [(number, 2.0, "FIRST_COMPLETED") for number in (5, 4, 3, 2, 1)])
         self.assertEqual(self.limits, [mock.call(60.0)] * 5)
@@ -218,15 +267,27 @@ class Tasks(unittest.TestCase):
             near = Near()
             result = self.looked(near, [found(b"a", size=4), found(b"b"), found(b"a", size=5)], folder, 0.5)
         self.assertEqual(near.calls, [(FAR, 1.0), (os.fsencode(folder), [b"a", b"b", b"a"], "", 0.5, False, 2), "closed"])
-        self.assertEqual(result, [entry(found(b"a", size=4), type="GIF"), PictureRecord(b"/p/b", b"/p", None, "GIF"), PictureRecord(b"/p/a", b"/p", None, "GIF")])
+        self.assertEqual(
+            result,
+            [
+                entry(found(b"a", size=4), type="GIF"),
+                PictureRecord(b"/p/b", b"/p", None, "GIF"),
+                PictureRecord(b"/p/a", b"/p", None, "GIF"),
+            ],
+        )
 
     def test_results_of_workers(self):
         work = [found(b"a"), found(b"b"), found(b"c")]
-        outcome = [PictureRecord(b"/there/a", b"/there", None, problem="Vanished", detail="gone"), PictureRecord(b"/there/b", b"/there", Stamp(1, 9, 9, 9), "PNG"),
-                   PictureRecord(b"/there/c", b"/there", Stamp(2, 2, 3, 4), problem="NoPicture", detail="no")]  # fmt: skip
+        outcome = [
+            PictureRecord(b"/there/a", b"/there", None, problem="Vanished", detail="gone"),
+            PictureRecord(b"/there/b", b"/there", Stamp(1, 9, 9, 9), "PNG"),
+            PictureRecord(b"/there/c", b"/there", Stamp(2, 2, 3, 4), problem="NoPicture", detail="no"),
+        ]
         missing = PictureRecord(b"/p/a", b"/p", None, problem="Unreadable", detail="the worker has no such file: '/there/a'")
-        self.assertEqual(self.looked(Near([outcome]), work),
-                         [missing, entry(work[1], type="PNG"), PictureRecord(b"/p/c", b"/p", None, problem="NoPicture", detail="no")])  # fmt: skip
+        self.assertEqual(
+            self.looked(Near([outcome]), work),
+            [missing, entry(work[1], type="PNG"), PictureRecord(b"/p/c", b"/p", None, problem="NoPicture", detail="no")],
+        )
         why = "the worker failed: ValueError: no package"
         self.assertEqual(self.looked(Near([ValueError("no package")]), work), [entry(it, problem="ToolFailed", detail=why) for it in work])
 
@@ -236,7 +297,9 @@ class Tasks(unittest.TestCase):
         near = Near([Killed(), Killed(), Killed()])
         result = self.looked(near, work)
         died = "the workers that looked at it died"
-        self.assertEqual(result[:2], [entry(work[64], problem="ToolFailed", detail=died), entry(work[63], problem="ToolFailed", detail=died)])
+        self.assertEqual(
+            result[:2], [entry(work[64], problem="ToolFailed", detail=died), entry(work[63], problem="ToolFailed", detail=died)]
+        )
         self.assertEqual([it.path for it in result[2:]], [it.path for it in work[62::-1]])
         self.assertEqual([it.type for it in result[2:]], ["GIF"] * 63)
         self.assertEqual([it[0] for it in near.waits], [2] + [1] * 65)
@@ -260,7 +323,9 @@ class Tasks(unittest.TestCase):
 
     def test_what_is_missing(self):
         with mock.patch.object(cluster, "distributed", None):
-            with self.assertRaisesRegex(programs.Failed, "^--scheduler needs Dask's distributed. In Debian: apt-get install python3-distributed$"):
+            with self.assertRaisesRegex(
+                programs.Failed, "^--scheduler needs Dask's distributed. In Debian: apt-get install python3-distributed$"
+            ):
                 cluster.looker(FAR, None, [b"/"])
         with mock.patch.object(cluster, "distributed", Near()), tempfile.NamedTemporaryFile() as file:
             for names in ([b"/", b"/"], [], [os.fsencode(file.name)]):

@@ -102,8 +102,12 @@ class Documents(WithPictures):
         for number, line in enumerate(shown.splitlines()):
             if number == 1:
                 shutil.copy(self.path("after", "first.jpg"), self.path("archive", "first.jpg"))
-            ran = subprocess.run(["bash", "-o", "pipefail", "-c", line.replace("/archive", self.path("archive"))], cwd=self.folder,
-                                 capture_output=True, env=Studio.environment())  # fmt: skip
+            ran = subprocess.run(
+                ["bash", "-o", "pipefail", "-c", line.replace("/archive", self.path("archive"))],
+                cwd=self.folder,
+                capture_output=True,
+                env=Studio.environment(),
+            )
             self.assertEqual(ran.returncode, 1 if "pictures changed" in line else 0, (line, ran.stderr))
             printed.append(ran.stdout.decode())
         self.assertIn("main:Copyright", printed[2])
@@ -116,7 +120,9 @@ class Documents(WithPictures):
         one = exif(b"Abc")
         for name, octets in (("picture.jpg", jpeg(app1(one))), ("before", one), ("after", turned(one))):
             write(self.path(name), octets)
-        text = read(os.path.join(TOP, "docs", "exifnorm.1")).decode().partition(".SH EXAMPLES\n")[2].partition(".SH ")[0].replace("\\-", "-")
+        text = (
+            read(os.path.join(TOP, "docs", "exifnorm.1")).decode().partition(".SH EXAMPLES\n")[2].partition(".SH ")[0].replace("\\-", "-")
+        )
         lines = [it.strip() for it in text.splitlines() if it.startswith("    ")]
         printed = "".join(run(["bash", "-e", "-c", it], self.folder).stdout.decode() for it in lines)
         self.assertEqual(printed, f"exif\n[main]\n010f ASCII 4: 41626300\n{hashlib.sha256(one).hexdigest()}  -\nsame\nnothing changed\n")

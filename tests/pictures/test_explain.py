@@ -15,8 +15,18 @@ from exifnorm_pictures.extract.formats.found import EXIF, IPTC
 MAIN, GPS, THUMB = "main directory (0th IFD)", "GPS directory", "thumbnail directory (1st IFD)"
 
 # What else a file may be, by its first bytes
-BEGINNINGS = (b"", b"\xff\xd8\xff\xe0", b"\x89PNG\r\n", b"RIFF\0\0\0\0WEBP", b"8BIM\4\4", b"Photoshop 3.0\x008BIM", b"II+\0\x08\0", b"MM\0+\0\x08",
-              b"<x:xmpmeta", b"GIF89a\1\2\3\4")  # fmt: skip
+BEGINNINGS = (
+    b"",
+    b"\xff\xd8\xff\xe0",
+    b"\x89PNG\r\n",
+    b"RIFF\0\0\0\0WEBP",
+    b"8BIM\4\4",
+    b"Photoshop 3.0\x008BIM",
+    b"II+\0\x08\0",
+    b"MM\0+\0\x08",
+    b"<x:xmpmeta",
+    b"GIF89a\1\2\3\4",
+)
 # Records and offsets in them, which are at an end
 RECORDS = ((b"\x1c\x02\x19", 3), (b"\x1c\x02", 2), (b"\x1c\x02", 0), (b"\x1c\x03\x05", 0), (b"abc", 1), (b"x" * 1234 + b"\x1c\1\2", 1234))
 POINTER = struct.pack(">HHHII", 1, 0x8769, 4, 1, 70) + bytes(4)  # to a directory outside
@@ -50,18 +60,41 @@ class Explanations(unittest.TestCase):
             found = explain.explain(kind_of(octets), octets)
             writers = ["  Written by: " + "; ".join(f"{who} ({count})" for who, count in cause.writers) + "."] if cause.writers else []
             here = found.here
-            self.assertEqual(found.lines(), [
-                f"{kind_of(octets)}: refused: {name} at {place}", f"  {cause.sentence} {cause.meaning}", *(f"  {it}" for it in here),
-                *(f"    {it}" for it in shown), *writers, f"  Other readers: {cause.readers}", f"  Remedy: {cause.remedy}", f"  Cost: {cause.cost}",
-            ])  # fmt: skip
-            self.assertEqual(found.members(), {
-                "kind": kind_of(octets), "status": "refused", "cause": name, "place": place, "sentence": cause.sentence, "meaning": cause.meaning,
-                "here": here, "bytes": shown, "writers": [list(it) for it in cause.writers], "remedy": cause.remedy, "cost": cause.cost,
-            })  # fmt: skip
+            self.assertEqual(
+                found.lines(),
+                [
+                    f"{kind_of(octets)}: refused: {name} at {place}",
+                    f"  {cause.sentence} {cause.meaning}",
+                    *(f"  {it}" for it in here),
+                    *(f"    {it}" for it in shown),
+                    *writers,
+                    f"  Other readers: {cause.readers}",
+                    f"  Remedy: {cause.remedy}",
+                    f"  Cost: {cause.cost}",
+                ],
+            )
+            self.assertEqual(
+                found.members(),
+                {
+                    "kind": kind_of(octets),
+                    "status": "refused",
+                    "cause": name,
+                    "place": place,
+                    "sentence": cause.sentence,
+                    "meaning": cause.meaning,
+                    "here": here,
+                    "bytes": shown,
+                    "writers": [list(it) for it in cause.writers],
+                    "remedy": cause.remedy,
+                    "cost": cause.cost,
+                },
+            )
 
     def test_an_accepted_block(self):
         found = explain.explain(IPTC, b"\x1c\x02\x19\0\x03one")
-        self.assertEqual((found.lines(), found.members()), (["iim: ok iim"], {"kind": "iim", "status": "accepted", "cause": None, "place": None}))
+        self.assertEqual(
+            (found.lines(), found.members()), (["iim: ok iim"], {"kind": "iim", "status": "accepted", "cause": None, "place": None})
+        )
 
     def test_a_packet(self):
         found = explain.explain("xmp", b"<x:xmpmeta xmlns:x='adobe:ns:meta/'/>")
@@ -69,7 +102,10 @@ class Explanations(unittest.TestCase):
         line, remedy = (f"  {it}" for it in found.here)
         self.assertEqual(found.lines(), ["xmp: unreadable: NoRDF", line, remedy])
         remedy = remedy.partition("Remedy: ")[2]
-        self.assertEqual(found.members(), {"kind": "xmp", "status": "unreadable", "cause": "NoRDF", "place": None, "sentence": line.strip(), "remedy": remedy})
+        self.assertEqual(
+            found.members(),
+            {"kind": "xmp", "status": "unreadable", "cause": "NoRDF", "place": None, "sentence": line.strip(), "remedy": remedy},
+        )
 
     def test_what_is_at_an_offset(self):
         """Of each block, of what is no block, and at the ends of records and directories: in golden/explain-here.txt."""
@@ -122,8 +158,10 @@ class PartsOfBlocks(unittest.TestCase):
                 self.assertEqual([tuple(part) for part in it.parts], PARTS)
                 self.assertEqual((it.block, sorted(it.entries)), (octets, [10, 22, 34, 46, 64, 76, 94, 112, 124, 142, 154]))
                 entry = it.entries[22]
-                self.assertEqual((entry.number, entry.label, entry.form, entry.last, entry.size),
-                                 (2, f"Orientation (0112) of the {MAIN}", "SHORT, count 1", 6, 2))  # fmt: skip
+                self.assertEqual(
+                    (entry.number, entry.label, entry.form, entry.last, entry.size),
+                    (2, f"Orientation (0112) of the {MAIN}", "SHORT, count 1", 6, 2),
+                )
                 self.assertEqual([it.owners(part[3]) for part in PARTS], [None] * len(PARTS))
 
     def test_types(self):
@@ -139,7 +177,13 @@ class PartsOfBlocks(unittest.TestCase):
         """The number of a single SHORT is in the first two bytes (TIFF 6.0, section 2); otherwise all four bytes are one number."""
         for order in "<>":
             octets = (b"II*\0" if order == "<" else b"MM\0*") + struct.pack(order + "I", 8)
-            for kind, count, last, expected in ((3, 1, "HH", 6), (3, 2, "HH", 0x60007), (8, 1, "HH", 0x60007), (1, 4, "I", 0x1020304), (4, 1, "I", 0x1020304)):
+            for kind, count, last, expected in (
+                (3, 1, "HH", 6),
+                (3, 2, "HH", 0x60007),
+                (8, 1, "HH", 0x60007),
+                (1, 4, "I", 0x1020304),
+                (4, 1, "I", 0x1020304),
+            ):
                 numbers = [0x1020304] if last == "I" else [6, 7]
                 if order == "<" and last == "HH" and expected > 6:
                     numbers = [7, 6]  # the least significant first
@@ -160,14 +204,21 @@ class PartsOfBlocks(unittest.TestCase):
         for length in range(len(octets)):  # an entry that is cut is none
             self.assertEqual(sorted(layout.Layout(octets[:length]).entries), [it for it in entries if it + 12 <= length], length)
         it = layout.Layout(octets)
-        self.assertEqual([it.number(place, size) for place, size in ((0, 2), (4, 4), (214, 2), (215, 2), (212, 4), (213, 4), (-1, 2))],
-                         [0x4D4D, 8, 0xFFD9, None, 0xFFD8FFD9, None, None])  # fmt: skip
+        self.assertEqual(
+            [it.number(place, size) for place, size in ((0, 2), (4, 4), (214, 2), (215, 2), (212, 4), (213, 4), (-1, 2))],
+            [0x4D4D, 8, 0xFFD9, None, 0xFFD8FFD9, None, None],
+        )
 
     def test_a_directory_is_read_once(self):
         loop = b"MM\0*\0\0\0\x08" + directory(">", [(0x8769, 4, 1, 8), (0x8825, 4, 1, 8)], 8)
-        self.assertEqual([tuple(it) for it in layout.Layout(loop).parts], [(0, 8, "the header", 0), (8, 38, f"the table of the {MAIN} (2 entries)", 4)])
+        self.assertEqual(
+            [tuple(it) for it in layout.Layout(loop).parts], [(0, 8, "the header", 0), (8, 38, f"the table of the {MAIN} (2 entries)", 4)]
+        )
         doubled = b"MM\0*\0\0\0\x08" + directory(">", [(0x8825, 4, 1, 38), (0x8825, 4, 1, 8)]) + directory(">", [(0, 1, 4, 0)])
-        self.assertEqual([it[2:] for it in layout.Layout(doubled).parts[1:]], [(f"the table of the {MAIN} (2 entries)", 4), (f"the table of the {GPS} (1 entries)", 10)])
+        self.assertEqual(
+            [it[2:] for it in layout.Layout(doubled).parts[1:]],
+            [(f"the table of the {MAIN} (2 entries)", 4), (f"the table of the {GPS} (1 entries)", 10)],
+        )
 
     def test_owners(self):
         """The first part of an entry that shares bytes with an earlier part; neighbours and empty parts share none."""
@@ -179,11 +230,18 @@ class PartsOfBlocks(unittest.TestCase):
             return found and [tuple(part)[:2] for part in found]
 
         for ranges, expected in (
-            ([(8, 20), (20, 30)], None), ([(20, 30), (8, 20)], None), ([(8, 20), (19, 30)], [(19, 30), (8, 20)]),
-            ([(19, 30), (8, 20)], [(8, 20), (19, 30)]), ([(8, 8), (8, 9)], None), ([(8, 20), (10, 10)], None), ([(8, 20), (12, 10)], None),
-            ([(8, 20), (30, 40), (10, 12)], [(10, 12), (8, 20)]), ([(8, 20), (8, 20)], [(8, 20), (8, 20)]), ([(7, 9)], [(7, 9), (0, 8)]),
+            ([(8, 20), (20, 30)], None),
+            ([(20, 30), (8, 20)], None),
+            ([(8, 20), (19, 30)], [(19, 30), (8, 20)]),
+            ([(19, 30), (8, 20)], [(8, 20), (19, 30)]),
+            ([(8, 8), (8, 9)], None),
+            ([(8, 20), (10, 10)], None),
+            ([(8, 20), (12, 10)], None),
+            ([(8, 20), (30, 40), (10, 12)], [(10, 12), (8, 20)]),
+            ([(8, 20), (8, 20)], [(8, 20), (8, 20)]),
+            ([(7, 9)], [(7, 9), (0, 8)]),
             ([(8, 30), (8, 40), (29, 35)], [(29, 35), (8, 30)]),
-        ):  # fmt: skip
+        ):
             self.assertEqual(owners(*ranges), expected, ranges)
 
     def test_bytes_around_an_offset(self):
@@ -192,20 +250,47 @@ class PartsOfBlocks(unittest.TestCase):
             self.assertEqual(layout.hexadecimal(octets, place), dump(octets, place), place)
         for length in (17, 64, 65):  # the last row of a block may have one byte
             self.assertEqual(layout.hexadecimal(octets[:length], length - 1), dump(octets[:length], length - 1), length)
-        self.assertEqual(layout.hexadecimal(octets[:40], 33), [
-            "00000000  10 11 12 13 14 15 16 17 18 19 1a 1b 1c 1d 1e 1f   ................",
-            '00000010  20 21 22 23 24 25 26 27 28 29 2a 2b 2c 2d 2e 2f    !"#$%&\'()*+,-./',
-            "00000020  30 31 32 33 34 35 36 37                           01234567",
-            "             ^^ 33"])  # fmt: skip
+        self.assertEqual(
+            layout.hexadecimal(octets[:40], 33),
+            [
+                "00000000  10 11 12 13 14 15 16 17 18 19 1a 1b 1c 1d 1e 1f   ................",
+                "00000010  20 21 22 23 24 25 26 27 28 29 2a 2b 2c 2d 2e 2f    !\"#$%&'()*+,-./",
+                "00000020  30 31 32 33 34 35 36 37                           01234567",
+                "             ^^ 33",
+            ],
+        )
         self.assertEqual(layout.hexadecimal(b"", 0), ["          the block ends at 0"])
-        self.assertEqual(layout.hexadecimal(octets[0x60:], 0), ["00000000  70 71 72 73 74 75 76 77 78 79 7a 7b 7c 7d 7e 7f   pqrstuvwxyz{|}~.",
-                                                                "          ^^ 0", "00000010  80 81 82 83 84 85 86 87 88 89 8a 8b 8c 8d 8e 8f   ................"])  # fmt: skip
+        self.assertEqual(
+            layout.hexadecimal(octets[0x60:], 0),
+            [
+                "00000000  70 71 72 73 74 75 76 77 78 79 7a 7b 7c 7d 7e 7f   pqrstuvwxyz{|}~.",
+                "          ^^ 0",
+                "00000010  80 81 82 83 84 85 86 87 88 89 8a 8b 8c 8d 8e 8f   ................",
+            ],
+        )
 
     def test_names_of_directories(self):
-        self.assertEqual(names.DIRECTORIES, {
-            "main": MAIN, "exif": "Exif directory", "interop": "Interoperability directory", "gps": GPS, "thumb": THUMB, "iptc": "IPTC record",
-            "xmp": "XMP packet"})  # fmt: skip
-        for where, key, name in (("thumb", "0112", "Orientation"), ("main", "9003", "DateTimeOriginal"), ("exif", "0112", "Orientation"),
-                                 ("gps", "0112", "Tag 0112"), ("interop", "0002", "InteroperabilityVersion"), ("iptc", "3:1", "DataSet 3:1"),
-                                 ("thumb", "jpeg", "JPEG thumbnail"), ("thumb", "strip", "Strip"), ("xmp", "dc:title", "dc:title")):  # fmt: skip
+        self.assertEqual(
+            names.DIRECTORIES,
+            {
+                "main": MAIN,
+                "exif": "Exif directory",
+                "interop": "Interoperability directory",
+                "gps": GPS,
+                "thumb": THUMB,
+                "iptc": "IPTC record",
+                "xmp": "XMP packet",
+            },
+        )
+        for where, key, name in (
+            ("thumb", "0112", "Orientation"),
+            ("main", "9003", "DateTimeOriginal"),
+            ("exif", "0112", "Orientation"),
+            ("gps", "0112", "Tag 0112"),
+            ("interop", "0002", "InteroperabilityVersion"),
+            ("iptc", "3:1", "DataSet 3:1"),
+            ("thumb", "jpeg", "JPEG thumbnail"),
+            ("thumb", "strip", "Strip"),
+            ("xmp", "dc:title", "dc:title"),
+        ):
             self.assertEqual((names.name_of(where, key), names.full_name(where, key)), (name, f"{where}:{name}"))

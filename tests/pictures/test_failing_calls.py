@@ -32,8 +32,14 @@ pytestmark = pytest.mark.skipif(not shutil.which("strace"), reason="not installe
 
 
 def command(folder, words, *before):
-    return subprocess.run([*before, sys.executable, "-m", "exifnorm_pictures", *words], cwd=folder, stdin=subprocess.DEVNULL, capture_output=True,
-                          timeout=300, env=Studio.environment(EXIFNORM_DEBUG=""))  # fmt: skip
+    return subprocess.run(
+        [*before, sys.executable, "-m", "exifnorm_pictures", *words],
+        cwd=folder,
+        stdin=subprocess.DEVNULL,
+        capture_output=True,
+        timeout=300,
+        env=Studio.environment(EXIFNORM_DEBUG=""),
+    )
 
 
 def traced(folder, words, *more):

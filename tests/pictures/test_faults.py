@@ -21,14 +21,14 @@ PAGE = b"<!DOCTYPE html>an earlier page"
 # The output of a fake ExifTool in place of that about `$name`, and the words of the line about that file.
 ANSWERS = {
     "a text": ("echo this is no JSON", "no JSON"),
-    "an object without a name": ("echo '[{\"EXIF\":\"x\"}]'", "another file"),
-    "another file": ("echo '[{\"SourceFile\":\"/other.gif\"}]'", "another file"),
+    "an object without a name": ('echo \'[{"EXIF":"x"}]\'', "another file"),
+    "another file": ('echo \'[{"SourceFile":"/other.gif"}]\'', "another file"),
     "a number for a name": ("echo '[{\"SourceFile\":7}]'", "another file"),
-    "a file twice": ("printf '[{\"SourceFile\":\"%s\"},{\"SourceFile\":\"%s\"}]\\n' \"$name\" \"$name\"", "isn't one object"),
+    "a file twice": ('printf \'[{"SourceFile":"%s"},{"SourceFile":"%s"}]\\n\' "$name" "$name"', "isn't one object"),
     "no object": ("echo '[7]'", "isn't one object"),
     "JSON nested too deep": ("head -c 200000 /dev/zero | tr '\\0' '['; echo", "no JSON"),
-    "a list for a block": ("printf '[{\"SourceFile\":\"%s\",\"A:EXIF\":[1,2]}]\\n' \"$name\"", "neither a text nor a number"),
-    "broken base64": ("printf '[{\"SourceFile\":\"%s\",\"A:EXIF\":\"base64:!!\"}]\\n' \"$name\"", "no base64"),
+    "a list for a block": ('printf \'[{"SourceFile":"%s","A:EXIF":[1,2]}]\\n\' "$name"', "neither a text nor a number"),
+    "broken base64": ('printf \'[{"SourceFile":"%s","A:EXIF":"base64:!!"}]\\n\' "$name"', "no base64"),
     "nothing but its end": ("exit 3", "ended with status 3"),
     "death by a signal": ("kill -9 $$", "ended with status -9"),
     "silence": ("exec sleep 1000", "2 seconds"),
@@ -73,8 +73,9 @@ class Tools(WithPictures):
             with self.subTest(what):
                 limit = "2" if what == "silence" else "60"
                 environment = self.fake("exiftool", FAKE % answer)
-                lines = self.asked("index", "p", "--catalogue", "c", "--again", "--quiet", "--json", "--limit", limit,
-                                   status=2, **environment)  # fmt: skip
+                lines = self.asked(
+                    "index", "p", "--catalogue", "c", "--again", "--quiet", "--json", "--limit", limit, status=2, **environment
+                )
                 found = {os.path.basename(it["path"]): it for it in map(json.loads, lines[:-1])}
                 problem = "TooSlow" if what == "silence" else "ToolFailed"
                 self.assertEqual([found[it].get("problem") for it in ("a.gif", "bad.gif", "c.gif")], [None, problem, None])
@@ -110,8 +111,9 @@ class Tools(WithPictures):
         for fault in ("exit 3", "kill -9 $$", 'echo garbage > "$4/picture.exv"', 'mkdir "$4/picture.exv"', "true"):
             with self.subTest(fault):
                 text = f'#!/bin/sh\n[ "$1" = --version ] && echo exiv2 0.27.6 && exit\n{fault}\n'
-                lines = self.asked("index", "a.nef", "bad.nef", "--catalogue", "c", "--again", "--quiet", "--json", status=2,
-                                   **self.fake("exiv2", text))  # fmt: skip
+                lines = self.asked(
+                    "index", "a.nef", "bad.nef", "--catalogue", "c", "--again", "--quiet", "--json", status=2, **self.fake("exiv2", text)
+                )
                 found = [json.loads(it) for it in lines]
                 self.assertEqual([(it["problem"], "exiv2" in it["detail"]) for it in found[:-1]], [("ToolFailed", True)] * 2)
 
@@ -136,11 +138,29 @@ class Tools(WithPictures):
         for number in (signal.SIGTERM, signal.SIGHUP, signal.SIGINT, signal.SIGKILL):
             with self.subTest(number.name):
                 write(pids, b"")
-                words = ["env", f"--default-signal={number.name[3:]}", sys.executable, "-m", "exifnorm_pictures", "index", "p",
-                         "--catalogue", self.path("c"), "--quiet"] if number != signal.SIGKILL else [
-                         sys.executable, "-m", "exifnorm_pictures", "index", "p", "--catalogue", self.path("c"), "--quiet"]  # fmt: skip
-                started = subprocess.Popen(words, cwd=self.folder, env={**Studio.environment(**environment), "TMPDIR": own},
-                                           stdout=subprocess.DEVNULL, stderr=subprocess.DEVNULL)  # fmt: skip
+                words = (
+                    [
+                        "env",
+                        f"--default-signal={number.name[3:]}",
+                        sys.executable,
+                        "-m",
+                        "exifnorm_pictures",
+                        "index",
+                        "p",
+                        "--catalogue",
+                        self.path("c"),
+                        "--quiet",
+                    ]
+                    if number != signal.SIGKILL
+                    else [sys.executable, "-m", "exifnorm_pictures", "index", "p", "--catalogue", self.path("c"), "--quiet"]
+                )
+                started = subprocess.Popen(
+                    words,
+                    cwd=self.folder,
+                    env={**Studio.environment(**environment), "TMPDIR": own},
+                    stdout=subprocess.DEVNULL,
+                    stderr=subprocess.DEVNULL,
+                )
                 while not read(pids).endswith(b"\n"):
                     if started.poll() is not None:
                         self.fail("it ended before it started ExifTool")
@@ -168,17 +188,28 @@ class Tools(WithPictures):
         for number in range(70):
             write(self.path("many", f"{number}.jpg"), SMALL_JPEG)
         sleeping = self.fake("exiftool", '#!/bin/sh\n[ "$3" = -ver ] && echo 12.57 && exit\nexec sleep 1000\n')
-        call = ("import os, sys; from exifnorm_pictures.cli.main import main\n"
-                "os.register_at_fork(after_in_parent=lambda: os.kill(os.getpid(), int(sys.argv[1])))\n"
-                "sys.exit(main(['index', sys.argv[2], '--catalogue', 'c', '--quiet', '--jobs', '2', '--limit', '20']))\n")  # fmt: skip
+        call = (
+            "import os, sys; from exifnorm_pictures.cli.main import main\n"
+            "os.register_at_fork(after_in_parent=lambda: os.kill(os.getpid(), int(sys.argv[1])))\n"
+            "sys.exit(main(['index', sys.argv[2], '--catalogue', 'c', '--quiet', '--jobs', '2', '--limit', '20']))\n"
+        )
         for number, expected in ((signal.SIGTERM, -signal.SIGTERM), (signal.SIGINT, 130)):
             for folder, environment in (("p", sleeping), ("many", {"PATH": self.path("none")})):
                 with self.subTest(number.name, folder=folder):
                     own = self.path(f"own {number.name} {folder}")
                     os.mkdir(own)
-                    words = [shutil.which("env"), f"--default-signal={number.name[3:]}", sys.executable, "-c", call, str(int(number)), folder]
-                    done = subprocess.run(words, cwd=self.folder, env={**Studio.environment(**environment), "TMPDIR": own},
-                                          capture_output=True, timeout=60)  # fmt: skip
+                    words = [
+                        shutil.which("env"),
+                        f"--default-signal={number.name[3:]}",
+                        sys.executable,
+                        "-c",
+                        call,
+                        str(int(number)),
+                        folder,
+                    ]
+                    done = subprocess.run(
+                        words, cwd=self.folder, env={**Studio.environment(**environment), "TMPDIR": own}, capture_output=True, timeout=60
+                    )
                     self.assertEqual(done.returncode, expected, done.stderr)
                     self.assertEqual(os.listdir(own), [])
 
@@ -194,9 +225,12 @@ class Tools(WithPictures):
             "os.fork = subprocess.Popen = refused\nsys.exit(main(sys.argv[1:]))"
         )
         environment = self.fake("exiftool", "#!/bin/sh\n")
-        for words, what, status in ((["index", "p/a.gif", "--catalogue", "c", "--quiet"], "exiftool", 2), (["show", "p/a.gif"], "exiftool", 2),
-                                    (["mend", "p/a.gif", "out"], "exiftool", 2),
-                                    (["index", "many", "--catalogue", "c", "--quiet", "--jobs", "2"], "a further process", 0)):  # fmt: skip
+        for words, what, status in (
+            (["index", "p/a.gif", "--catalogue", "c", "--quiet"], "exiftool", 2),
+            (["show", "p/a.gif"], "exiftool", 2),
+            (["mend", "p/a.gif", "out"], "exiftool", 2),
+            (["index", "many", "--catalogue", "c", "--quiet", "--jobs", "2"], "a further process", 0),
+        ):
             with self.subTest(words):
                 done = run([sys.executable, "-c", call, *words], self.folder, **environment)
                 self.assertEqual(done.returncode, status, done)
@@ -211,8 +245,12 @@ class Tools(WithPictures):
         for number in range(70):
             write(self.path("many", f"{number}.jpg"), GOOD)
         self.asked("index", "many", "--catalogue", "c", "--quiet")
-        for words in (["index", "many", "--catalogue", "c", "--again", "--jobs", "1"], ["show", "many/1.jpg"], ["changed", "many", "many"],
-                      ["index", "many", "--catalogue", "c", "--again", "--jobs", "2"]):  # fmt: skip
+        for words in (
+            ["index", "many", "--catalogue", "c", "--again", "--jobs", "1"],
+            ["show", "many/1.jpg"],
+            ["changed", "many", "many"],
+            ["index", "many", "--catalogue", "c", "--again", "--jobs", "2"],
+        ):
             with self.subTest(words):
                 self.assertEqual(self.asked(*words, status=4, EXIFNORM_LIBRARY=self.path("nothing")), [])
                 self.assertRegex(self.complaint, r"^exifnorm-pictures: [^\n]*libexifnorm[^\n]*\n$")
@@ -250,8 +288,13 @@ class Catalogues(InFolder):
 
     def refused(self, name, words):
         before = read(self.path(name))
-        for call in (["index", "p", "--catalogue", name, "--quiet"], ["same", "--catalogue", name], ["changed", name, name],
-                     ["report", "--catalogue", name, "--json"], ["merge", name, "--catalogue", name]):  # fmt: skip
+        for call in (
+            ["index", "p", "--catalogue", name, "--quiet"],
+            ["same", "--catalogue", name],
+            ["changed", name, name],
+            ["report", "--catalogue", name, "--json"],
+            ["merge", name, "--catalogue", name],
+        ):
             with self.subTest(name, call=call[0]):
                 self.asked(*call, status=4)
                 self.assertIn(words, self.complaint)
@@ -354,12 +397,18 @@ class Catalogues(InFolder):
     def test_one_that_another_program_has_locked(self):
         """SQLite waits for it; then the command ends, and the catalogue is as it was."""
         self.asked("index", "p", "--catalogue", "c", "--quiet")
-        call = ("import sqlite3, sys; from exifnorm_pictures.cli.main import main; connect = sqlite3.connect\n"
-                "sqlite3.connect = lambda *words, **more: connect(*words, **{**more, 'timeout': 0.1})\nsys.exit(main(sys.argv[1:]))")  # fmt: skip
+        call = (
+            "import sqlite3, sys; from exifnorm_pictures.cli.main import main; connect = sqlite3.connect\n"
+            "sqlite3.connect = lambda *words, **more: connect(*words, **{**more, 'timeout': 0.1})\nsys.exit(main(sys.argv[1:]))"
+        )
         other = sqlite3.connect(self.path("c"), isolation_level=None)
         self.addCleanup(other.close)
         other.execute("BEGIN EXCLUSIVE")
-        for words in (["index", "p", "--catalogue", "c", "--quiet"], ["same", "--catalogue", "c"], ["report", "--catalogue", "c", "--json"]):
+        for words in (
+            ["index", "p", "--catalogue", "c", "--quiet"],
+            ["same", "--catalogue", "c"],
+            ["report", "--catalogue", "c", "--json"],
+        ):
             with self.subTest(words[0]):
                 done = run([sys.executable, "-c", call, *words], self.folder)
                 self.assertEqual((done.returncode, done.stdout, len(done.stderr.splitlines())), (4, b"", 1), done)
@@ -409,9 +458,12 @@ class Outputs(WithPictures):
 
     def test_a_folder_that_is_missing(self):
         """The message has the name that was given, not that of the file that is renamed in the end."""
-        for words, name in ((["index", "p", "--catalogue", "c", "--quiet", "--keep-old"], "missing/old"),
-                            (["report", "--catalogue", "c", "--html"], "missing/page"), (["mend", "p/refused.jpg"], "missing/out.jpg"),
-                            (["index", "p", "--catalogue", "c", "--quiet", "--keep-old"], "p/a.jpg/old")):  # fmt: skip
+        for words, name in (
+            (["index", "p", "--catalogue", "c", "--quiet", "--keep-old"], "missing/old"),
+            (["report", "--catalogue", "c", "--html"], "missing/page"),
+            (["mend", "p/refused.jpg"], "missing/out.jpg"),
+            (["index", "p", "--catalogue", "c", "--quiet", "--keep-old"], "p/a.jpg/old"),
+        ):
             with self.subTest(words[0], name=name):
                 said = "\n".join([*self.asked(*words, name, status=4), self.complaint])
                 self.assertIn(name, said)
@@ -419,10 +471,12 @@ class Outputs(WithPictures):
 
     def test_killed_when_the_copy_gets_its_name(self):
         """If `mend` and `report` are killed when a file of this folder gets its name, it isn't there, and no other new file."""
-        call = ("import os, signal, sys; from exifnorm_pictures.cli.main import main\n"
-                "def is_here(name): return os.path.dirname(os.path.abspath(os.fsdecode(name))) == os.getcwd()\n"
-                "def hook(event, it): event in ('os.link', 'os.rename') and is_here(it[1]) and os.kill(os.getpid(), signal.SIGKILL)\n"
-                "sys.addaudithook(hook)\nsys.exit(main(sys.argv[1:]))")  # fmt: skip
+        call = (
+            "import os, signal, sys; from exifnorm_pictures.cli.main import main\n"
+            "def is_here(name): return os.path.dirname(os.path.abspath(os.fsdecode(name))) == os.getcwd()\n"
+            "def hook(event, it): event in ('os.link', 'os.rename') and is_here(it[1]) and os.kill(os.getpid(), signal.SIGKILL)\n"
+            "sys.addaudithook(hook)\nsys.exit(main(sys.argv[1:]))"
+        )
         there = sorted(os.listdir(self.folder))
         for words in (["mend", "p/a.jpg", "out.jpg"], ["report", "--catalogue", "c", "--html", "page"]):
             with self.subTest(words[0]):
@@ -451,10 +505,15 @@ class Outputs(WithPictures):
     def test_full_disk(self):
         write(self.path("page"), PAGE)
         there = sorted(os.listdir(self.folder))
-        for words in (["index", "p", "--catalogue", "new", "--quiet"], ["index", "p", "--catalogue", "c", "--again", "--quiet"],
-                      ["index", "p", "--catalogue", "c", "--quiet", "--keep-old", "old"], ["report", "--catalogue", "c", "--html", "page"],
-                      ["report", "--catalogue", "c", "--html", "page2"], ["mend", "p/refused.jpg", "out.jpg"],
-                      ["mend", "p/a.jpg", "out.jpg"]):  # fmt: skip
+        for words in (
+            ["index", "p", "--catalogue", "new", "--quiet"],
+            ["index", "p", "--catalogue", "c", "--again", "--quiet"],
+            ["index", "p", "--catalogue", "c", "--quiet", "--keep-old", "old"],
+            ["report", "--catalogue", "c", "--html", "page"],
+            ["report", "--catalogue", "c", "--html", "page2"],
+            ["mend", "p/refused.jpg", "out.jpg"],
+            ["mend", "p/a.jpg", "out.jpg"],
+        ):
             with self.subTest(words):
                 done = self.full(*words)
                 self.assertEqual(done.returncode, 4, done)
@@ -479,8 +538,15 @@ class Outputs(WithPictures):
         self.assertEqual(os.listdir(own), [])
 
     def test_streams(self):
-        self.see_streams((["same", "--catalogue", "c"], ["show", "p/a.jpg"], ["report", "--catalogue", "c", "--json"], ["changed", "c", "d", "--all"],
-                          ["index", "p", "--catalogue", "c", "--again"]))  # fmt: skip
+        self.see_streams(
+            (
+                ["same", "--catalogue", "c"],
+                ["show", "p/a.jpg"],
+                ["report", "--catalogue", "c", "--json"],
+                ["changed", "c", "d", "--all"],
+                ["index", "p", "--catalogue", "c", "--again"],
+            )
+        )
 
     def test_streams_of_help(self):
         self.see_streams((["--help"], ["--version"]))
@@ -509,8 +575,10 @@ class Outputs(WithPictures):
             before = read(picture), os.stat(picture)
             self.asked("mend", picture, name)
             after, copy = os.stat(picture), os.stat(self.path(name))
-            self.assertEqual((read(picture), after.st_mtime_ns, after.st_mode, after.st_ino, after.st_nlink),
-                             (before[0], before[1].st_mtime_ns, before[1].st_mode, before[1].st_ino, 1))  # fmt: skip
+            self.assertEqual(
+                (read(picture), after.st_mtime_ns, after.st_mode, after.st_ino, after.st_nlink),
+                (before[0], before[1].st_mtime_ns, before[1].st_mode, before[1].st_ino, 1),
+            )
             self.assertEqual((copy.st_mode, copy.st_mtime_ns, copy.st_nlink), (after.st_mode, after.st_mtime_ns, 1))
             self.assertNotEqual(copy.st_ino, after.st_ino)
 
@@ -519,11 +587,14 @@ class Arguments(WithPictures):
     def test_refused_arguments(self):
         write(self.path("a.jpg"), GOOD)
         for words, wrong in (
-            (["index", "a.jpg", "--catalogue", "c", "--jobs=-1"], "--jobs: "), (["index", "a.jpg", "--catalogue", "c", "--jobs", "0"], "--jobs: "),
-            (["index", "", "--catalogue", "c"], "FOLDER: "), (["show", ""], "PICTURE: "),
-            (["show", "a.jpg", "--limit", "0"], "--limit: "), (["show", "a.jpg", "--limit", "x"], "--limit: "),
+            (["index", "a.jpg", "--catalogue", "c", "--jobs=-1"], "--jobs: "),
+            (["index", "a.jpg", "--catalogue", "c", "--jobs", "0"], "--jobs: "),
+            (["index", "", "--catalogue", "c"], "FOLDER: "),
+            (["show", ""], "PICTURE: "),
+            (["show", "a.jpg", "--limit", "0"], "--limit: "),
+            (["show", "a.jpg", "--limit", "x"], "--limit: "),
             (["same", "--catalogue", "c", "--kind", "iim"], "--kind: invalid choice"),
-        ):  # fmt: skip
+        ):
             with self.subTest(words):
                 self.asked(*words, status=3)
                 self.assertIn(f"exifnorm-pictures {words[0]}: argument {wrong}", self.complaint)
@@ -556,8 +627,10 @@ class Arguments(WithPictures):
             lines = self.asked("changed", "one.c", "two.c", "--files-from", "-", given=listed, status=1)
             self.assertEqual(lines[-1], "1 different")
         given = os.fsencode(self.path("two", "a.jpg"))
-        found = [json.loads(it) for it in self.asked("report", "--catalogue", "two.c", "--since", "one.c", "--json", "--files-from", "-",
-                                                      given=given)]  # fmt: skip
+        found = [
+            json.loads(it)
+            for it in self.asked("report", "--catalogue", "two.c", "--since", "one.c", "--json", "--files-from", "-", given=given)
+        ]
         self.assertEqual([it["changed"]["path"] for it in found if "changed" in it], ["a.jpg"])
 
     def test_modules_in_the_current_folder(self):

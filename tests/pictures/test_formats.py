@@ -15,8 +15,25 @@ from hypothesis import given, settings
 from hypothesis import strategies as st
 from made_blocks import ASCII, LONG, segment
 from made_files import (
-    app1, app1_xmp, app13, chunk, exif, extension, iim, jpeg, mpf, page, png, png_xmp, profile, resource, tiff, title, webp, xmp,
-)  # fmt: skip
+    app1,
+    app1_xmp,
+    app13,
+    chunk,
+    exif,
+    extension,
+    iim,
+    jpeg,
+    mpf,
+    page,
+    png,
+    png_xmp,
+    profile,
+    resource,
+    tiff,
+    title,
+    webp,
+    xmp,
+)
 from studio import SMALL_JPEG, WithPictures, interpreter_with, needs, read, run, tool, write
 
 from exifnorm_pictures.extract import budgets
@@ -67,7 +84,15 @@ class Found(unittest.TestCase):
         found = found_in(whole)
         self.assertEqual(
             sorted(named(found)),
-            sorted([("exif", "Exif", A), ("exif", "second Exif", B + b"more"), ("iim", "IPTC", K), ("xmp", "XMP", T), ("xmp", "extended XMP", T)]),
+            sorted(
+                [
+                    ("exif", "Exif", A),
+                    ("exif", "second Exif", B + b"more"),
+                    ("iim", "IPTC", K),
+                    ("xmp", "XMP", T),
+                    ("xmp", "extended XMP", T),
+                ]
+            ),
         )
         self.assertEqual((found.not_read, found.type), ([], "JPEG"))
         self.assertEqual(found.of_kind("exif")[0].where, "APP1 segment at 2")
@@ -90,8 +115,13 @@ class Found(unittest.TestCase):
 
     def test_a_picture_without_a_scan(self):
         head = b"\xff\xd8" + app1(A)
-        for rest, unread in ((b"", []), (b"\xff\xd9", []), (b"\xff\xd9trailer", ["trailer of 7 bytes"]), (segment(0xFE, b"c"), []),
-                             (b"\xff", ["trailer of 1 byte"])):  # fmt: skip
+        for rest, unread in (
+            (b"", []),
+            (b"\xff\xd9", []),
+            (b"\xff\xd9trailer", ["trailer of 7 bytes"]),
+            (segment(0xFE, b"c"), []),
+            (b"\xff", ["trailer of 1 byte"]),
+        ):
             found = found_in(head + rest)
             self.assertEqual((named(found), [it.what for it in found.not_read]), ([("exif", "Exif", A)], unread), rest)
         for rest in (b"\xff\xe0", b"\xff\xe0\x01", b"\xff\xe0\0\x01", b"\xff\0", b"no marker"):
@@ -234,6 +264,7 @@ class Found(unittest.TestCase):
 @needs("exiftool")
 class BesideOthers(WithPictures):
     """The same bytes as ExifTool's and exiv2's, on files that ImageMagick, Pillow and ExifTool wrote."""
+
     FIELDS = ("-Make=Leica", "-Artist=Zürich", "-UserComment=a comment", "-GPSLatitude=47.5", "-GPSLatitudeRef=N")
 
     def real(self, name):
@@ -298,7 +329,9 @@ class BesideOthers(WithPictures):
 
     def printed(self, path, group):
         more = ["-ExifIFD:all", "-GPS:all"] if group == "IFD0" else []
-        said = tool(self.folder, "exiftool", "-config", "", "-a", "-u", "-D", "-G1", "-s", f"-{group}:all", *more, path).decode("utf-8", "replace")
+        said = tool(self.folder, "exiftool", "-config", "", "-a", "-u", "-D", "-G1", "-s", f"-{group}:all", *more, path).decode(
+            "utf-8", "replace"
+        )
         left_out = {0x111, 0x117, 0x144, 0x145}
         lines = (re.match(r"\[(\w+)\] +(\d+) (\w+) *: (.*)", line) for line in said.splitlines())
         return sorted((it[2], it[3], it[4]) for it in lines if it and int(it[2]) not in left_out)
@@ -314,9 +347,18 @@ def bases():
         mpf(first, jpeg(app1(B), behind=bytes(3))) + b"trailer",
         png(chunk(b"eXIf", A), profile(b"iptc", resource(0x404, K)), png_xmp(T), png_xmp(T, True), behind=b"trailer"),
         webp((b"VP8X", bytes(10)), (b"EXIF", b"Exif\0\0" + A), (b"XMP ", T), behind=b"trailer"),
-        tiff(page((0x02BC, 1, T), (0x83BB, 7, K), (0x014A, LONG, page((0x010F, ASCII, b"below it\0"))), (0x8769, LONG, [(0x9286, 7, b"a comment")])),
-             page((0x8649, 1, resource(0x404, K))), order="<", behind=b"trailer"),
-    ]  # fmt: skip
+        tiff(
+            page(
+                (0x02BC, 1, T),
+                (0x83BB, 7, K),
+                (0x014A, LONG, page((0x010F, ASCII, b"below it\0"))),
+                (0x8769, LONG, [(0x9286, 7, b"a comment")]),
+            ),
+            page((0x8649, 1, resource(0x404, K))),
+            order="<",
+            behind=b"trailer",
+        ),
+    ]
 
 
 MARKS = st.lists(st.sampled_from((0xFF, 0xD8, 0xE1, 0xED, 0xD9)), min_size=1, max_size=6).map(bytes)
@@ -437,6 +479,7 @@ class Damaged(unittest.TestCase):
 
     def test_which_tails_are_read_from_their_end(self):
         """Those with the marks and tables that may be between scans (T.81, Table B.1 and B.2.1), and with no other marker."""
+
         class Counted(io.BytesIO):
             count = 0
 
@@ -586,7 +629,9 @@ class Opened(WithPictures):
 
     def by_itself(self, text):
         """The output of a Python program about this folder, which must end soon: after three seconds of processor time it is ended."""
-        begin = "import os, resource, sys\nresource.setrlimit(resource.RLIMIT_CPU, (3, 3))\nfrom exifnorm_pictures.extract import extraction\n"
+        begin = (
+            "import os, resource, sys\nresource.setrlimit(resource.RLIMIT_CPU, (3, 3))\nfrom exifnorm_pictures.extract import extraction\n"
+        )
         done = run([sys.executable, "-c", begin + text], self.folder, seconds=15)
         self.assertEqual(done.returncode, 0, done.stderr)
         return done.stdout.decode().split()
@@ -630,4 +675,3 @@ class Kept(unittest.TestCase):
         whole = Counting(jpeg(app1(A), base=long))
         reader_of(long)(whole, True)
         self.assertGreater(whole.octets, 4_000_000)
-

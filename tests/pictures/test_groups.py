@@ -21,11 +21,20 @@ SORTED = block([MAKE, entry(0x0110, ASCII, 4, int.from_bytes(b"mod\0", "big"))])
 
 # Files by what they say: those with one letter mean the same in other bytes
 FILES = {
-    "a1": jpeg(app1(A)), "a2": jpeg(app1(turned(A))), "a3": jpeg(app1(A + b"\0\0")), "b1": jpeg(app1(B)),
-    "c1": jpeg(app1(UNSORTED)), "c2": jpeg(app1(SORTED)), "c3": jpeg(app1(UNSORTED + b"\0\0")),
-    "d1": jpeg(app1(A), app1_xmp(title("one"))), "e1": jpeg(app1(A), app1_xmp(title("two"))), "f1": jpeg(app1_xmp(b"<x")),
-    "g1": jpeg(app1(A), behind=b"one"), "h1": jpeg(app1(A), behind=b"two"), "i1": jpeg(app1(BLOCKS["Doubled"])),
-}  # fmt: skip
+    "a1": jpeg(app1(A)),
+    "a2": jpeg(app1(turned(A))),
+    "a3": jpeg(app1(A + b"\0\0")),
+    "b1": jpeg(app1(B)),
+    "c1": jpeg(app1(UNSORTED)),
+    "c2": jpeg(app1(SORTED)),
+    "c3": jpeg(app1(UNSORTED + b"\0\0")),
+    "d1": jpeg(app1(A), app1_xmp(title("one"))),
+    "e1": jpeg(app1(A), app1_xmp(title("two"))),
+    "f1": jpeg(app1_xmp(b"<x")),
+    "g1": jpeg(app1(A), behind=b"one"),
+    "h1": jpeg(app1(A), behind=b"two"),
+    "i1": jpeg(app1(BLOCKS["Doubled"])),
+}
 CONTENT = {octets: name[0] for name, octets in FILES.items()}
 
 
@@ -128,10 +137,20 @@ def change_file(number, name, afterwards):
         os.replace(place(number) + ".new", place(number))
 
 
-@pytest.mark.parametrize("one, other, basis", [
-    ("a1", "a2", "meaning"), ("a1", "b1", None), ("c1", "c2", "repair"), ("c1", "c3", "repair"), ("d1", "e1", None), ("g1", "h1", None),
-    ("i1", "a1", None), ("f1", "f1", "bytes"), ("i1", "i1", "bytes"),
-])  # fmt: skip
+@pytest.mark.parametrize(
+    "one, other, basis",
+    [
+        ("a1", "a2", "meaning"),
+        ("a1", "b1", None),
+        ("c1", "c2", "repair"),
+        ("c1", "c3", "repair"),
+        ("d1", "e1", None),
+        ("g1", "h1", None),
+        ("i1", "a1", None),
+        ("f1", "f1", "bytes"),
+        ("i1", "i1", "bytes"),
+    ],
+)
 def test_what_a_group_rests_on(asked, folder, one, other, basis):
     (folder / "p").mkdir()
     (folder / "p/1.jpg").write_bytes(FILES[one])
@@ -217,12 +236,16 @@ def with_note(owner, moved=0, wrong=False):
 
 
 @needs("exiftool")
-@pytest.mark.parametrize("other, result, status, basis", [
-    (with_note(b"Annette"), "same", 0, "meaning"),
-    (with_note(b"Annette", 64), "the same but for a MakerNote that moved", 2, None),
-    (with_note(b"Ottilie"), "only MakerNote differs", 1, None),
-    (with_note(b"Ottilie", 64), "different", 1, None),
-], ids=["itself", "moved", "of another owner", "moved, and of another owner"])  # fmt: skip
+@pytest.mark.parametrize(
+    "other, result, status, basis",
+    [
+        (with_note(b"Annette"), "same", 0, "meaning"),
+        (with_note(b"Annette", 64), "the same but for a MakerNote that moved", 2, None),
+        (with_note(b"Ottilie"), "only MakerNote differs", 1, None),
+        (with_note(b"Ottilie", 64), "different", 1, None),
+    ],
+    ids=["itself", "moved", "of another owner", "moved, and of another owner"],
+)
 def test_maker_notes(asked, folder, other, result, status, basis):
     one = with_note(b"Annette")
     for side, octets in (("before", one), ("after", other)):

@@ -50,18 +50,24 @@ def of_pictures(name, *paths):
     made = Catalogue(str(name), make=True)
     block = Block("exif", "Exif", "somewhere", "own", "refused", None, "Overlap", 34, 100, "0" * 64)
     parts = (NotRead("a part", "1" * 64),)
-    made.put(made.begin_run("2000-01-01T00:00:00Z"), [PictureRecord(it, b"/", Stamp(1, 2, 3, 4), "JPEG", blocks=(block,), not_read=parts) for it in paths])
+    made.put(
+        made.begin_run("2000-01-01T00:00:00Z"),
+        [PictureRecord(it, b"/", Stamp(1, 2, 3, 4), "JPEG", blocks=(block,), not_read=parts) for it in paths],
+    )
     return made
 
 
-@pytest.mark.parametrize("words, module, name", [
-    (["index", "p", "--catalogue", "c", "--quiet", "--jobs", "1"], store, "_row"),
-    (["same", "--catalogue", "c"], store, "_check_head"),
-    (["changed", "c", "c"], pairs.Pairs, "_pair_of_row"),
-    (["changed", "c", "c"], pairs.Pairs, "_pair"),
-    (["changed", "c", "c", "--all"], pairs, "picture_of_row"),
-    (["report", "--catalogue", "c", "--json"], store, "picture_of_row"),
-])  # fmt: skip
+@pytest.mark.parametrize(
+    "words, module, name",
+    [
+        (["index", "p", "--catalogue", "c", "--quiet", "--jobs", "1"], store, "_row"),
+        (["same", "--catalogue", "c"], store, "_check_head"),
+        (["changed", "c", "c"], pairs.Pairs, "_pair_of_row"),
+        (["changed", "c", "c"], pairs.Pairs, "_pair"),
+        (["changed", "c", "c", "--all"], pairs, "picture_of_row"),
+        (["report", "--catalogue", "c", "--json"], store, "picture_of_row"),
+    ],
+)
 def test_a_mistake_is_no_damage(command, monkeypatch, words, module, name):
     of_pictures("c", b"/a").close()
     with monkeypatch.context() as planted:
@@ -84,14 +90,17 @@ def test_the_traceback(command, monkeypatch, words, variable, has_it):
     assert ("    return None + 1" in lines) is has_it
 
 
-@pytest.mark.parametrize("call, error, is_damaged", [
-    (lambda it: it.base.execute("SELECT 1 WHERE ? = 1"), sqlite3.ProgrammingError, False),
-    (lambda it: it.base.execute("SELECT missing"), NoCatalogue, False),
-    (lambda it: it.base.execute("UPDATE pictures SET type = NULL"), NoCatalogue, False),
-    (lambda it: (_ for _ in ()).throw(sqlite3.DatabaseError("malformed")), NoCatalogue, True),
-    (lambda it: records.has(int, "a"), NoCatalogue, True),
-    (lambda it: records.kind_of("other"), NoCatalogue, True),
-])  # fmt: skip
+@pytest.mark.parametrize(
+    "call, error, is_damaged",
+    [
+        (lambda it: it.base.execute("SELECT 1 WHERE ? = 1"), sqlite3.ProgrammingError, False),
+        (lambda it: it.base.execute("SELECT missing"), NoCatalogue, False),
+        (lambda it: it.base.execute("UPDATE pictures SET type = NULL"), NoCatalogue, False),
+        (lambda it: (_ for _ in ()).throw(sqlite3.DatabaseError("malformed")), NoCatalogue, True),
+        (lambda it: records.has(int, "a"), NoCatalogue, True),
+        (lambda it: records.kind_of("other"), NoCatalogue, True),
+    ],
+)
 def test_errors_of_sqlite_and_of_values(tmp_path, call, error, is_damaged):
     made = of_pictures(tmp_path / "c", b"/a")
     with pytest.raises(error) as raised, made.guarded():
@@ -110,8 +119,18 @@ def test_other_errors_stay_what_they_are(tmp_path, guard, error):
     made.close()
 
 
-@pytest.mark.parametrize("values", ["runs SET exiftool = x'00'", "runs SET started = x'00'", "not_read SET what = x'00'", "blocks SET kind = 'other'",
-                                    "blocks SET name = x'00'", "pictures SET type = x'00'", "pictures SET root = '/'"])  # fmt: skip
+@pytest.mark.parametrize(
+    "values",
+    [
+        "runs SET exiftool = x'00'",
+        "runs SET started = x'00'",
+        "not_read SET what = x'00'",
+        "blocks SET kind = 'other'",
+        "blocks SET name = x'00'",
+        "pictures SET type = x'00'",
+        "pictures SET root = '/'",
+    ],
+)
 def test_a_report_of_a_damaged_catalogue(command, values):
     with of_pictures("c", b"/a") as made:
         made.base.execute("UPDATE blocks SET status = 'refused'")
@@ -120,8 +139,24 @@ def test_a_report_of_a_damaged_catalogue(command, values):
     assert "internal error" not in printed and len(printed.splitlines()) == 1
 
 
-@pytest.mark.parametrize("octets", [b"", b"[", b"[1]", b'[["main"]]', b'[["main","010f","ASCII","4","a"]]', b'[["main","010f","ASCII",true,"a"]]',
-                                    b'["abcde"]', pytest.param(b"[" * 100_000, id="100,000 brackets"), b"\0\x11", zlib.compress(b"7"), zlib.compress(b"\xff"), 7, "text"])  # fmt: skip
+@pytest.mark.parametrize(
+    "octets",
+    [
+        b"",
+        b"[",
+        b"[1]",
+        b'[["main"]]',
+        b'[["main","010f","ASCII","4","a"]]',
+        b'[["main","010f","ASCII",true,"a"]]',
+        b'["abcde"]',
+        pytest.param(b"[" * 100_000, id="100,000 brackets"),
+        b"\0\x11",
+        zlib.compress(b"7"),
+        zlib.compress(b"\xff"),
+        7,
+        "text",
+    ],
+)
 def test_fields_that_are_damaged(octets):
     with pytest.raises(Damaged):
         listing.unpacked(octets)
@@ -132,7 +167,9 @@ def test_keys_of_fields_that_are_damaged(tmp_path):
     fields = [[["main", key, "ASCII", 4, value]] for key, value in ((":x", "a"), (":x", "b"))]
     sides = [of_pictures(tmp_path / name, b"/a") for name in ("before", "after")]
     for it, digest, one in zip(sides, "ab", fields):
-        it.base.execute("UPDATE blocks SET status = 'accepted', cause = NULL, place = NULL, digest = ?, fields = ?", (digest, json.dumps(one).encode()))
+        it.base.execute(
+            "UPDATE blocks SET status = 'accepted', cause = NULL, place = NULL, digest = ?, fields = ?", (digest, json.dumps(one).encode())
+        )
         it.base.execute("UPDATE pictures SET exif = ?", (digest,))
     assert [it.result for it in changed.changed(*sides, Counter())] == ["different"]
     for it in sides:
@@ -154,7 +191,9 @@ def test_a_picture_at_which_we_fail(command, monkeypatch):
     assert command("index", "p", "--catalogue", "c", "--quiet", status=0).out.splitlines() == ["1 no block, 1 unchanged"]
 
 
-@pytest.mark.parametrize("error, problem", [(MemoryError(), "ToolFailed"), (KeyError("a"), "InternalError"), (OSError(5, "I/O error"), "Unreadable")])
+@pytest.mark.parametrize(
+    "error, problem", [(MemoryError(), "ToolFailed"), (KeyError("a"), "InternalError"), (OSError(5, "I/O error"), "Unreadable")]
+)
 def test_the_state_of_a_picture_has_the_cause(command, monkeypatch, error, problem):
     def fails(*_):
         raise error
@@ -169,8 +208,10 @@ def test_in_processes_of_their_own(tmp_path):
     (tmp_path / "p").mkdir()
     for number in range(70):
         (tmp_path / "p" / f"{number}.jpg").write_bytes(jpeg())
-    call = ("import sys; from exifnorm_pictures.cli import main; from exifnorm_pictures.extract.formats import jpeg\n"
-            "def mistake(*_): return None + 1\njpeg.read = mistake\nsys.exit(main.main(sys.argv[1:]))")  # fmt: skip
+    call = (
+        "import sys; from exifnorm_pictures.cli import main; from exifnorm_pictures.extract.formats import jpeg\n"
+        "def mistake(*_): return None + 1\njpeg.read = mistake\nsys.exit(main.main(sys.argv[1:]))"
+    )
     done = run(["python3", "-c", call, "index", "p", "--catalogue", "c", "--quiet", "--jobs", "2", "--debug"], str(tmp_path))
     assert (done.returncode, done.stdout.splitlines()[-1]) == (2, b"70 InternalError"), done.stderr
     assert done.stderr.count(b"Traceback") == 70 and b"extraction.py" in done.stderr

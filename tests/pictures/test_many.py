@@ -28,8 +28,13 @@ class Many(WithPictures):
         self.assertGreater(told, 0)
         self.assertLess(kept, 2000, "it was killed too late to tell anything")
         said = self.asked("index", folder, "--catalogue", "c")[-1]
-        self.assertEqual(said, f"{max(kept, 2000 - kept)} " + ("unchanged" if kept > 1000 else "accepted")
-                         + f", {min(kept, 2000 - kept)} " + ("accepted" if kept > 1000 else "unchanged"))  # fmt: skip
+        self.assertEqual(
+            said,
+            f"{max(kept, 2000 - kept)} "
+            + ("unchanged" if kept > 1000 else "accepted")
+            + f", {min(kept, 2000 - kept)} "
+            + ("accepted" if kept > 1000 else "unchanged"),
+        )
         base = sqlite3.connect(self.path("c"))
         self.assertEqual(base.execute("SELECT count(*), count(DISTINCT path) FROM pictures").fetchone(), (2000, 2000))
         self.assertEqual(base.execute("PRAGMA integrity_check").fetchone(), ("ok",))
@@ -38,7 +43,9 @@ class Many(WithPictures):
         folder = many()
         # a shell that ran these tests in the background would have the signal ignored
         words = ["env", "--default-signal=INT", sys.executable, "-m", "exifnorm_pictures", "index", folder, "--catalogue", self.path("c")]
-        started = subprocess.Popen(words, stdout=subprocess.DEVNULL, stderr=subprocess.PIPE, env=Studio.environment(), start_new_session=True)
+        started = subprocess.Popen(
+            words, stdout=subprocess.DEVNULL, stderr=subprocess.PIPE, env=Studio.environment(), start_new_session=True
+        )
         started.stderr.readline()
         os.killpg(started.pid, signal.SIGINT)  # as a terminal does, to the further processes too
         said = started.stderr.read().decode()

@@ -30,7 +30,11 @@ class Merge(InFolder):
         found = []
         for name in names:
             base = sqlite3.connect(self.path(name))
-            for table, rest in (("pictures", ""), ("blocks", "JOIN pictures ON id = picture"), ("not_read", "JOIN pictures ON id = picture")):
+            for table, rest in (
+                ("pictures", ""),
+                ("blocks", "JOIN pictures ON id = picture"),
+                ("not_read", "JOIN pictures ON id = picture"),
+            ):
                 names_ = [row[1] for row in base.execute(f"PRAGMA table_info({table})")]
                 columns = ", ".join(f"{table}.{it}" for it in names_ if it not in NUMBERS)
                 found += base.execute(f"SELECT '{table}', path, {columns} FROM {table} {rest}")

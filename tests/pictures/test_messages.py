@@ -41,7 +41,9 @@ class CommandLine(unittest.TestCase):
 
     def test_numbers(self):
         """What is left out, and what is given."""
-        self.assertEqual([(it.limit, it.jobs) for it in map(self.parsed, ("changed a b", "changed a b --limit 0.5 --jobs 3"))], [(60.0, 0), (0.5, 3)])
+        self.assertEqual(
+            [(it.limit, it.jobs) for it in map(self.parsed, ("changed a b", "changed a b --limit 0.5 --jobs 3"))], [(60.0, 0), (0.5, 3)]
+        )
         self.assertEqual(self.parsed("mend a b --limit 999999").limit, 999999.0)
 
     def parsed(self, text):
@@ -75,7 +77,7 @@ class CommandLine(unittest.TestCase):
             *((("report", f"--{it}", ""), f"argument --{it}: a name is empty") for it in ("catalogue", "since", "html")),
             (("same", "--catalogue", ""), "argument --catalogue: a name is empty"),
             (("merge", "a", "--catalogue", ""), "argument --catalogue: a name is empty"),
-        ):  # fmt: skip
+        ):
             self.assertEqual(self.refused(*words), message, words)
 
 
@@ -111,16 +113,21 @@ class Progress(unittest.TestCase):
     def test_lines(self):
         """At most one a second, and the last one."""
         steps = [(1.0, 10), (1.9, 20), (2.0, 500), (2.9, 600), (4.0, 2000), (4.1, 3000)]
-        self.assertEqual(self.shown(Stream(), steps),
-                         "10 of 3000 pictures, 10 a second, 4 min 59 s left\n500 of 3000 pictures, 250 a second, 10 s left\n"
-                         "2000 of 3000 pictures, 500 a second, 2 s left\n3000 of 3000 pictures, 732 a second\n")  # fmt: skip
+        self.assertEqual(
+            self.shown(Stream(), steps),
+            "10 of 3000 pictures, 10 a second, 4 min 59 s left\n500 of 3000 pictures, 250 a second, 10 s left\n"
+            "2000 of 3000 pictures, 500 a second, 2 s left\n3000 of 3000 pictures, 732 a second\n",
+        )
 
     def test_a_line_that_changes(self):
         """On a terminal five times a second; the end of the line comes with the last one."""
         stream = Stream(on_terminal=True)
         steps = [(1.0, 0), (1.19, 20), (1.2001, 600), (10000.0, 3000)]
-        self.assertEqual(self.shown(stream, steps), "\r\x1b[K0 of 3000 pictures, 0 a second\r\x1b[K600 of 3000 pictures, 500 a second, 5 s left"
-                                                    "\r\x1b[K3000 of 3000 pictures, 0 a second\n")  # fmt: skip
+        self.assertEqual(
+            self.shown(stream, steps),
+            "\r\x1b[K0 of 3000 pictures, 0 a second\r\x1b[K600 of 3000 pictures, 500 a second, 5 s left"
+            "\r\x1b[K3000 of 3000 pictures, 0 a second\n",
+        )
         self.assertEqual(stream.flushed, 3)
 
     def test_nothing(self):
@@ -147,8 +154,10 @@ def header(version, application=0x45584E50, start=b"SQLite format 3\0"):
     return start.ljust(60, b"\0") + version.to_bytes(4, "big") + bytes(4) + application.to_bytes(4, "big") + bytes(28)
 
 
-EARLIER = (f" is a catalogue of an earlier release (version {VERSION - 1}, here {VERSION}), whose answers were about fewer blocks. Make a new one:"
-           " exifnorm-pictures index FOLDER --catalogue NEW")  # fmt: skip
+EARLIER = (
+    f" is a catalogue of an earlier release (version {VERSION - 1}, here {VERSION}), whose answers were about fewer blocks. Make a new one:"
+    " exifnorm-pictures index FOLDER --catalogue NEW"
+)
 LATER = f" is a catalogue of a later release (version {VERSION + 1}, here {VERSION})"
 
 
@@ -166,14 +175,23 @@ class Messages(WithPictures):
         self.assertEqual(self.raised(NoCatalogue, Catalogue, name), f"there is no catalogue {name}")
         self.assertEqual(self.raised(NoCatalogue, Catalogue, self.folder), f"{self.folder} is no catalogue: it is no regular file")
         other = f"{name} is no catalogue"
-        for octets, text in ((b"", other), (b"abc", other), (header(VERSION - 1), name + EARLIER), (header(VERSION)[:70], other),
-                             (header(VERSION, 0x45584E51), other), (header(VERSION + 1), name + LATER), (header(VERSION, start=b"SQLite format 3 "), other)):  # fmt: skip
+        for octets, text in (
+            (b"", other),
+            (b"abc", other),
+            (header(VERSION - 1), name + EARLIER),
+            (header(VERSION)[:70], other),
+            (header(VERSION, 0x45584E51), other),
+            (header(VERSION + 1), name + LATER),
+            (header(VERSION, start=b"SQLite format 3 "), other),
+        ):
             write(name, octets)
             self.assertEqual(self.raised(NoCatalogue, Catalogue, name), text)
             if octets:
                 self.assertEqual(self.raised(NoCatalogue, Catalogue, name, True), text)
             self.assertEqual((read(name), os.listdir(self.folder)), (octets, ["c"]))
-        self.assertEqual(self.raised(NoCatalogue, index.run, argparse.Namespace(folders=[""], files_from=None, catalogue=name)), "a name is empty")
+        self.assertEqual(
+            self.raised(NoCatalogue, index.run, argparse.Namespace(folders=[""], files_from=None, catalogue=name)), "a name is empty"
+        )
         os.remove(name)
         with Catalogue(name, make=True) as made:
             self.assertEqual(str(made.failure(sqlite3.OperationalError("disk I/O error"))), f"{name}: disk I/O error")
@@ -199,7 +217,9 @@ class Messages(WithPictures):
         self.assertEqual(names.chosen_paths(asked), {os.path.abspath(b"a"), os.path.abspath(b"b")})
         with contextlib.redirect_stderr(io.StringIO()) as printed, self.assertRaises(SystemExit) as ended:
             report.run(argparse.Namespace(html=None, json=False))
-        self.assertEqual((printed.getvalue().splitlines()[-1], ended.exception.code), ("exifnorm-pictures: report: give --html PAGE, --json, or both", 3))
+        self.assertEqual(
+            (printed.getvalue().splitlines()[-1], ended.exception.code), ("exifnorm-pictures: report: give --html PAGE, --json, or both", 3)
+        )
 
     def test_of_files_that_are_not_replaced(self):
         os.mkdir(self.path("folder"))
@@ -211,9 +231,13 @@ class Messages(WithPictures):
         def replace(name):
             atomic.replace(os.fsencode(self.path(name)), lambda file: file.write(b"new"), lambda head: head == b"page", kept_)
 
-        for name, text in (("folder", "it is there, and is no regular file"), ("other", "it is there, and is a file of another kind"),
-                           ("catalogue", f"it is the catalogue {self.path('catalogue')}"), ("link", f"it is the catalogue {self.path('catalogue')}"),
-                           ("nothing/page", "no such file or directory")):  # fmt: skip
+        for name, text in (
+            ("folder", "it is there, and is no regular file"),
+            ("other", "it is there, and is a file of another kind"),
+            ("catalogue", f"it is the catalogue {self.path('catalogue')}"),
+            ("link", f"it is the catalogue {self.path('catalogue')}"),
+            ("nothing/page", "no such file or directory"),
+        ):
             self.assertEqual(self.raised(atomic.NotReplaced, replace, name), text)
         for name in ("page", "empty", "new"):
             replace(name)
@@ -225,23 +249,42 @@ class Messages(WithPictures):
         missing = "{} isn't installed, and without it no block of this picture can be extracted. In Debian: apt-get install {}"
         for program, package in (("exiftool", "libimage-exiftool-perl"), ("exiv2", "exiv2"), ("another", "another")):
             self.assertEqual(str(programs.Missing(program)), missing.format(program, package))
-        self.assertEqual(self.raised(programs.Missing, programs.needed, "no such program"), missing.format("no such program", "no such program"))
-        self.assertEqual(self.raised(programs.Failed, programs.start, [self.path("nothing")]), "nothing can't be started: no such file or directory")
+        self.assertEqual(
+            self.raised(programs.Missing, programs.needed, "no such program"), missing.format("no such program", "no such program")
+        )
+        self.assertEqual(
+            self.raised(programs.Failed, programs.start, [self.path("nothing")]), "nothing can't be started: no such file or directory"
+        )
         with mock.patch.object(programs, "_limit", 0.05):
-            self.assertEqual(self.raised(programs.Failed, programs.run, [shutil.which("sleep"), "60"]), "sleep took longer than 0.05 seconds")
+            self.assertEqual(
+                self.raised(programs.Failed, programs.run, [shutil.which("sleep"), "60"]), "sleep took longer than 0.05 seconds"
+            )
             words = [shutil.which("sh"), "-c", "exec >&-; exec sleep 3"]  # it ends its output, but not itself
             self.assertEqual(self.raised(programs.Failed, programs.run, words), "sh took longer than 0.05 seconds")
         with mock.patch.object(workers, "ProcessPoolExecutor", mock.Mock(side_effect=OSError(11, "Resource temporarily unavailable"))):
-            self.assertEqual(self.raised(programs.Failed, workers._pool, How(), 2), "a further process can't be started: resource temporarily unavailable")
+            self.assertEqual(
+                self.raised(programs.Failed, workers._pool, How(), 2),
+                "a further process can't be started: resource temporarily unavailable",
+            )
 
     def test_of_exiftools_output(self):
         head = "ExifTool's answer isn't understood: "
-        for octets, text in ((b"[{]", "it is no JSON"), (b"[" * 100_000, "it is no JSON"), (b"{}", "it isn't one object for each file"), (b"[]", "it isn't one object for each file"),
-                             (b"[{},{}]", "it isn't one object for each file"), (b'["a"]', "it isn't one object for each file"), (b"[{}]", "it is about another file"),
-                             (b'[{"SourceFile": "b"}]', "it is about another file"), (b'[{"SourceFile": "a", "b": []}]', "a value is neither a text nor a number"),
-                             (b'[{"SourceFile": "a", "b": null}]', "a value is neither a text nor a number")):  # fmt: skip
+        for octets, text in (
+            (b"[{]", "it is no JSON"),
+            (b"[" * 100_000, "it is no JSON"),
+            (b"{}", "it isn't one object for each file"),
+            (b"[]", "it isn't one object for each file"),
+            (b"[{},{}]", "it isn't one object for each file"),
+            (b'["a"]', "it isn't one object for each file"),
+            (b"[{}]", "it is about another file"),
+            (b'[{"SourceFile": "b"}]', "it is about another file"),
+            (b'[{"SourceFile": "a", "b": []}]', "a value is neither a text nor a number"),
+            (b'[{"SourceFile": "a", "b": null}]', "a value is neither a text nor a number"),
+        ):
             self.assertEqual(self.raised(programs.Failed, exiftool._members, octets, [b"a"]), head + text)
-        self.assertEqual(exiftool._members(b'[{"SourceFile": "a", "b": 1, "c": "d", "e": 0.50}]', [b"a"]), [{"b": "1", "c": "d", "e": "0.50"}])
+        self.assertEqual(
+            exiftool._members(b'[{"SourceFile": "a", "b": 1, "c": "d", "e": 0.50}]', [b"a"]), [{"b": "1", "c": "d", "e": "0.50"}]
+        )
         self.assertEqual(exiftool._members(b" \n", [b"a", b"b"]), [{}, {}])
         self.assertEqual(self.raised(programs.Failed, exiftool.octets, "base64:abc"), head + "a block is no base64")
         self.assertEqual(self.raised(programs.Failed, exiftool.octets, "base64:ab=="[:-1] + "!"), head + "a block is no base64")
@@ -251,7 +294,10 @@ class Messages(WithPictures):
 
     def test_of_exiftools_end(self):
         os.mkdir(self.path("room"))
-        for script, text in (("exit 3", "ExifTool ended with status 3 at this file"), ("exec >&-; sleep 60", "ExifTool ended with status 0 at this file")):
+        for script, text in (
+            ("exit 3", "ExifTool ended with status 3 at this file"),
+            ("exec >&-; sleep 60", "ExifTool ended with status 0 at this file"),
+        ):
             write(self.path("exiftool"), f"#!/bin/sh\nread line\n{script}\n".encode())
             os.chmod(self.path("exiftool"), 0o755)
             with mock.patch.object(programs, "needed", lambda _: self.path("exiftool")):
@@ -271,11 +317,17 @@ class Messages(WithPictures):
         for why, expected in (
             (programs.Failed("exiv2 failed"), marked._replace(problem="ToolFailed", detail="exiv2 failed", extractor="own", **rest)),
             (OSError(13, "Permission denied"), at._replace(problem="Unreadable", detail="permission denied")),
-            (programs.Missing("exiftool"), marked._replace(problem="NeedsExifTool", detail=str(programs.Missing("exiftool")), extractor="own", **rest)),
+            (
+                programs.Missing("exiftool"),
+                marked._replace(problem="NeedsExifTool", detail=str(programs.Missing("exiftool")), extractor="own", **rest),
+            ),
         ):
             with mock.patch.object(workers.extraction, "blocks_of", mock.Mock(side_effect=why)):
                 self.assertEqual(workers.look(found, How()), expected)
-        self.assertEqual(self.raised(OSError, opening.opened, os.fsencode(self.folder)), f"[Errno 22] it is no regular file: {os.fsencode(self.folder)!r}")
+        self.assertEqual(
+            self.raised(OSError, opening.opened, os.fsencode(self.folder)),
+            f"[Errno 22] it is no regular file: {os.fsencode(self.folder)!r}",
+        )
         for name, problem, detail in ((self.folder, "NotAFile", PROBLEMS["NotAFile"]), (self.path("a"), "NoFile", PROBLEMS["NoFile"])):
             it = extraction.blocks_of(os.fsencode(name))
             self.assertEqual((it.problem, it.detail, it.found, it.not_read), (problem, detail, [], []))
@@ -290,7 +342,9 @@ class Messages(WithPictures):
                 if number in closed:
                     raise OSError(9, "Bad file descriptor")
 
-            system = SimpleNamespace(fstat=fstat, open=lambda *words, opened=opened: opened.append(words), devnull="/dev/null", O_RDWR=os.O_RDWR)
+            system = SimpleNamespace(
+                fstat=fstat, open=lambda *words, opened=opened: opened.append(words), devnull="/dev/null", O_RDWR=os.O_RDWR
+            )
             with mock.patch.object(signals, "os", system), mock.patch.object(sys, "stdout", mock.Mock()) as stdout:
                 if fails:
                     self.assertEqual(self.raised(signals.ClosedOutput, signals.ready_streams), "standard output is closed")
@@ -331,24 +385,53 @@ class OfPictures(unittest.TestCase):
         digest, octets = "d" * 64, "0" * 64
         good = Block("iim", "IPTC", "somewhere", "own", "accepted", digest, None, None, 7, octets)
         refused = Block("exif", "second Exif", "somewhere", "own", "refused", None, "Overlap", 34, 100, octets)
-        at_0, packet = refused._replace(name="Exif", place=0), Block("xmp", "XMP", "somewhere", "own", "unreadable", None, "NoRDF", None, 9, octets)
-        failed, long = (refused._replace(status=one, cause=cause, place=None) for one, cause in (("failed", "OutOfMemory"), ("too long", "NormalTooLong")))
+        at_0, packet = refused._replace(name="Exif", place=0), Block(
+            "xmp", "XMP", "somewhere", "own", "unreadable", None, "NoRDF", None, 9, octets
+        )
+        failed, long = (
+            refused._replace(status=one, cause=cause, place=None)
+            for one, cause in (("failed", "OutOfMemory"), ("too long", "NormalTooLong"))
+        )
         parts = (NotRead("a trailer", ""), NotRead("a chunk", "1" * 64))
         common = {"kind": "exif", "name": "second Exif", "length": 100}
         for more, printed, members in (
             ({}, [], {"blocks": [], "not_read": []}),
-            ({"blocks": (good,)}, [], {"blocks": [{"kind": "iptc", "name": "IPTC", "status": "accepted", "digest": digest, "length": 7}], "not_read": []}),
+            (
+                {"blocks": (good,)},
+                [],
+                {"blocks": [{"kind": "iptc", "name": "IPTC", "status": "accepted", "digest": digest, "length": 7}], "not_read": []},
+            ),
             ({"problem": "NoPicture", "detail": "text"}, [], {"problem": "NoPicture", "detail": "text", "blocks": [], "not_read": []}),
-            ({"problem": "Unreadable", "detail": "why"}, ["Unreadable: why"], {"problem": "Unreadable", "detail": "why", "blocks": [], "not_read": []}),
+            (
+                {"problem": "Unreadable", "detail": "why"},
+                ["Unreadable: why"],
+                {"problem": "Unreadable", "detail": "why", "blocks": [], "not_read": []},
+            ),
             ({"not_read": parts}, [], {"blocks": [], "not_read": ["a trailer", "a chunk"]}),
-            ({"blocks": (at_0, good, packet), "not_read": parts[:1]},
-             ["Exif: refused: Overlap at 0", "XMP: unreadable: NoRDF"],
-             {"blocks": [{**common, "name": "Exif", "status": "refused", "cause": "Overlap", "place": 0},
-                         {"kind": "iptc", "name": "IPTC", "status": "accepted", "digest": digest, "length": 7},
-                         {"kind": "xmp", "name": "XMP", "status": "unreadable", "cause": "NoRDF", "length": 9}], "not_read": ["a trailer"]}),
-            ({"blocks": (failed, long)}, ["second Exif: failed: OutOfMemory", "second Exif: too long: NormalTooLong"],
-             {"blocks": [{**common, "status": "failed", "cause": "OutOfMemory"}, {**common, "status": "too long", "cause": "NormalTooLong"}], "not_read": []}),
-        ):  # fmt: skip
+            (
+                {"blocks": (at_0, good, packet), "not_read": parts[:1]},
+                ["Exif: refused: Overlap at 0", "XMP: unreadable: NoRDF"],
+                {
+                    "blocks": [
+                        {**common, "name": "Exif", "status": "refused", "cause": "Overlap", "place": 0},
+                        {"kind": "iptc", "name": "IPTC", "status": "accepted", "digest": digest, "length": 7},
+                        {"kind": "xmp", "name": "XMP", "status": "unreadable", "cause": "NoRDF", "length": 9},
+                    ],
+                    "not_read": ["a trailer"],
+                },
+            ),
+            (
+                {"blocks": (failed, long)},
+                ["second Exif: failed: OutOfMemory", "second Exif: too long: NormalTooLong"],
+                {
+                    "blocks": [
+                        {**common, "status": "failed", "cause": "OutOfMemory"},
+                        {**common, "status": "too long", "cause": "NormalTooLong"},
+                    ],
+                    "not_read": [],
+                },
+            ),
+        ):
             it = PictureRecord(b"/a\n\xff", b"/", type="JPEG")._replace(**more)
             self.assertEqual(output.record_lines(it), [f"/a\\n\\xff: {line}" for line in printed])
             expected = {"path": "/a\\n\\xff", "path_hex": "2f610aff", "type": "JPEG", **members}

@@ -36,27 +36,37 @@ from exifnorm_pictures.xmp import names as short_names
 # Names of the standards that ExifTool doesn't use: by TIFF 6.0, CIPA DC-008 and IPTC-NAA IIM 4.2.
 STANDARD = {
     "main": "00fe NewSubfileType 00ff SubfileType 0101 ImageLength 0107 Threshholding 0132 DateTime 014a SubIFDs 0201 JPEGInterchangeFormat "
-            "0202 JPEGInterchangeFormatLength 02bc XMP 83bb IPTC 8649 PhotoshopResources 8769 ExifIFDPointer 8773 ICCProfile "
-            "8825 GPSInfoIFDPointer c4a5 PrintImageMatching",
+    "0202 JPEGInterchangeFormatLength 02bc XMP 83bb IPTC 8649 PhotoshopResources 8769 ExifIFDPointer 8773 ICCProfile "
+    "8825 GPSInfoIFDPointer c4a5 PrintImageMatching",
     "exif": "8827 PhotographicSensitivity 8828 OECF 9004 DateTimeDigitized 9204 ExposureBiasValue 927c MakerNote 9400 Temperature "
-            "a002 PixelXDimension a003 PixelYDimension a005 InteroperabilityIFDPointer a405 FocalLengthIn35mmFilm a430 CameraOwnerName "
-            "a431 BodySerialNumber a432 LensSpecification a436 ImageTitle a437 Photographer a438 ImageEditor a439 CameraFirmware "
-            "a43a RAWDevelopingSoftware a43b ImageEditingSoftware a43c MetadataEditingSoftware a461 SourceImageNumberOfCompositeImage "
-            "a462 SourceExposureTimesOfCompositeImage",
+    "a002 PixelXDimension a003 PixelYDimension a005 InteroperabilityIFDPointer a405 FocalLengthIn35mmFilm a430 CameraOwnerName "
+    "a431 BodySerialNumber a432 LensSpecification a436 ImageTitle a437 Photographer a438 ImageEditor a439 CameraFirmware "
+    "a43a RAWDevelopingSoftware a43b ImageEditingSoftware a43c MetadataEditingSoftware a461 SourceImageNumberOfCompositeImage "
+    "a462 SourceExposureTimesOfCompositeImage",
     "gps": "",
     "interop": "0001 InteroperabilityIndex 0002 InteroperabilityVersion 1002 RelatedImageLength",
     "iptc": "1:0 ModelVersion 1:22 FileFormatVersion 1:100 UNO 2:0 RecordVersion 2:20 SupplementalCategory 2:200 ObjectDataPreviewFileFormat "
-            "2:201 ObjectDataPreviewFileFormatVersion 2:202 ObjectDataPreviewData",
-}  # fmt: skip
+    "2:201 ObjectDataPreviewFileFormatVersion 2:202 ObjectDataPreviewData",
+}
 # The names of ExifTool's tables with these tags, and what is before the number of a tag there.
-GROUPS = {"Exif::Main": ("main", "exif", "interop"), "GPS::Main": ("gps",), "IPTC::EnvelopeRecord": ("1",), "IPTC::ApplicationRecord": ("2",)}
+GROUPS = {
+    "Exif::Main": ("main", "exif", "interop"),
+    "GPS::Main": ("gps",),
+    "IPTC::EnvelopeRecord": ("1",),
+    "IPTC::ApplicationRecord": ("2",),
+}
 # A tag of each namespace that ExifTool writes; and those that it doesn't write, by XMP part 1 (8) and 3 (1.1.3.1), and by exiv2's table.
 IN_SPACES = """dc:Title xmp:Label xmpRights:Marked=true xmpMM:DocumentID xmpBJ:JobRefName xmpTPg:NPages=1 xmpMM:DerivedFromDocumentID xmpMM:HistoryAction
 xmpTPg:MaxPageSizeW=1 xmpMM:VersionsVersion mwg-rs:RegionAreaX=1 xmpDM:Album pdf:Keywords photoshop:City crs:Version lr:HierarchicalSubject
 exif:UserComment aux:Lens tiff:Make exifEX:LensMake iptcCore:Location iptcExt:Event plus:ImageCreatorName mwg-kw:HierarchicalKeywords1
 digiKam:TagsList GPano:StitchingSoftware GCamera:BurstID""".split()
-OTHER_SPACES = {"xmpG": "http://ns.adobe.com/xap/1.0/g/", "xmpGImg": "http://ns.adobe.com/xap/1.0/g/img/", "xmpNote": "http://ns.adobe.com/xmp/note/",
-                "xmpidq": "http://ns.adobe.com/xmp/Identifier/qual/1.0/", "MicrosoftPhoto": "http://ns.microsoft.com/photo/1.0/"}  # fmt: skip
+OTHER_SPACES = {
+    "xmpG": "http://ns.adobe.com/xap/1.0/g/",
+    "xmpGImg": "http://ns.adobe.com/xap/1.0/g/img/",
+    "xmpNote": "http://ns.adobe.com/xmp/note/",
+    "xmpidq": "http://ns.adobe.com/xmp/Identifier/qual/1.0/",
+    "MicrosoftPhoto": "http://ns.microsoft.com/photo/1.0/",
+}
 
 
 class Prefixes(WithPictures):
@@ -80,7 +90,13 @@ class Names(unittest.TestCase):
                     for where in GROUPS.get(table, ()):
                         key = ("iptc", f"{where}:{number}") if where.isdigit() else (where, f"{int(number):04x}")
                         known.setdefault(key, set()).add(name.replace("-", "").lower())
-        for where, own in (("main", names._TIFF), ("exif", names._EXIF), ("gps", names._GPS), ("interop", names._INTEROP), ("iptc", names._IIM)):
+        for where, own in (
+            ("main", names._TIFF),
+            ("exif", names._EXIF),
+            ("gps", names._GPS),
+            ("interop", names._INTEROP),
+            ("iptc", names._IIM),
+        ):
             words = STANDARD[where].split()
             standard = dict(zip(words[0::2], words[1::2]))
             for key, name in own.items():
@@ -92,7 +108,11 @@ class Names(unittest.TestCase):
 
     def test_texts_whose_encoding_is_not_declared(self):
         """Windows-1252 has signs where Latin-1 has control characters, and five bytes without one (RFC 1345 and Unicode's table CP1252)."""
-        for octets, text in ((b"\x80\x93a\x94\x9f", "€“a”Ÿ"), (b"\xe9\x81\x8d\x8f\x90\x9d", "é\\x81\\x8d\\x8f\\x90\\x9d"), (b"\xff\0", "ÿ")):
+        for octets, text in (
+            (b"\x80\x93a\x94\x9f", "€“a”Ÿ"),
+            (b"\xe9\x81\x8d\x8f\x90\x9d", "é\\x81\\x8d\\x8f\\x90\\x9d"),
+            (b"\xff\0", "ÿ"),
+        ):
             self.assertEqual(labels.decoded(octets), (text, "character set guessed: Windows-1252"))
 
     def test_files_in_the_order_of_their_names(self):
@@ -155,7 +175,9 @@ class Indexed(WithPictures):
 
             with mock.patch.object(os, "scandir", refused):
                 index.index(asked, made)
-            found = dict(made.rows("SELECT path, problem FROM pictures", (), lambda row: (os.path.relpath(os.fsdecode(row[0]), self.folder), row[1])))
+            found = dict(
+                made.rows("SELECT path, problem FROM pictures", (), lambda row: (os.path.relpath(os.fsdecode(row[0]), self.folder), row[1]))
+            )
         self.assertEqual((found["a/1.jpg"], found["ab/1.jpg"]), ("NoPicture", "Vanished"))
 
 
@@ -233,7 +255,13 @@ class Parts(unittest.TestCase):
 class Printed(unittest.TestCase):
     def test_a_page_begins_with_its_type(self):
         """In letters of either kind (HTML, 13.1.1)."""
-        for head, is_one in ((b"<!DOCTYPE html>", True), (b"<!doctype HTML>", True), (b"<!DOCTYPE htm", False), (b" <!DOCTYPE html>", False), (b"", False)):
+        for head, is_one in (
+            (b"<!DOCTYPE html>", True),
+            (b"<!doctype HTML>", True),
+            (b"<!DOCTYPE htm", False),
+            (b" <!DOCTYPE html>", False),
+            (b"", False),
+        ):
             self.assertEqual(report_cli._is_page(head), is_one, head)
 
 
@@ -243,7 +271,9 @@ class Pieces(unittest.TestCase):
     def test_the_bar_of_states(self):
         """Its parts are side by side, and together 1,000 wide."""
         bar = report._share(contents.Gathered(total=4, states=Counter({"accepted": 3, "refused": 1})))
-        self.assertEqual(re.findall(r'class="(\w+)" x="([\d.]+)" width="([\d.]+)"', bar), [("good", "0.0", "750.0"), ("bad", "750.0", "250.0")])
+        self.assertEqual(
+            re.findall(r'class="(\w+)" x="([\d.]+)" width="([\d.]+)"', bar), [("good", "0.0", "750.0"), ("bad", "750.0", "250.0")]
+        )
 
     def test_a_long_value(self):
         text = "".join(chr(0x61 + number % 26) for number in range(301))
@@ -253,19 +283,43 @@ class Pieces(unittest.TestCase):
 class Listed(unittest.TestCase):
     def test_a_thumbnail_is_after_its_fields(self):
         """As in the listing (docs/FORMAT.md, 7)."""
-        names = [("iptc", "2:25"), ("thumb", "strip"), ("thumb", "jpeg"), ("thumb", "ffff"), ("thumb", "0112"), ("gps", "0001"), ("main", "010f"),
-                 ("iptc", "2:5"), ("exif", "9003")]  # fmt: skip
+        names = [
+            ("iptc", "2:25"),
+            ("thumb", "strip"),
+            ("thumb", "jpeg"),
+            ("thumb", "ffff"),
+            ("thumb", "0112"),
+            ("gps", "0001"),
+            ("main", "010f"),
+            ("iptc", "2:5"),
+            ("exif", "9003"),
+        ]
         found = listing.changes([], [Field(where, key, "SHORT", 1, "1") for where, key in names])
         self.assertEqual(
             [it.name for it in found],
-            ["main:Make", "exif:DateTimeOriginal", "gps:GPSLatitudeRef", "thumb:Orientation", "thumb:Tag ffff", "thumb:JPEG thumbnail",
-             "thumb:Strip", "iptc:ObjectName", "iptc:Keywords"],  # fmt: skip
+            [
+                "main:Make",
+                "exif:DateTimeOriginal",
+                "gps:GPSLatitudeRef",
+                "thumb:Orientation",
+                "thumb:Tag ffff",
+                "thumb:JPEG thumbnail",
+                "thumb:Strip",
+                "iptc:ObjectName",
+                "iptc:Keywords",
+            ],
         )
 
     def test_texts_with_a_character_set(self):
         """UserComment, GPSProcessingMethod and GPSAreaInformation begin with eight bytes for it (CIPA DC-008, 4.6.6 and 4.6.7)."""
         text = b"ASCII\0\0\0GPS"
-        for where, key, is_one in (("exif", "9286", True), ("gps", "001b", True), ("gps", "001c", True), ("exif", "001b", False), ("gps", "001d", False)):
+        for where, key, is_one in (
+            ("exif", "9286", True),
+            ("gps", "001b", True),
+            ("gps", "001c", True),
+            ("exif", "001b", False),
+            ("gps", "001d", False),
+        ):
             self.assertEqual(listing.shown_value(where, key, text) == 'ascii "GPS"', is_one, (where, key))
 
     def test_a_next_offset_that_is_missing(self):
@@ -301,9 +355,10 @@ class Ended(unittest.TestCase):
         import exifnorm
 
         for why, line, modules in (
-            (sqlite3.OperationalError("disk I/O error"), "disk I/O error", ()), (exifnorm.LibraryMissing("no library"), "no library", ()),
+            (sqlite3.OperationalError("disk I/O error"), "disk I/O error", ()),
+            (exifnorm.LibraryMissing("no library"), "no library", ()),
             (PermissionError(13, "Permission denied", b"/a\xff"), "/a\\xff: permission denied", ("exifnorm", "sqlite3")),
-        ):  # fmt: skip
+        ):
             lines = []
             with mock.patch.dict(sys.modules), mock.patch.object(main.signals, "say", lines.append):
                 for it in modules:
@@ -315,13 +370,20 @@ class Mended(WithPictures):
     def test_values_that_any_writer_changes(self):
         """Offsets, padding and the digest of the record are no values of a picture."""
         lines = b"[IFD0] Make : Abc\n[IFD0] StripOffsets : 8\n[ExifIFD] Padding : 1\n[Photoshop] IPTCDigest : 00ff\n[IFD1] Make  :  Abc\n"
-        with mock.patch.object(programs, "exiftool", lambda *words: list(words)), mock.patch.object(programs, "run", lambda _: programs.Done(0, lines)):
+        with mock.patch.object(programs, "exiftool", lambda *words: list(words)), mock.patch.object(
+            programs, "run", lambda _: programs.Done(0, lines)
+        ):
             self.assertEqual(sorted(mend._printed("a")), ["[IFD0] Make : Abc", "[IFD1] Make : Abc"])
 
     def test_statuses(self):
         """Those of `mend --help`; the greatest counts."""
-        ends = {"copy": (mend.Mended("copy", {}), 0), "touch": (mend.Mended("touch", {}), 0), "lost": (mend.Mended("rebuild", {}, ["a"]), 1),
-                "none": (mend.Mended("none", {}), 2), "problem": (mend.Mended("none", {}, problem="NoPicture"), 2)}  # fmt: skip
+        ends = {
+            "copy": (mend.Mended("copy", {}), 0),
+            "touch": (mend.Mended("touch", {}), 0),
+            "lost": (mend.Mended("rebuild", {}, ["a"]), 1),
+            "none": (mend.Mended("none", {}), 2),
+            "problem": (mend.Mended("none", {}, problem="NoPicture"), 2),
+        }
         asked = argparse.Namespace(json=False, files_from=None)
         for name, (found, status) in ends.items():
             with mock.patch.object(mend, "mend", lambda *_, found=found: found), contextlib.redirect_stdout(io.StringIO()):

@@ -20,7 +20,6 @@ from exifnorm_pictures.compare import groups
 from exifnorm_pictures.extract import budgets
 
 
-
 def exif():
     """An Exif block with bytes that belong to no field between its values."""
     values = ((0x010F, b"Maker\0"), (0x0110, b"Model\0"), (0x0131, b"Program\0"), (0x0132, b"2001:02:03 04:05:06\0"))
@@ -37,13 +36,16 @@ EXIF = exif()
 IPTC = iim(b"one") + iim(b"two") + b"\x1c\2\x78\0\7Caption"
 XMP = xmp(
     "<dc:format>image/jpeg</dc:format><dc:subject><rdf:Bag><rdf:li>a</rdf:li><rdf:li>b</rdf:li></rdf:Bag></dc:subject>"
-    "<dc:title><rdf:Alt><rdf:li xml:lang='x-default'>Title</rdf:li></rdf:Alt></dc:title>" + " " * 200, "xmp:Rating='3'",
-)  # fmt: skip
+    "<dc:title><rdf:Alt><rdf:li xml:lang='x-default'>Title</rdf:li></rdf:Alt></dc:title>" + " " * 200,
+    "xmp:Rating='3'",
+)
 MAKERS = {
     "jpg": lambda exif, iptc, xmp: jpeg(app1(exif), app13(resource(0x0404, iptc)), app1_xmp(xmp)),
     "png": lambda exif, iptc, xmp: png(chunk(b"eXIf", exif), png_xmp(xmp), profile(b"iptc", resource(0x0404, iptc))),
     "webp": lambda exif, _, xmp: webp((b"VP8 ", bytes(100)), (b"EXIF", exif), (b"XMP ", xmp)),
-    "tif": lambda _, iptc, xmp: tiff(page((0x010F, ASCII, b"Maker\0"), (0x0131, ASCII, b"Program\0"), (0x02BC, 1, xmp), (0x83BB, 7, iptc)), behind=b""),
+    "tif": lambda _, iptc, xmp: tiff(
+        page((0x010F, ASCII, b"Maker\0"), (0x0131, ASCII, b"Program\0"), (0x02BC, 1, xmp), (0x83BB, 7, iptc)), behind=b""
+    ),
 }
 MOST = 40  # pictures of one group that ExifTool compares
 
@@ -83,9 +85,26 @@ def mutations(kind, number):
 
 def tags_of(folder, names):
     """What ExifTool shows of the Exif, IPTC and XMP tags of some files, each by group, family and name, with places in the file left out."""
-    options = ["-json", "-a", "-G0:1:4", "-n", "-b", "-x", "ThumbnailOffset", "-x", "StripOffsets", "-x", "PreviewImageStart", "-x", "XMPToolkit"]
-    done = run(["exiftool", "-config", "", "-q", "-q", *options, *(f"-{it}:all" for it in ("EXIF", "IPTC", "XMP")), "-@", "-"], folder,
-               "\n".join(names).encode())  # fmt: skip
+    options = [
+        "-json",
+        "-a",
+        "-G0:1:4",
+        "-n",
+        "-b",
+        "-x",
+        "ThumbnailOffset",
+        "-x",
+        "StripOffsets",
+        "-x",
+        "PreviewImageStart",
+        "-x",
+        "XMPToolkit",
+    ]
+    done = run(
+        ["exiftool", "-config", "", "-q", "-q", *options, *(f"-{it}:all" for it in ("EXIF", "IPTC", "XMP")), "-@", "-"],
+        folder,
+        "\n".join(names).encode(),
+    )
     return {it.pop("SourceFile"): it for it in json.loads(done.stdout)}
 
 
@@ -134,9 +153,17 @@ for line in sys.stdin:
 def outcomes(folder, calls):
     """The outcome of each of some calls of exifnorm-pictures, in one process. A crash or a hang fails at the call."""
     with open(folder / "said", "wb") as said:
-        done = subprocess.run([sys.executable, "-c", CALLS], input="\n".join(map(json.dumps, calls)).encode(), cwd=folder, timeout=400,
-                              preexec_fn=lambda: os.dup2(said.fileno(), 3), pass_fds=(3,), env=Studio.environment(EXIFNORM_DEBUG=""),
-                              stdout=subprocess.DEVNULL, stderr=subprocess.PIPE)  # fmt: skip
+        done = subprocess.run(
+            [sys.executable, "-c", CALLS],
+            input="\n".join(map(json.dumps, calls)).encode(),
+            cwd=folder,
+            timeout=400,
+            preexec_fn=lambda: os.dup2(said.fileno(), 3),
+            pass_fds=(3,),
+            env=Studio.environment(EXIFNORM_DEBUG=""),
+            stdout=subprocess.DEVNULL,
+            stderr=subprocess.PIPE,
+        )
     found = [json.loads(it) for it in (folder / "said").read_bytes().splitlines()]
     assert (done.returncode, len(found)) == (0, len(calls)), (done, calls[len(found)] if len(found) < len(calls) else "")
     return found
@@ -148,7 +175,10 @@ def archive(tmp_path):
     (tmp_path / "p").mkdir()
     for number in range(9):
         text = "x" * 300
-        write(tmp_path / "p" / f"{number}.jpg", jpeg(app1(EXIF.replace(b"Maker", b"Made%d" % (number % 3))), app1_xmp(xmp(f"<dc:format>{text}</dc:format>"))))
+        write(
+            tmp_path / "p" / f"{number}.jpg",
+            jpeg(app1(EXIF.replace(b"Maker", b"Made%d" % (number % 3))), app1_xmp(xmp(f"<dc:format>{text}</dc:format>"))),
+        )
         os.utime(tmp_path / "p" / f"{number}.jpg", (1e9, 1e9))
     done = run(["exifnorm-pictures", "index", "p", "--catalogue", "good", "--quiet"], tmp_path)
     assert done.returncode == 0, done
@@ -184,7 +214,10 @@ def catalogue_mutations(octets, number):
                 made[at] = chance.choice((0, 1, 0xFF, chance.randrange(256)))
         elif action == 1:
             one, other = chance.randrange(1, pages), chance.randrange(1, pages)
-            made[one * size : (one + 1) * size], made[other * size : (other + 1) * size] = octets[other * size : (other + 1) * size], octets[one * size : (one + 1) * size]
+            made[one * size : (one + 1) * size], made[other * size : (other + 1) * size] = (
+                octets[other * size : (other + 1) * size],
+                octets[one * size : (one + 1) * size],
+            )
         elif action == 2:
             del made[chance.randrange(len(made)) :]
         else:
@@ -200,7 +233,11 @@ def test_mutated_files(archive):
         write(archive / name, octets)
         calls += [["same", "--catalogue", name, "--json"], ["changed", "good", name]]
         if number % 10 == 0:
-            calls += [["report", "--catalogue", name, "--json"], ["merge", name, "--catalogue", f"m{number}"], ["index", "p", "--catalogue", name, "--quiet", "--jobs", "1"]]
+            calls += [
+                ["report", "--catalogue", name, "--json"],
+                ["merge", name, "--catalogue", f"m{number}"],
+                ["index", "p", "--catalogue", name, "--quiet", "--jobs", "1"],
+            ]
     found = outcomes(archive, calls)
     see_no_false_group(found)
     assert {0, 4} <= {status for words, status, _, _ in found if words[0] == "same"}, "some are read, some are refused"
@@ -211,14 +248,20 @@ def test_mutated_rows(archive):
     values = ["NULL", "x'00'", "''", "-1", "1e300", "9223372036854775807", "'\u202e\x1b'", "zeroblob(1000000)", "'x'"]
     calls = []
     with sqlite3.connect(archive / "good") as base:
-        columns = [(table, row[1]) for table in ("runs", "pictures", "blocks", "not_read") for row in base.execute(f"PRAGMA table_info({table})")]
+        columns = [
+            (table, row[1]) for table in ("runs", "pictures", "blocks", "not_read") for row in base.execute(f"PRAGMA table_info({table})")
+        ]
     for number, (table, column) in enumerate(columns):
         for value in values[number % 4 :: 4]:
             name = f"c{len(calls)}"
             shutil.copy(archive / "good", archive / name)
             with contextlib.closing(sqlite3.connect(archive / name, isolation_level=None)) as base:
                 with contextlib.suppress(sqlite3.IntegrityError):
-                    base.execute(f"UPDATE {table} SET {column} = {value} WHERE rowid % 2" if table in ("runs", "pictures") else f"UPDATE {table} SET {column} = {value}")
+                    base.execute(
+                        f"UPDATE {table} SET {column} = {value} WHERE rowid % 2"
+                        if table in ("runs", "pictures")
+                        else f"UPDATE {table} SET {column} = {value}"
+                    )
             calls += [["same", "--catalogue", name, "--json"], ["changed", "good", name], ["report", "--catalogue", name, "--json"]]
     found = outcomes(archive, calls)
     for words, status, out, err in found:
@@ -247,7 +290,10 @@ def test_settings_of_sqlite(archive):
     shutil.copy(archive / "good", archive / "c")
     for make in (True, False):
         with Catalogue(str(archive / "c"), make=make) as catalogue:
-            settings = {name: catalogue.base.execute(f"PRAGMA {name}").fetchone()[0] for name in ("trusted_schema", "cell_size_check", "foreign_keys")}
+            settings = {
+                name: catalogue.base.execute(f"PRAGMA {name}").fetchone()[0]
+                for name in ("trusted_schema", "cell_size_check", "foreign_keys")
+            }
             assert settings == {"trusted_schema": 0, "cell_size_check": 1, "foreign_keys": 1}
             if make:
                 assert [catalogue.base.execute(f"PRAGMA {it}").fetchone()[0] for it in ("journal_mode", "synchronous")] == ["wal", 2]

@@ -10,7 +10,9 @@ from hypothesis import strategies as st
 # writing direction, and whatever else a name can have
 BYTES = st.integers(0x80, 0xFF).map(lambda it: bytes([it]))
 CHARACTERS = st.one_of(st.integers(0x7F, 0x100), st.integers(0x2000, 0x206F), st.sampled_from([0x61C, 0xFEFF, 0xE0001, 0x10FFFF])).map(chr)
-ESCAPED = st.sampled_from(["\\", "\\\\", "\\x", "\\x85", "\\u", "\\u0085", "\\U", "\\U000e0001", "\\n", "\n", "\r", "\t", "\x1b", "n", "85", "u0085"])
+ESCAPED = st.sampled_from(
+    ["\\", "\\\\", "\\x", "\\x85", "\\u", "\\u0085", "\\U", "\\U000e0001", "\\n", "\n", "\r", "\t", "\x1b", "n", "85", "u0085"]
+)
 PIECES = st.one_of(BYTES, st.one_of(CHARACTERS, ESCAPED, st.text(max_size=3)).map(lambda it: it.encode("utf-8", "surrogatepass")))
 NAMES = st.lists(PIECES, max_size=4).map(b"".join)
 

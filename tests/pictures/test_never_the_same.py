@@ -68,7 +68,9 @@ def parts():
 def reached():
     """A block whose MakerNote, or Kodak's directory, may lead to bytes that no field has."""
     pointers = {
-        "a MakerNote": lambda at: block([MAKE, entry(0x8769, LONG, 1, 38)]) + table([entry(0x927C, UNDEFINED, 8, max(at - 8, 0))]) + b"Note\0\0\0\1",
+        "a MakerNote": lambda at: block([MAKE, entry(0x8769, LONG, 1, 38)])
+        + table([entry(0x927C, UNDEFINED, 8, max(at - 8, 0))])
+        + b"Note\0\0\0\1",
         "Kodak's directory": lambda at: block([MAKE, entry(0x8290, LONG, 1, at)]),
         "global parameters": lambda at: block([MAKE, entry(0x0190, LONG, 1, at)]),
     }

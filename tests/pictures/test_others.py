@@ -26,10 +26,18 @@ class Answers(unittest.TestCase):
     maxDiff = None
 
     def test_blocks(self):
-        found = exiftool._blocks({"EXIF": "base64:TU0=", "IPTC": "abc", "Copy1:IPTC": "def", "XMP": "<x>", "FileType": "PSD",
-                                "MIMEType": "image/vnd"})  # fmt: skip
-        self.assertEqual(seen(found), [("exif", "Exif", b"MM", "PSD file", "exiftool"), ("iim", "IPTC", b"abc", "PSD file", "exiftool"),
-                                       ("iim", "second IPTC", b"def", "PSD file", "exiftool"), ("xmp", "XMP", b"<x>", "PSD file", "exiftool")])  # fmt: skip
+        found = exiftool._blocks(
+            {"EXIF": "base64:TU0=", "IPTC": "abc", "Copy1:IPTC": "def", "XMP": "<x>", "FileType": "PSD", "MIMEType": "image/vnd"}
+        )
+        self.assertEqual(
+            seen(found),
+            [
+                ("exif", "Exif", b"MM", "PSD file", "exiftool"),
+                ("iim", "IPTC", b"abc", "PSD file", "exiftool"),
+                ("iim", "second IPTC", b"def", "PSD file", "exiftool"),
+                ("xmp", "XMP", b"<x>", "PSD file", "exiftool"),
+            ],
+        )
         self.assertEqual((found.type, found.extractor, found.problem, found.not_read), ("PSD", "exiftool", None, []))
 
     def test_without_blocks(self):
@@ -38,12 +46,13 @@ class Answers(unittest.TestCase):
             ({"FileType": "GIF", "MIMEType": "image/gif"}, ("GIF", None, "")),
             ({"FileType": "TXT", "MIMEType": "text/plain"}, ("TXT", "NoPicture", "TXT (text/plain)")),
             ({"FileType": "TXT", "MIMEType": "text/image/"}, ("TXT", "NoPicture", "TXT (text/image/)")),
-            ({"Error": "File is empty"}, ("", "NoPicture", "File is empty")), ({}, ("", "NoPicture", "the file is no picture that ExifTool knows")),
+            ({"Error": "File is empty"}, ("", "NoPicture", "File is empty")),
+            ({}, ("", "NoPicture", "the file is no picture that ExifTool knows")),
             ({"Error": "Error opening file"}, ("", "Unreadable", "Error opening file")),
             ({"Error": "Unknown Error opening"}, ("", "NoPicture", "Unknown Error opening")),
             ({"FileType": "TXT", "MIMEType": "text/plain", "Error": "odd"}, ("TXT", "NoPicture", "odd")),
             *(({"FileType": it, "MIMEType": "image/x", "EXIF": "MM"}, (it, "SeveralBlocks", several)) for it in ("CR3", "CRX", "CRM")),
-        ):  # fmt: skip
+        ):
             found = exiftool._blocks(answer)
             self.assertEqual((found.type, found.problem, found.detail, found.found, found.extractor), (*expected, [], "exiftool"), answer)
         found = exiftool._blocks({"FileType": "PDF", "MIMEType": "application/pdf", "XMP": "<x>"})
@@ -55,7 +64,12 @@ class Answers(unittest.TestCase):
             for name in (it, it.lower()):
                 self.assertIsNotNone(extraction._RAW_NAME.search(f"/a.b/c.{name}".encode()), name)
                 self.assertIsNone(extraction._RAW_NAME.search(f"/a.b/c.{name[:-1]}".encode()), name)
-        for name, head, is_left in (("c.nef", b"II*\0", True), ("c.gif", b"GIF8", True), ("c.tif", b"II*\0", False), ("c.nef", b"MM\0+", False)):
+        for name, head, is_left in (
+            ("c.nef", b"II*\0", True),
+            ("c.gif", b"GIF8", True),
+            ("c.tif", b"II*\0", False),
+            ("c.nef", b"MM\0+", False),
+        ):
             with self.subTest(name, head=head), self.assertRaises(LeftToOthers) if is_left else contextlib.nullcontext():
                 extraction._read(io.BytesIO(head + struct.pack("<IH", 8, 0) + bytes(8)), name.encode(), False)
 
@@ -74,16 +88,21 @@ class Files(WithPictures):
             self.asked.append((path, words))
             return answers.pop(0)
 
-        with mock.patch.multiple(exiftool, ask=ask, room=lambda: self.path("room")), \
-             mock.patch.multiple(programs, is_there=lambda it: has_exiv2 and it == "exiv2", needed=lambda it: f"/bin/{it}", run=run or self.fail):  # fmt: skip
+        with mock.patch.multiple(exiftool, ask=ask, room=lambda: self.path("room")), mock.patch.multiple(
+            programs, is_there=lambda it: has_exiv2 and it == "exiv2", needed=lambda it: f"/bin/{it}", run=run or self.fail
+        ):
             return exiftool.by_others(b"a.x", io.BytesIO(octets), whole, why)
 
     def test_what_is_not_extracted(self):
         answer = {"FileType": "GIF", "MIMEType": "image/gif", "XMP": "<x>"}
         digest = hashlib.sha256(b"abc").hexdigest()
         what = "what ExifTool does not extract from a GIF file"
-        for most, whole, why, expected in ((3, False, "", (what, digest)), (2, False, "", (what, "")), (2, True, "", (what, digest)),
-                                           (3, False, "broken: no marker at 2", (f"{what} (broken: no marker at 2)", digest))):  # fmt: skip
+        for most, whole, why, expected in (
+            (3, False, "", (what, digest)),
+            (2, False, "", (what, "")),
+            (2, True, "", (what, digest)),
+            (3, False, "broken: no marker at 2", (f"{what} (broken: no marker at 2)", digest)),
+        ):
             with mock.patch.object(exiftool, "WHOLE_FILE", most):
                 found = self.read([answer], whole=whole, why=why)
             self.assertEqual(([tuple(it) for it in found.not_read], self.asked), ([expected], [(b"a.x", ASKED)]))
@@ -105,7 +124,9 @@ class Files(WithPictures):
             calls.clear()
             link = os.path.join(folder, f"picture.{kind.lower()}")
             found = self.read([{"FileType": kind, "MIMEType": "image/x"}, {"EXIF": "MM*", "Copy1:EXIF": "other"}], run=run)
-            self.assertEqual(calls, [(["/bin/exiv2", "-q", "-ee", "-l", folder, link], folder, os.path.abspath("a.x"), [os.path.basename(link)])])
+            self.assertEqual(
+                calls, [(["/bin/exiv2", "-q", "-ee", "-l", folder, link], folder, os.path.abspath("a.x"), [os.path.basename(link)])]
+            )
             self.assertEqual(self.asked, [(b"a.x", ASKED), (os.fsencode(os.path.join(folder, "picture.exv")), ("-EXIF:Exif",))])
             self.assertEqual(seen(found), [("exif", "Exif", b"MM*", f"{kind} file", "exiv2")])
             self.assertEqual((found.extractor, found.problem, len(found.not_read)), ("exiftool", None, 1))
@@ -137,11 +158,19 @@ class Files(WithPictures):
         calls = []
         blocks = added(lambda *words: calls.append(words) or answer)
         self.assertEqual(calls, [(b"a.jpg", ASKED)])
-        self.assertEqual(seen(blocks), [("iim", "IPTC", b"known", "APP13 segment at 2", "own"), ("iim", "second IPTC", b"new", "trailer", "exiftool"),
-                                        ("xmp", "XMP", b"<x>", "trailer", "exiftool")])  # fmt: skip
+        self.assertEqual(
+            seen(blocks),
+            [
+                ("iim", "IPTC", b"known", "APP13 segment at 2", "own"),
+                ("iim", "second IPTC", b"new", "trailer", "exiftool"),
+                ("xmp", "XMP", b"<x>", "trailer", "exiftool"),
+            ],
+        )
         self.assertEqual((blocks.extractor, blocks.not_read), ("exiftool", []))
         blocks = added(lambda *_: {"IPTC": "known"})
         self.assertEqual((blocks.extractor, len(blocks.found)), ("own", 1))
         for why in (programs.Missing("exiftool"), programs.Failed("exiftool took longer than 1 seconds")):
             blocks = added(mock.Mock(side_effect=why))
-            self.assertEqual((blocks.not_read, len(blocks.found)), ([NotRead("blocks of the trailer, for which ExifTool is needed", "")], 1))
+            self.assertEqual(
+                (blocks.not_read, len(blocks.found)), ([NotRead("blocks of the trailer, for which ExifTool is needed", "")], 1)
+            )

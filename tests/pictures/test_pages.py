@@ -32,7 +32,9 @@ def problem(name, word, detail=""):
 
 
 CHANGED = [
-    contents.EqualChanges("different", "Exif is different", [("main:Make", '"<a>"', '"b"'), ("main:Model", None, "x" * 301)], 1, [b"one.jpg"]),
+    contents.EqualChanges(
+        "different", "Exif is different", [("main:Make", '"<a>"', '"b"'), ("main:Model", None, "x" * 301)], 1, [b"one.jpg"]
+    ),
     contents.EqualChanges("different", "", [("exif:Flash", "1", None)], 1200, [b"x.jpg", b"y\n.jpg"]),
     contents.EqualChanges("moved", "to b&.jpg", [], 1, [b"a.jpg"]),
     contents.EqualChanges("missing after", "", [], 2, [b"m.jpg", b"n.jpg"]),
@@ -54,30 +56,49 @@ class Whole(unittest.TestCase):
             total=2000,
             states=Counter({"accepted": 1500, "refused": 300, "no block": 100, "NoPicture": 60, "BigTIFF": 39, "Other": 1}),
             causes=Counter({"Overlap": 61, "NoRDF": 2, "DataSetCut": 1}),
-            refused={"Overlap": [contents.Refused(b"/p/a&b.jpg", "exif", "second Exif", "Overlap", 34)],
-                     "DataSetCut": [contents.Refused(b"/p/c/d.jpg", "iim", "IPTC", "DataSetCut", 0)],
-                     "NoRDF": [contents.Refused(b"/p/e\xff.jpg", "xmp", "XMP", "NoRDF", None), contents.Refused(b"/q/f.jpg", "xmp", "XMP", "NoRDF", None)]},
+            refused={
+                "Overlap": [contents.Refused(b"/p/a&b.jpg", "exif", "second Exif", "Overlap", 34)],
+                "DataSetCut": [contents.Refused(b"/p/c/d.jpg", "iim", "IPTC", "DataSetCut", 0)],
+                "NoRDF": [
+                    contents.Refused(b"/p/e\xff.jpg", "xmp", "XMP", "NoRDF", None),
+                    contents.Refused(b"/q/f.jpg", "xmp", "XMP", "NoRDF", None),
+                ],
+            },
             parts=Counter({"a chunk <x>": 1, "a trailer": 1000}),
             unread=1001,
-            problems=[problem(b"/p/bad.jpg", "Unreadable", "permission denied"), problem(b"/p/n.txt", "NoPicture"), problem(b"/p/x", "Other")],
+            problems=[
+                problem(b"/p/bad.jpg", "Unreadable", "permission denied"),
+                problem(b"/p/n.txt", "NoPicture"),
+                problem(b"/p/x", "Other"),
+            ],
             all_problems=1301,
-            groups=[(1013, "Exif and IPTC are the same, no XMP", [b"/p/one.jpg", b"/p/s/two.jpg"]), (2, "XMP is the same", [b"/p/3", b"/p/4"])],
+            groups=[
+                (1013, "Exif and IPTC are the same, no XMP", [b"/p/one.jpg", b"/p/s/two.jpg"]),
+                (2, "XMP is the same", [b"/p/3", b"/p/4"]),
+            ],
             all_groups=(41, 1100),
-            results=Counter({"same": 1000, "different": 500, "refused": 10, "refused, the same bytes": 3, "only MakerNote differs": 1, "not read": 2}),
+            results=Counter(
+                {"same": 1000, "different": 500, "refused": 10, "refused, the same bytes": 3, "only MakerNote differs": 1, "not read": 2}
+            ),
             changed=CHANGED,
             all_changed=303,
             fields=Counter({"main:Make": 30, "iptc:Keywords": 10, **{f"xmp:n{number:02}": 1 for number in range(19)}}),
             since=True,
             runs=[("a", "b", "1.0", "12.00", "0.1"), ("c", "d", "1.0-unproved", "12.57<", "0.27.6")],
             roots=[b"/p"],
-        )  # fmt: skip
+        )
         self.golden("page.html", compact(made(found)))
 
     def test_folders_of_a_page(self):
         """The first five of several; then each name is a whole path."""
         roots = [b"/a<", b"/b", b"/c", b"/d", b"/e"]
-        for more, words in (([], "1 files below /a&lt;, /b, /c, /d, /e &middot;"), ([b"/f"], "1 files below /a&lt;, /b, /c, /d, /e .. &middot;")):
-            page = made(contents.Gathered(total=1, roots=roots + more, runs=[("a", None, None, None, None)], groups=[(2, "s", [b"/a</x", b"/f/y"])]))
+        for more, words in (
+            ([], "1 files below /a&lt;, /b, /c, /d, /e &middot;"),
+            ([b"/f"], "1 files below /a&lt;, /b, /c, /d, /e .. &middot;"),
+        ):
+            page = made(
+                contents.Gathered(total=1, roots=roots + more, runs=[("a", None, None, None, None)], groups=[(2, "s", [b"/a</x", b"/f/y"])])
+            )
             self.assertIn(f"<p>{words} 2026-03-04 05:06 UTC</p>", page)
             self.assertEqual(re.findall(r'<span class="name">(.*?)</span>', page), ["/a&lt;/x", "/f/y"])
         for root, path, name in ((b"/", b"/x/y", "x/y"), (b"/a/", b"/a/y", "y"), (b"/a", b"/ab/y", "/ab/y"), (b"/a", b"/a", "/a")):

@@ -13,8 +13,27 @@ import zlib
 
 from made_blocks import ASCII, LONG, BLOCKS, block, entry, segment
 from made_files import (
-    T_OTHERWISE, app1, app1_xmp, app13, chunk, exif, extension, iim, jpeg, mpf, page, png, png_xmp, profile, resource, tiff, title, turned, webp, xmp,
-)  # fmt: skip
+    T_OTHERWISE,
+    app1,
+    app1_xmp,
+    app13,
+    chunk,
+    exif,
+    extension,
+    iim,
+    jpeg,
+    mpf,
+    page,
+    png,
+    png_xmp,
+    profile,
+    resource,
+    tiff,
+    title,
+    turned,
+    webp,
+    xmp,
+)
 from studio import SMALL_JPEG, WithPictures, needs, run, tool, write
 
 _ASKED = threading.Lock()  # of one ExifTool in this process
@@ -176,8 +195,11 @@ class Png(Pairs):
             self.same(png(made(A)), png(made(turned(A))))
             self.not_same(png(made(A)), png(made(B)))
             self.same(png(made(A)), jpeg(app1(A)))
-        for made in (lambda it: profile(b"iptc", it), lambda it: profile(b"8bim", resource(0x404, it)),
-                     lambda it: profile(b"iptc", b"Photoshop 3.0\0" + resource(0x404, it))):  # fmt: skip
+        for made in (
+            lambda it: profile(b"iptc", it),
+            lambda it: profile(b"8bim", resource(0x404, it)),
+            lambda it: profile(b"iptc", b"Photoshop 3.0\0" + resource(0x404, it)),
+        ):
             self.same(png(made(K)), png(made(K + b"\0")))
             self.not_same(png(made(K)), png(made(L)))
         for made in (png_xmp, lambda it: png_xmp(it, True), lambda it: profile(b"xmp", it)):
@@ -339,8 +361,9 @@ class Others(Pairs):
 
     def test_broken_jpeg(self):
         base = jpeg(app1(A))
-        words = self.not_same(base[: 2 + 4 + 6 + len(A)] + b"\0\0" + base[40:], base[: 2 + 4 + 6 + len(A)] + b"\0\1" + base[40:],
-                              "not wholly read")  # fmt: skip
+        words = self.not_same(
+            base[: 2 + 4 + 6 + len(A)] + b"\0\0" + base[40:], base[: 2 + 4 + 6 + len(A)] + b"\0\1" + base[40:], "not wholly read"
+        )
         self.assertIn("not wholly read: the rest of a damaged file (no marker", words)
 
     def test_long_broken_jpeg(self):

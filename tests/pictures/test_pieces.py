@@ -35,12 +35,24 @@ class Shown(unittest.TestCase):
     def test_octets(self):
         many = bytes(range(200, 233))
         for octets, text in (
-            (b"", '""'), (b"\0", '""'), (b"abc", '"abc"'), (b"abc\0", '"abc"'), (b"abc\0\0", "0x6162630000"), (b'a"b\\', r'"a\"b\\"'),
-            (b"a\n\t\r", '"a\\n\\t\\r"'), (b"a\x1b", "0x611b"), (b"\xc3\xbc", '"\u00fc"'), (b"\xfc", "0xfc"), (b"x" * 400, f'"{"x" * 400}"'),
-            (b"x" * 401, f"0x{'78' * 8}.. sha256:{digits(b'x' * 401)}"), (("\u00fc" * 400).encode(), f'"{chr(0xFC) * 400}"'),
-            (many[:32], f"0x{many[:32].hex()}"), (many, f"0x{many[:8].hex()}.. sha256:{digits(many)}"), (many[:32] + b"\0", f"0x{many[:8].hex()}.. sha256:{digits(many[:32] + bytes(1))}"),
+            (b"", '""'),
+            (b"\0", '""'),
+            (b"abc", '"abc"'),
+            (b"abc\0", '"abc"'),
+            (b"abc\0\0", "0x6162630000"),
+            (b'a"b\\', r'"a\"b\\"'),
+            (b"a\n\t\r", '"a\\n\\t\\r"'),
+            (b"a\x1b", "0x611b"),
+            (b"\xc3\xbc", '"\u00fc"'),
+            (b"\xfc", "0xfc"),
+            (b"x" * 400, f'"{"x" * 400}"'),
+            (b"x" * 401, f"0x{'78' * 8}.. sha256:{digits(b'x' * 401)}"),
+            (("\u00fc" * 400).encode(), f'"{chr(0xFC) * 400}"'),
+            (many[:32], f"0x{many[:32].hex()}"),
+            (many, f"0x{many[:8].hex()}.. sha256:{digits(many)}"),
+            (many[:32] + b"\0", f"0x{many[:8].hex()}.. sha256:{digits(many[:32] + bytes(1))}"),
             (chr(0x10000).encode() * 400, f'"{chr(0x10000) * 400}"'),
-        ):  # fmt: skip
+        ):
             self.assertEqual(listing.shown_octets(octets), text, octets)
 
     def test_numbers(self):
@@ -55,58 +67,96 @@ class Shown(unittest.TestCase):
     def test_texts_in_other_forms(self):
         wide = "a\u00fc".encode("utf-16-le")
         for where, key, octets, text in (
-            ("main", "9c9b", wide, 'utf-16 "a\u00fc"'), ("main", "9c9f", wide + b"\0\0", 'utf-16 "a\u00fc"'), ("main", "9c9c", b'a\0"\0\\\0\n\0', 'utf-16 "a\\"\\\\\\n"'),
-            ("exif", "9c9b", wide, listing.shown_octets(wide)), ("main", "9ca0", wide, listing.shown_octets(wide)), ("main", "9c9d", b"a\0b", "0x610062"),
-            ("main", "9c9e", b"\0\0", "0x0000"), ("main", "9c9e", b"\1\0", "0x0100"), ("main", "9c9e", b"a\0" * 400, f'utf-16 "{"a" * 400}"'),
+            ("main", "9c9b", wide, 'utf-16 "a\u00fc"'),
+            ("main", "9c9f", wide + b"\0\0", 'utf-16 "a\u00fc"'),
+            ("main", "9c9c", b'a\0"\0\\\0\n\0', 'utf-16 "a\\"\\\\\\n"'),
+            ("exif", "9c9b", wide, listing.shown_octets(wide)),
+            ("main", "9ca0", wide, listing.shown_octets(wide)),
+            ("main", "9c9d", b"a\0b", "0x610062"),
+            ("main", "9c9e", b"\0\0", "0x0000"),
+            ("main", "9c9e", b"\1\0", "0x0100"),
+            ("main", "9c9e", b"a\0" * 400, f'utf-16 "{"a" * 400}"'),
             ("main", "9c9e", b"a\0" * 401, f"0x{'6100' * 4}.. sha256:{digits(b'aX'.replace(b'X', bytes(1)) * 401)}"),
-            ("exif", "9286", b"ASCII\0\0\0", 'ascii ""'), ("exif", "9286", b"ASCII\0\0\0a\0", "0x4153434949000000" "6100"), ("gps", "001b", b"ASCII\0\0\0a", 'ascii "a"'),
-            ("exif", "9286", b"ASCII\0\0 a", "0x41534349490000" "2061"), ("exif", "9286", b"UNICODE\0a", "0x554e49434f444500" "61"),
-        ):  # fmt: skip
+            ("exif", "9286", b"ASCII\0\0\0", 'ascii ""'),
+            ("exif", "9286", b"ASCII\0\0\0a\0", "0x4153434949000000" "6100"),
+            ("gps", "001b", b"ASCII\0\0\0a", 'ascii "a"'),
+            ("exif", "9286", b"ASCII\0\0 a", "0x41534349490000" "2061"),
+            ("exif", "9286", b"UNICODE\0a", "0x554e49434f444500" "61"),
+        ):
             self.assertEqual(listing.shown_value(where, key, octets), text, (where, key, octets))
 
     def test_values_in_a_list_of_changes(self):
         """The values of a repeated field are one list; numbers have their type, and texts don't."""
+
         def field(kind, count, text, where="xmp", key="dc:a"):
             return listing.Field(where, key, kind, count, text)
 
         for fields, text in (
-            ([field("ASCII", 2, '"a"')], '"a"'), ([field("octets", 1, '"a"'), field("octets", 1, '"b"')], '"a", "b"'), ([field("text", 1, '"a"')], '"a"'),
-            ([field("URI", 1, "<http://a/>")], "<http://a/>"), ([field("SHORT", 2, "1 2")], "short[2] 1 2"), ([field("Bag", 1, 'Bag["a"]')], 'bag[1] Bag["a"]'),
+            ([field("ASCII", 2, '"a"')], '"a"'),
+            ([field("octets", 1, '"a"'), field("octets", 1, '"b"')], '"a", "b"'),
+            ([field("text", 1, '"a"')], '"a"'),
+            ([field("URI", 1, "<http://a/>")], "<http://a/>"),
+            ([field("SHORT", 2, "1 2")], "short[2] 1 2"),
+            ([field("Bag", 1, 'Bag["a"]')], 'bag[1] Bag["a"]'),
             ([field("structure", 1, '{dc:a="1"}')], 'structure[1] {dc:a="1"}'),
             ([field("UNDEFINED", 99, f"0x00.. sha256:{digits(b'abc')}")], f"undefined[99] 0x00.. sha256:{digits(b'abc', 12)}"),
-        ):  # fmt: skip
+        ):
             self.assertEqual([tuple(it)[:3] for it in listing.changes(fields, [])], [("xmp:dc:a", text, None)])
             self.assertEqual([tuple(it)[:3] for it in listing.changes([], fields)], [("xmp:dc:a", None, text)])
             self.assertEqual(listing.changes(fields, fields), [])
         other = [field("ASCII", 2, '"a"', "exif", "927c"), field("SHORT", 1, "1", "main", "0112")]
-        self.assertEqual([listing.only_maker_note(*it) for it in ((other, other[1:]), (other, other), (other, other[:1]))], [True, False, False])
+        self.assertEqual(
+            [listing.only_maker_note(*it) for it in ((other, other[1:]), (other, other), (other, other[:1]))], [True, False, False]
+        )
 
     def test_a_thumbnail(self):
         self.assertEqual(listing.thumbnail("exif\n[thumb]\njpeg 2: ffd8\n"), b"\xff\xd8")
         self.assertIsNone(listing.thumbnail("exif\n[thumb]\nstrip 2: ffd8\n"))
 
     def test_names_of_files(self):
-        self.assertEqual(output.escaped("\ud800\x7f\x85\u2028\U000e0001\udc80\udcff\ud7ff\\\r\n\t"), "\\ud800\\x7f\\u0085\\u2028\\U000e0001\\x80\\xff\\ud7ff\\\\\\r\\n\\t")
-        self.assertEqual([output.reason(it) for it in (OSError(2, "No Such File"), OSError(), PermissionError())], ["no such file", "oserror", "permissionerror"])
-        self.assertEqual([output.path_members(it) for it in ("\u00fc\n".encode(), b"\xfc")], [{"path": "\u00fc\n"}, {"path": "\\xfc", "path_hex": "fc"}])
+        self.assertEqual(
+            output.escaped("\ud800\x7f\x85\u2028\U000e0001\udc80\udcff\ud7ff\\\r\n\t"),
+            "\\ud800\\x7f\\u0085\\u2028\\U000e0001\\x80\\xff\\ud7ff\\\\\\r\\n\\t",
+        )
+        self.assertEqual(
+            [output.reason(it) for it in (OSError(2, "No Such File"), OSError(), PermissionError())],
+            ["no such file", "oserror", "permissionerror"],
+        )
+        self.assertEqual(
+            [output.path_members(it) for it in ("\u00fc\n".encode(), b"\xfc")], [{"path": "\u00fc\n"}, {"path": "\\xfc", "path_hex": "fc"}]
+        )
 
     def test_xmp(self):
         def shown(inside, attributes=""):
             found = xmp.statements(packet_of(inside, attributes), xmp.Extensions({}), set())
             return [(it.key, it.type, it.elements, it.shown) for it in xmp.fields(found)]
 
-        lists = "".join(f"<dc:{name}><rdf:{kind}><rdf:li>b</rdf:li><rdf:li xml:lang='DE'>a</rdf:li></rdf:{kind}></dc:{name}>"
-                        for name, kind in (("subject", "Bag"), ("creator", "Seq"), ("title", "Alt")))  # fmt: skip
-        self.assertEqual(shown(lists), [("dc:creator", "Seq", 2, 'Seq["b", "a"@de]'), ("dc:subject", "Bag", 2, 'Bag["b", "a"@de]'),
-                                        ("dc:title", "Alt", 2, 'Alt["b", "a"@de]')])  # fmt: skip
-        self.assertEqual(shown("<xmp:x rdf:resource='http://a/'/><xmp:y rdf:parseType='Resource'><dc:b>1</dc:b><dc:a>2\"</dc:a></xmp:y>", "xmp:z='&#10;'"), [
-            ("xmp:x", "URI", 1, "<http://a/>"), ("xmp:y", "structure", 2, '{dc:a="2\\"", dc:b="1"}'), ("xmp:z", "text", 1, '"\\n"')])  # fmt: skip
+        lists = "".join(
+            f"<dc:{name}><rdf:{kind}><rdf:li>b</rdf:li><rdf:li xml:lang='DE'>a</rdf:li></rdf:{kind}></dc:{name}>"
+            for name, kind in (("subject", "Bag"), ("creator", "Seq"), ("title", "Alt"))
+        )
+        self.assertEqual(
+            shown(lists),
+            [
+                ("dc:creator", "Seq", 2, 'Seq["b", "a"@de]'),
+                ("dc:subject", "Bag", 2, 'Bag["b", "a"@de]'),
+                ("dc:title", "Alt", 2, 'Alt["b", "a"@de]'),
+            ],
+        )
+        self.assertEqual(
+            shown(
+                "<xmp:x rdf:resource='http://a/'/><xmp:y rdf:parseType='Resource'><dc:b>1</dc:b><dc:a>2\"</dc:a></xmp:y>", "xmp:z='&#10;'"
+            ),
+            [("xmp:x", "URI", 1, "<http://a/>"), ("xmp:y", "structure", 2, '{dc:a="2\\"", dc:b="1"}'), ("xmp:z", "text", 1, '"\\n"')],
+        )
         self.assertEqual(shown("<dc:a>2</dc:a><dc:a>1</dc:a><dc:a>1</dc:a>"), [("dc:a", "text", 2, '"2", "1"')], "in their order")
         self.assertEqual(shown("", "dc:a='" + "x" * 398 + "'")[0][3], f'"{"x" * 398}"')
         long = "x" * 399
         self.assertEqual(shown("", f"dc:a='{long}'")[0][3], f'"{long[:59]}.. sha256:' + digits(f'"0:0:{long}'.encode()))
         eleven = "".join(f"<rdf:li>{number}</rdf:li>" for number in range(11))
-        self.assertEqual(shown(f"<dc:a><rdf:Seq>{eleven}</rdf:Seq></dc:a>")[0][3], "Seq[" + ", ".join(f'"{number}"' for number in range(11)) + "]")
+        self.assertEqual(
+            shown(f"<dc:a><rdf:Seq>{eleven}</rdf:Seq></dc:a>")[0][3], "Seq[" + ", ".join(f'"{number}"' for number in range(11)) + "]"
+        )
 
 
 class Results(unittest.TestCase):
@@ -117,23 +167,43 @@ class Results(unittest.TestCase):
         for found, parts, text in (
             ([(exif, "same", True), (iptc, "same", False), (xmp_, "same", False)], (), "Exif, IPTC and XMP are the same"),
             ([(exif, "same", True), (iptc, "different", False), (xmp_, "same", False)], (), "Exif and XMP are the same, IPTC is different"),
-            ([(exif, "refused", True), (iptc, "refused", False), (xmp_, "unreadable", False)], (),
-             "IPTC is refused, Exif is refused in the same bytes, XMP is unreadable"),
-            ([(exif, "refused", True), (iptc, "refused", True), (xmp_, "unreadable", True)], (),
-             "Exif and IPTC are refused in the same bytes, XMP is unreadable in the same bytes"),
-            ([(exif, "absent", False), (iptc, "absent", False), (xmp_, "absent", False)], ("a", "b"), "no Exif and no IPTC and no XMP; not wholly read: a, b"),
-        ):  # fmt: skip
+            (
+                [(exif, "refused", True), (iptc, "refused", False), (xmp_, "unreadable", False)],
+                (),
+                "IPTC is refused, Exif is refused in the same bytes, XMP is unreadable",
+            ),
+            (
+                [(exif, "refused", True), (iptc, "refused", True), (xmp_, "unreadable", True)],
+                (),
+                "Exif and IPTC are refused in the same bytes, XMP is unreadable in the same bytes",
+            ),
+            (
+                [(exif, "absent", False), (iptc, "absent", False), (xmp_, "absent", False)],
+                ("a", "b"),
+                "no Exif and no IPTC and no XMP; not wholly read: a, b",
+            ),
+        ):
             self.assertEqual(verdicts.sentence([Verdict(*it) for it in found], parts), text)
 
     def test_words(self):
-        same, other, refused, unreadable = Verdict("exif", "same"), Verdict("exif", "different"), Verdict("iim", "refused"), Verdict("xmp", "unreadable")
+        same, other, refused, unreadable = (
+            Verdict("exif", "same"),
+            Verdict("exif", "different"),
+            Verdict("iim", "refused"),
+            Verdict("xmp", "unreadable"),
+        )
         refused_same, unreadable_same = Verdict("iim", "refused", True), Verdict("xmp", "unreadable", True)
         for found, parts, word in (
-            ([same], (), "same"), ([], (), "same"), ([same], ("a",), "not wholly read"), ([same, other, refused], ("a",), "different"),
-            ([same, refused, unreadable], ("a",), "refused"), ([same, unreadable, refused_same], ("a",), "unreadable"),
-            ([same, refused_same, unreadable_same], ("a",), "not wholly read"), ([same, refused_same, unreadable_same], (), "refused, the same bytes"),
+            ([same], (), "same"),
+            ([], (), "same"),
+            ([same], ("a",), "not wholly read"),
+            ([same, other, refused], ("a",), "different"),
+            ([same, refused, unreadable], ("a",), "refused"),
+            ([same, unreadable, refused_same], ("a",), "unreadable"),
+            ([same, refused_same, unreadable_same], ("a",), "not wholly read"),
+            ([same, refused_same, unreadable_same], (), "refused, the same bytes"),
             ([same, unreadable_same], (), "unreadable, the same bytes"),
-        ):  # fmt: skip
+        ):
             self.assertEqual(verdicts.result(found, parts), word)
 
     def test_sides(self):
@@ -153,22 +223,36 @@ class Results(unittest.TestCase):
 
     def test_parts(self):
         known, other, unknown = NotRead("b", "1"), NotRead("a", "2"), NotRead("c", "")
-        for one, two, expected in (([known], [known], []), ([known, known], [known], ["b"]), ([known, other], [other, known], []), ([unknown], [unknown], ["c"]),
-                                   ([known, unknown], [other], ["a", "b", "c"]), ([NotRead("b", "3")], [known], ["b"])):  # fmt: skip
+        for one, two, expected in (
+            ([known], [known], []),
+            ([known, known], [known], ["b"]),
+            ([known, other], [other, known], []),
+            ([unknown], [unknown], ["c"]),
+            ([known, unknown], [other], ["a", "b", "c"]),
+            ([NotRead("b", "3")], [known], ["b"]),
+        ):
             self.assertEqual(verdicts.left_open(one, two), expected)
 
     def test_new_names(self):
         self.assertEqual(moved.best([], b"/a"), None)
         self.assertEqual(moved.best([b"/b/x", b"/c/a", b"/d/a"], b"/e/a"), b"/c/a")
         self.assertEqual(moved.best([b"/b/x", b"/c/y"], b"/e/a"), b"/b/x")
-        for words, key in (((["a", "", ""], "", 1), ("a", "", "", "", 1)), ((["", "", ""], "", 1), None), ((["a", "", ""], None, 1), None),
-                           ((["a", "", ""], "p", None), None), ((["", "", "a"], "p", 0), ("", "", "a", "p", 0))):  # fmt: skip
+        for words, key in (
+            ((["a", "", ""], "", 1), ("a", "", "", "", 1)),
+            ((["", "", ""], "", 1), None),
+            ((["a", "", ""], None, 1), None),
+            ((["a", "", ""], "p", None), None),
+            ((["", "", "a"], "p", 0), ("", "", "a", "p", 0)),
+        ):
             self.assertEqual(moved.content_key(*words), key)
 
     def test_marks(self):
         """Of 64 bits with a sign."""
+
         def of(*marks):
-            return tuple(Stamp.of(SimpleNamespace(**dict(zip(("st_size", "st_mtime_ns", "st_ctime_ns", "st_ino", "st_dev"), (*marks, 9))))))[:4]
+            return tuple(
+                Stamp.of(SimpleNamespace(**dict(zip(("st_size", "st_mtime_ns", "st_ctime_ns", "st_ino", "st_dev"), (*marks, 9)))))
+            )[:4]
 
         least, greatest = -(1 << 63), (1 << 63) - 1
         self.assertEqual(of(1, 2, 3, 4), (1, 2, 3, 4))
@@ -188,7 +272,11 @@ class Work(WithPictures):
             return iter(())
 
         with mock.patch.object(workers, "_by_processes", by_processes):
-            list(workers._in_several_processes([FoundFile(b"%d" % it, b"/", None) for it in range(count)], batches.How(jobs=jobs, room="/room")))
+            list(
+                workers._in_several_processes(
+                    [FoundFile(b"%d" % it, b"/", None) for it in range(count)], batches.How(jobs=jobs, room="/room")
+                )
+            )
         self.assertEqual([it[1] for it in taken], [f"/room/rows-{number}" for number in range(len(taken))])
         return [it[0] for it in taken]
 
@@ -218,27 +306,44 @@ class Work(WithPictures):
         how = batches.How()
         with mock.patch.object(workers.signals, "signals_held", held), mock.patch.object(workers, "ProcessPoolExecutor", made):
             workers._pool(how, 3)
-        self.assertEqual(steps, ["held", ((3,), "fork", {"initializer": workers._begin, "initargs": (how, os.getpid(), {1})}), os.getpid, "released"])
+        self.assertEqual(
+            steps, ["held", ((3,), "fork", {"initializer": workers._begin, "initargs": (how, os.getpid(), {1})}), os.getpid, "released"]
+        )
 
     def test_a_part_that_takes_long(self):
         found = [FoundFile(b"/%d" % it, b"/", None) for it in range(4)]
         times = iter([0.0, 1.9, 2.0, 2.1])
-        with mock.patch.object(workers, "look", lambda it, how: PictureRecord(it.path, it.root, problem="NoPicture" if how.whole else "Vanished")), \
-             mock.patch.object(workers.time, "monotonic", lambda: next(times)):  # fmt: skip
+        with mock.patch.object(
+            workers, "look", lambda it, how: PictureRecord(it.path, it.root, problem="NoPicture" if how.whole else "Vanished")
+        ), mock.patch.object(workers.time, "monotonic", lambda: next(times)):
             it = workers.look_at_some(workers.Task(found, self.path("rows")), batches.How(whole=True))
         self.assertEqual((it.file, it.states, it.lines, it.unread, it.left), (self.path("rows"), {"NoPicture": 3}, [], [], found[3:]))
 
     def test_rows_of_a_part(self):
         """Those that can't be read have none: if they were known before, their earlier results stay."""
-        entries = [PictureRecord(b"/a", b"/", Stamp(1, 2, 3, 4), "JPEG", "own"), PictureRecord(b"/b", b"/", problem="Unreadable", detail="why"),
-                   PictureRecord(b"/c", b"/", problem="Vanished"), PictureRecord(b"/d", b"/", problem="NoPicture", detail="d")]  # fmt: skip
+        entries = [
+            PictureRecord(b"/a", b"/", Stamp(1, 2, 3, 4), "JPEG", "own"),
+            PictureRecord(b"/b", b"/", problem="Unreadable", detail="why"),
+            PictureRecord(b"/c", b"/", problem="Vanished"),
+            PictureRecord(b"/d", b"/", problem="NoPicture", detail="d"),
+        ]
         it = batches.batch(self.path("rows"), entries, [FoundFile(b"/e", b"/", None)], lambda it: [os.fsdecode(it.path), it.detail])
-        self.assertEqual(it, (self.path("rows"), {"no block": 1, "Unreadable": 1, "Vanished": 1, "NoPicture": 1},
-                              ["/a", "", "/b", "why", "/c", "", "/d", "d"], entries[1:3], [FoundFile(b"/e", b"/", None)]))  # fmt: skip
+        self.assertEqual(
+            it,
+            (
+                self.path("rows"),
+                {"no block": 1, "Unreadable": 1, "Vanished": 1, "NoPicture": 1},
+                ["/a", "", "/b", "why", "/c", "", "/d", "d"],
+                entries[1:3],
+                [FoundFile(b"/e", b"/", None)],
+            ),
+        )
         base = sqlite3.connect(self.path("rows"))
         self.addCleanup(base.close)
-        self.assertEqual(base.execute("SELECT id, path, size, inode, problem, detail, run FROM pictures").fetchall(),
-                         [(1, b"/a", 1, 4, None, "", 0), (2, b"/d", None, None, "NoPicture", "d", 0)])  # fmt: skip
+        self.assertEqual(
+            base.execute("SELECT id, path, size, inode, problem, detail, run FROM pictures").fetchall(),
+            [(1, b"/a", 1, 4, None, "", 0), (2, b"/d", None, None, "NoPicture", "d", 0)],
+        )
         self.assertEqual(batches.batch(self.path("more"), entries[:1], [], None).lines, [])
         self.assertEqual(records.state_of(None, []), "no block")
 
@@ -257,9 +362,27 @@ class Walked(WithPictures):
         names = [os.fsencode(self.path(it)) for it in ("d", "other/4", "nothing", "d/none", "d/3/x", "d/folder", "d/b/../3")]
         found = list(walk.below(names, unlisted.append, [names[1], os.fsencode(self.path("d", "b", "1"))]))
         size = {"d/3": 3, "d/file": 3, "d/.a/2": 6, "d/folder/4": 7}
-        expected = [("d/3", "d"), ("d/file", "d"), ("d/none", "d"), ("d/self", "d"), ("d/.a/2", "d"), ("d/none", "d"), ("d/folder/4", "d/folder"), ("d/3", "d")]
-        self.assertEqual([(os.path.relpath(os.fsdecode(it.path), self.folder), os.path.relpath(os.fsdecode(it.root), self.folder), it.stamp and it.stamp.size)
-                          for it in found], [(name, root, size.get(name)) for name, root in expected])  # fmt: skip
+        expected = [
+            ("d/3", "d"),
+            ("d/file", "d"),
+            ("d/none", "d"),
+            ("d/self", "d"),
+            ("d/.a/2", "d"),
+            ("d/none", "d"),
+            ("d/folder/4", "d/folder"),
+            ("d/3", "d"),
+        ]
+        self.assertEqual(
+            [
+                (
+                    os.path.relpath(os.fsdecode(it.path), self.folder),
+                    os.path.relpath(os.fsdecode(it.root), self.folder),
+                    it.stamp and it.stamp.size,
+                )
+                for it in found
+            ],
+            [(name, root, size.get(name)) for name, root in expected],
+        )
         self.assertEqual(found[0].stamp, Stamp.of(os.stat(self.path("d", "3"))))
         self.assertEqual(unlisted, [walk.Unlisted(names[2], "no such file or directory"), walk.Unlisted(names[4], "not a directory")])
 
@@ -291,17 +414,28 @@ class Sessions(WithPictures):
             calls.append((words, folder, stdin))
             return SimpleNamespace(stdin=pipe, poll=lambda: None)
 
-        pipe, answers = stdin, [b'[{"SourceFile": "/a/b.jpg", "EXIF": "x"}]\n{done 1}\n', b"{done 2}\n", b'[{"SourceFile": "./link.Jpg"}]{done 3}\n']
-        with mock.patch.multiple(programs, start=start, needed=lambda it: it, read_until=lambda _, complete: self.complete(answers.pop(0), complete)):
+        pipe, answers = stdin, [
+            b'[{"SourceFile": "/a/b.jpg", "EXIF": "x"}]\n{done 1}\n',
+            b"{done 2}\n",
+            b'[{"SourceFile": "./link.Jpg"}]{done 3}\n',
+        ]
+        with mock.patch.multiple(
+            programs, start=start, needed=lambda it: it, read_until=lambda _, complete: self.complete(answers.pop(0), complete)
+        ):
             it = exiftool.Session(self.folder)
             self.assertEqual(it.ask([b"/a/b.jpg"], ("-EXIF:Exif", "-XMP"), exiftool._OPTIONS), [{"EXIF": "x"}])
             self.assertEqual(it.ask([b"/a/c"], (), exiftool._OPTIONS), [{}])
             self.assertEqual(it.ask([b"/a/ d.Jpg"], (), exiftool._OPTIONS), [{}])
         self.assertEqual(calls, [(["exiftool", "-config", "", "-stay_open", "True", "-@", "-"], self.folder, -1)])
         common = [b"-q", b"-q", b"-m", b"-json", b"-a", b"-G4", b"-b", b"-api", b"Filter=s/^(base64|text):/text:$1:/"]
-        self.assertEqual([it.split(b"\n") for it in lines], [
-            [*common, b"-EXIF:Exif", b"-XMP", b"/a/b.jpg", b"-echo3", b"{done 1}", b"-execute", b""], [*common, b"/a/c", b"-echo3", b"{done 2}", b"-execute", b""],
-            [*common, b"./link.Jpg", b"-echo3", b"{done 3}", b"-execute", b""]])  # fmt: skip
+        self.assertEqual(
+            [it.split(b"\n") for it in lines],
+            [
+                [*common, b"-EXIF:Exif", b"-XMP", b"/a/b.jpg", b"-echo3", b"{done 1}", b"-execute", b""],
+                [*common, b"/a/c", b"-echo3", b"{done 2}", b"-execute", b""],
+                [*common, b"./link.Jpg", b"-echo3", b"{done 3}", b"-execute", b""],
+            ],
+        )
 
     def complete(self, octets, complete):
         """An output, which is complete with its last byte and not before."""
@@ -313,8 +447,16 @@ class Sessions(WithPictures):
             it = exiftool.Session(self.folder)
         for path in (b"/a/b.jpg", b"/A_z0-9./+,@%~()="):
             self.assertEqual((it._handed_over(path, 0), os.listdir(self.folder)), (path, []))
-        for path, link in ((b"/a b.jpg", "link.jpg"), (b"/a#", "link"), ("/\u00fc.x".encode(), "link.x"), (b"/a\n.tif", "link.tif"), (b"/a .abcdefgh", "link.abcdefgh"),
-                           (b"/a .abcdefghi", "link"), (b"/*.jpg\n", "link"), (b"/\xff.A1", "link.A1")):  # fmt: skip
+        for path, link in (
+            (b"/a b.jpg", "link.jpg"),
+            (b"/a#", "link"),
+            ("/\u00fc.x".encode(), "link.x"),
+            (b"/a\n.tif", "link.tif"),
+            (b"/a .abcdefgh", "link.abcdefgh"),
+            (b"/a .abcdefghi", "link"),
+            (b"/*.jpg\n", "link"),
+            (b"/\xff.A1", "link.A1"),
+        ):
             self.assertEqual(it._handed_over(path, 0), b"./" + link.encode())
             self.assertEqual(os.readlink(os.fsencode(self.path(link))), path)
             self.assertEqual(it._handed_over(path, 0), b"./" + link.encode(), "the link is made again")
@@ -349,18 +491,30 @@ class Sessions(WithPictures):
         (words, more), pipe, nowhere = calls[0], -1, -3
         begin = more.pop("preexec_fn")
         environment = more.pop("env")
-        self.assertEqual((words, more), (["a", "b"], {"stdin": nowhere, "stdout": pipe, "stderr": nowhere, "bufsize": 0, "cwd": "/", "start_new_session": True}))
+        self.assertEqual(
+            (words, more),
+            (["a", "b"], {"stdin": nowhere, "stdout": pipe, "stderr": nowhere, "bufsize": 0, "cwd": "/", "start_new_session": True}),
+        )
         self.assertEqual(environment, {**os.environ, "LC_ALL": "C"})
         with mock.patch.object(programs, "_libc") as libc, mock.patch.object(programs.signal, "pthread_sigmask") as mask:
             begin()
         self.assertEqual(libc.mock_calls, [mock.call.prctl(1, 9)])  # PR_SET_PDEATHSIG, SIGKILL
-        self.assertEqual(mask.mock_calls, [mock.call(programs.signal.SIG_SETMASK, programs.signal.pthread_sigmask(programs.signal.SIG_BLOCK, ()))])
+        self.assertEqual(
+            mask.mock_calls, [mock.call(programs.signal.SIG_SETMASK, programs.signal.pthread_sigmask(programs.signal.SIG_BLOCK, ()))]
+        )
 
     def test_versions(self):
-        for program, printed, expected in (("exiftool", b"12.57\n", "12.57"), ("exiv2", b"exiv2 0.27.6\nmore 1\n", "0.27.6"), ("exiv2", b"", None),
-                                           ("exiv2", b"\n1\n", None), ("exiv2", b"a \xff\n", "\ufffd")):  # fmt: skip
+        for program, printed, expected in (
+            ("exiftool", b"12.57\n", "12.57"),
+            ("exiv2", b"exiv2 0.27.6\nmore 1\n", "0.27.6"),
+            ("exiv2", b"", None),
+            ("exiv2", b"\n1\n", None),
+            ("exiv2", b"a \xff\n", "\ufffd"),
+        ):
             calls = []
-            with mock.patch.multiple(programs, is_there=lambda _: True, needed=lambda it: it, run=lambda words: calls.append(words) or programs.Done(0, printed)):
+            with mock.patch.multiple(
+                programs, is_there=lambda _: True, needed=lambda it: it, run=lambda words: calls.append(words) or programs.Done(0, printed)
+            ):
                 self.assertEqual(programs.version.__wrapped__(program), expected)
             self.assertEqual(calls, [["exiftool", "-config", "", "-ver"] if program == "exiftool" else ["exiv2", "--version"]])
         with mock.patch.object(programs, "is_there", lambda _: False):
@@ -378,15 +532,21 @@ class Small(WithPictures):
         listings = {b"MM": f"exif\n[thumb]\njpeg 3: {(embedded or b'').hex()}\n"}
         blocks = Blocks()
         blocks.add("exif", b"MM", "")
-        with mock.patch.object(thumbnails.judge, "listing", listings.__getitem__), \
-             mock.patch.object(thumbnails.extraction, "blocks_of", lambda _: blocks if embedded else Blocks()):  # fmt: skip
+        with mock.patch.object(thumbnails.judge, "listing", listings.__getitem__), mock.patch.object(
+            thumbnails.extraction, "blocks_of", lambda _: blocks if embedded else Blocks()
+        ):
             found = thumbnails.small_pictures([*names, names[0]])
         return {os.path.basename(os.fsdecode(name)): uri for name, uri in found.items()}
 
     def test_kinds(self):
-        self.assertEqual(self.small(b"\xff\xd8\xffa", b"\x89PNG\r\n\x1a\n", b"GIF89", b"GIF", b"", b"\xff\xd8"), {
-            "0": "data:image/jpeg;base64,/9j/YQ==", "1": "data:image/png;base64,iVBORw0KGgo=", "2": "data:image/gif;base64,R0lGODk="})  # fmt: skip
-        self.assertEqual(self.small(b"GIF89", b"GIF8", embedded=b"\xff\xd8\xff"), {"0": "data:image/jpeg;base64,/9j/", "1": "data:image/jpeg;base64,/9j/"})
+        self.assertEqual(
+            self.small(b"\xff\xd8\xffa", b"\x89PNG\r\n\x1a\n", b"GIF89", b"GIF", b"", b"\xff\xd8"),
+            {"0": "data:image/jpeg;base64,/9j/YQ==", "1": "data:image/png;base64,iVBORw0KGgo=", "2": "data:image/gif;base64,R0lGODk="},
+        )
+        self.assertEqual(
+            self.small(b"GIF89", b"GIF8", embedded=b"\xff\xd8\xff"),
+            {"0": "data:image/jpeg;base64,/9j/", "1": "data:image/jpeg;base64,/9j/"},
+        )
         self.assertEqual(self.small(b"GIF89", embedded=b"abc"), {})
 
     def test_lengths(self):

@@ -132,8 +132,16 @@ def test_a_position_is_the_one_of_exiftool(latitude, longitude, rows):
 
 # Flash and orientation, whose words are ours: what turns a picture, by the figures of TIFF 6.0 and Exif 2.32
 
-ORIENTATIONS = {1: "Horizontal (normal)", 2: "Mirror horizontal", 3: "Rotate 180", 4: "Mirror vertical", 5: "Mirror horizontal and rotate 270 CW",
-                6: "Rotate 90 CW", 7: "Mirror horizontal and rotate 90 CW", 8: "Rotate 270 CW"}  # fmt: skip
+ORIENTATIONS = {
+    1: "Horizontal (normal)",
+    2: "Mirror horizontal",
+    3: "Rotate 180",
+    4: "Mirror vertical",
+    5: "Mirror horizontal and rotate 270 CW",
+    6: "Rotate 90 CW",
+    7: "Mirror horizontal and rotate 90 CW",
+    8: "Rotate 270 CW",
+}
 
 
 def in_exiftools_words(text):
@@ -205,6 +213,15 @@ def test_other_values(where, key, kind, value, expected):
 def test_no_value_is_an_error(tag):
     """Each rule takes any type, as another program may have written it."""
     key = {name: (where, key) for where, table in TABLES.items() for key, name in table.items() for name in (plain_name(where, key),)}[tag]
-    for kind, value in (("ASCII", '"x"'), ("SHORT", "1 2 3"), ("RATIONAL", "0/0"), ("SRATIONAL", "-1/-1 5/0 7/1"), ("UNDEFINED", "0x00ff"),
-                        ("LONG", "1.. sha256:00"), ("DOUBLE", "7ff0000000000000"), ("ASCII", ""), ("RATIONAL", "")):  # fmt: skip
+    for kind, value in (
+        ("ASCII", '"x"'),
+        ("SHORT", "1 2 3"),
+        ("RATIONAL", "0/0"),
+        ("SRATIONAL", "-1/-1 5/0 7/1"),
+        ("UNDEFINED", "0x00ff"),
+        ("LONG", "1.. sha256:00"),
+        ("DOUBLE", "7ff0000000000000"),
+        ("ASCII", ""),
+        ("RATIONAL", ""),
+    ):
         assert isinstance(plain(Field(*key, kind, 1, value)), str)

@@ -93,27 +93,47 @@ class Commands(InProcess):
     def test_show(self):
         names = self.named("a.jpg", "c.jpg", "d.png", "e.jpg", "f.jpg", "j\n.jpg", "nothing.jpg", "a.jpg")
         write(self.path("block"), ONE)
-        self.golden("show.txt", self.transcript(
-            (2, "show", *names), (0, "show", *self.named("e.jpg")), (2, "show", "--block", "@/nothing", "@/block"),
-            (2, "show", *self.named("c.jpg", "f.jpg", "s/g.jpg", "nothing"), "--json")))  # fmt: skip
+        self.golden(
+            "show.txt",
+            self.transcript(
+                (2, "show", *names),
+                (0, "show", *self.named("e.jpg")),
+                (2, "show", "--block", "@/nothing", "@/block"),
+                (2, "show", *self.named("c.jpg", "f.jpg", "s/g.jpg", "nothing"), "--json"),
+            ),
+        )
 
     def test_captions(self):
         """A caption can't control a terminal; what is guessed says so."""
-        write(self.path("p", "a.jpg"), jpeg(app1(A), with_record(ONE + b"\x1c\2\x78\0\5a\x1bb\xfc\n" + b"\x1c\2\x50\0\2\xc3\xbc"), app1_xmp(PACKET)))
-        self.golden("captions.txt", self.transcript(
-            (2, "captions", *self.named("a.jpg", "c.jpg", "d.png", "e.jpg")), (0, "captions", *self.named("a.jpg", "e.jpg"), "--json")))  # fmt: skip
+        write(
+            self.path("p", "a.jpg"),
+            jpeg(app1(A), with_record(ONE + b"\x1c\2\x78\0\5a\x1bb\xfc\n" + b"\x1c\2\x50\0\2\xc3\xbc"), app1_xmp(PACKET)),
+        )
+        self.golden(
+            "captions.txt",
+            self.transcript(
+                (2, "captions", *self.named("a.jpg", "c.jpg", "d.png", "e.jpg")), (0, "captions", *self.named("a.jpg", "e.jpg"), "--json")
+            ),
+        )
 
     def test_explain(self):
         write(self.path("block"), BLOCKS["DataSetCut"])
         names = self.named("a.jpg", "c.jpg", "j\n.jpg")
-        self.golden("explain.txt", self.transcript((2, "explain", *names), (2, "explain", "--block", "@/block"), (2, "explain", *names, "--json")))
+        self.golden(
+            "explain.txt", self.transcript((2, "explain", *names), (2, "explain", "--block", "@/block"), (2, "explain", *names, "--json"))
+        )
 
     def test_merge(self):
         self.printed("index", "@/p/s", "--catalogue", "@/one", "--quiet")
         self.printed("index", "@/p/a.jpg", "@/p/b.jpg", "--catalogue", "@/two", "--quiet")
-        self.golden("merge.txt", self.transcript(
-            (0, "merge", "@/one", "@/two", "--catalogue", "@/all"), (0, "merge", "@/one", "--catalogue", "@/all", "--json"),
-            (4, "merge", "@/one", "@/all", "--catalogue", "@/all")))  # fmt: skip
+        self.golden(
+            "merge.txt",
+            self.transcript(
+                (0, "merge", "@/one", "@/two", "--catalogue", "@/all"),
+                (0, "merge", "@/one", "--catalogue", "@/all", "--json"),
+                (4, "merge", "@/one", "@/all", "--catalogue", "@/all"),
+            ),
+        )
 
     def test_report(self):
         self.indexed()
@@ -146,9 +166,15 @@ class Commands(InProcess):
     def test_limits_of_programs(self):
         """Each command that starts programs passes its --limit on."""
         self.indexed()
-        for words in (("show", "@/p/e.jpg"), ("captions", "@/p/e.jpg"), ("explain", "@/p/e.jpg"), ("mend", "@/p/a.jpg", "@/m.jpg"),
-                      ("index", "@/p/e.jpg", "--catalogue", "@/d", "--quiet"), ("changed", "@/p", "@/c"),
-                      ("report", "--catalogue", "@/c", "--html", "@/page.html")):  # fmt: skip
+        for words in (
+            ("show", "@/p/e.jpg"),
+            ("captions", "@/p/e.jpg"),
+            ("explain", "@/p/e.jpg"),
+            ("mend", "@/p/a.jpg", "@/m.jpg"),
+            ("index", "@/p/e.jpg", "--catalogue", "@/d", "--quiet"),
+            ("changed", "@/p", "@/c"),
+            ("report", "--catalogue", "@/c", "--html", "@/page.html"),
+        ):
             with mock.patch.object(programs, "set_limit") as found:
                 self.printed(*words, "--limit", "7.5")
             self.assertEqual(set(map(str, found.mock_calls)), {str(mock.call(7.5))}, words)

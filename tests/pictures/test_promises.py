@@ -16,9 +16,28 @@ import exifnorm
 from in_process import InProcess
 from made_blocks import ASCII, BLOCKS, LONG, UNDEFINED, block, entry, segment, table
 from made_files import (
-    T_OTHERWISE, XMP_HEAD, app1, app1_xmp, app13, chunk, exif, extension, iim, jpeg, mpf, page, png, png_xmp, profile, resource, tiff, title,
-    turned, webp, xmp,
-)  # fmt: skip
+    T_OTHERWISE,
+    XMP_HEAD,
+    app1,
+    app1_xmp,
+    app13,
+    chunk,
+    exif,
+    extension,
+    iim,
+    jpeg,
+    mpf,
+    page,
+    png,
+    png_xmp,
+    profile,
+    resource,
+    tiff,
+    title,
+    turned,
+    webp,
+    xmp,
+)
 from studio import SMALL_JPEG, needs, read, run, write
 
 from exifnorm_pictures.cli import changed as states, mend as mend_cli
@@ -112,9 +131,12 @@ class WhatIsCompared(Promises):
     def test_results(self):
         note = [jpeg(app1(block([entry(0x8769, LONG, 1, 26)]) + table([entry(0x927C, UNDEFINED, 4, it)]))) for it in (b"note", b"mote")]
         for one, other, status, expected in (
-            (jpeg(app1(A)), jpeg(app1(B)), 1, "different"), (*note, 1, "only MakerNote differs"), (jpeg(app1(A)), jpeg(app1(DOUBLED)), 2, "refused"),
-            (with_packet(T), with_packet(b"<x"), 2, "unreadable"), (jpeg(), jpeg(behind=b"rest"), 2, "not wholly read"),
-        ):  # fmt: skip
+            (jpeg(app1(A)), jpeg(app1(B)), 1, "different"),
+            (*note, 1, "only MakerNote differs"),
+            (jpeg(app1(A)), jpeg(app1(DOUBLED)), 2, "refused"),
+            (with_packet(T), with_packet(b"<x"), 2, "unreadable"),
+            (jpeg(), jpeg(behind=b"rest"), 2, "not wholly read"),
+        ):
             self.assertEqual(self.result(one, other, status=status), expected)
         os.rename(self.path("y", "a.jpg"), self.path("y", "b.jpg"))
         found = self.objects("changed", "@/x", "@/y", status=1)[:2]
@@ -124,18 +146,31 @@ class WhatIsCompared(Promises):
         """Where no other program is installed. The entries that lead to pixels are left out of a block."""
         os.mkdir(self.path("p"))
         pages = tiff(page((0x014A, LONG, page((0x010F, ASCII, b"below\0")))), page())
-        files = {"a.jpg": jpeg(app1(A)), "b.png": png(chunk(b"eXIf", A)), "c.webp": webp((b"EXIF", A)), "d.tif": pages, "e.tif": b"II+\0\x08\0\0\0" + bytes(24)}
+        files = {
+            "a.jpg": jpeg(app1(A)),
+            "b.png": png(chunk(b"eXIf", A)),
+            "c.webp": webp((b"EXIF", A)),
+            "d.tif": pages,
+            "e.tif": b"II+\0\x08\0\0\0" + bytes(24),
+        }
         for name, octets in files.items():
             write(self.path("p", name), octets)
-        done = run([sys.executable, "-m", "exifnorm_pictures", "index", "p", "--catalogue", "c", "--quiet"], self.folder, PATH=self.path("none"))
+        done = run(
+            [sys.executable, "-m", "exifnorm_pictures", "index", "p", "--catalogue", "c", "--quiet"], self.folder, PATH=self.path("none")
+        )
         self.assertEqual(done.stdout.splitlines()[-1], b"4 accepted, 1 BigTIFF", done)
         query = "SELECT type, name, octets, digest, source FROM pictures JOIN blocks ON picture = pictures.id WHERE kind = 'exif' ORDER BY path, number"
         found = self.rows("c", query)
         form = run(["exifnorm"], self.folder, A).stdout
         self.assertEqual([it[:4] for it in found[:3]], [(it, "Exif", sha256(A), sha256(form)) for it in ("JPEG", "PNG", "WEBP")])
-        self.assertEqual([(it[0], it[1], re.findall("Strip[A-z]*|SubIFDs", it[4])) for it in found[3:]],
-                         [("TIFF", "Exif", ["StripByteCounts", "StripOffsets", "SubIFDs"]), ("TIFF", "Exif of SubIFD 1 of page 1", ["StripByteCounts", "StripOffsets"]),
-                          ("TIFF", "Exif of page 2", ["StripByteCounts", "StripOffsets"])])  # fmt: skip
+        self.assertEqual(
+            [(it[0], it[1], re.findall("Strip[A-z]*|SubIFDs", it[4])) for it in found[3:]],
+            [
+                ("TIFF", "Exif", ["StripByteCounts", "StripOffsets", "SubIFDs"]),
+                ("TIFF", "Exif of SubIFD 1 of page 1", ["StripByteCounts", "StripOffsets"]),
+                ("TIFF", "Exif of page 2", ["StripByteCounts", "StripOffsets"]),
+            ],
+        )
 
     def test_where_blocks_are(self):
         """For each format and kind two pictures that differ there."""
@@ -146,17 +181,38 @@ class WhatIsCompared(Promises):
             return jpeg(app1_xmp(xmp("", f"note:HasExtendedXMP='{name}'")), *pieces)
 
         places = {
-            "exif": [lambda it: jpeg(app1(it)), lambda it: jpeg(app1(it[:20]), app1(it[20:])), lambda it: jpeg(app13(resource(0x0422, it))),
-                     lambda it: png(chunk(b"eXIf", it)), lambda it: png(profile(b"exif", six + it)), lambda it: png(profile(b"APP1", six + it)),
-                     lambda it: webp((b"EXIF", it)), lambda it: webp((b"EXIF", six + it)), lambda it: tiff(page(), page((0x010F, ASCII, it[-8:-4]))),
-                     lambda it: tiff(page((0x014A, LONG, page((0x010F, ASCII, it[-8:-4])))))],
-            "iptc": [lambda it: jpeg(with_record(ONE), app1(A), with_record(it)), lambda it: png(profile(b"iptc", it)),
-                     lambda it: png(profile(b"8bim", resource(0x0404, it))), lambda it: tiff(page((0x83BB, UNDEFINED, it))),
-                     lambda it: tiff(page((0x8649, UNDEFINED, resource(0x0404, it))))],
-            "xmp": [with_packet, extended, lambda it: jpeg(app13(resource(0x0424, it))), lambda it: png(png_xmp(it)), lambda it: png(profile(b"xmp", it)),
-                    lambda it: png(profile(b"APP1", XMP_HEAD + it)), lambda it: webp((b"XMP ", it)), lambda it: webp((b"XMP\0", it)),
-                    lambda it: tiff(page((0x02BC, 1, it))), lambda it: tiff(page((0x8649, UNDEFINED, resource(0x0424, it))))],
-        }  # fmt: skip
+            "exif": [
+                lambda it: jpeg(app1(it)),
+                lambda it: jpeg(app1(it[:20]), app1(it[20:])),
+                lambda it: jpeg(app13(resource(0x0422, it))),
+                lambda it: png(chunk(b"eXIf", it)),
+                lambda it: png(profile(b"exif", six + it)),
+                lambda it: png(profile(b"APP1", six + it)),
+                lambda it: webp((b"EXIF", it)),
+                lambda it: webp((b"EXIF", six + it)),
+                lambda it: tiff(page(), page((0x010F, ASCII, it[-8:-4]))),
+                lambda it: tiff(page((0x014A, LONG, page((0x010F, ASCII, it[-8:-4]))))),
+            ],
+            "iptc": [
+                lambda it: jpeg(with_record(ONE), app1(A), with_record(it)),
+                lambda it: png(profile(b"iptc", it)),
+                lambda it: png(profile(b"8bim", resource(0x0404, it))),
+                lambda it: tiff(page((0x83BB, UNDEFINED, it))),
+                lambda it: tiff(page((0x8649, UNDEFINED, resource(0x0404, it)))),
+            ],
+            "xmp": [
+                with_packet,
+                extended,
+                lambda it: jpeg(app13(resource(0x0424, it))),
+                lambda it: png(png_xmp(it)),
+                lambda it: png(profile(b"xmp", it)),
+                lambda it: png(profile(b"APP1", XMP_HEAD + it)),
+                lambda it: webp((b"XMP ", it)),
+                lambda it: webp((b"XMP\0", it)),
+                lambda it: tiff(page((0x02BC, 1, it))),
+                lambda it: tiff(page((0x8649, UNDEFINED, resource(0x0424, it)))),
+            ],
+        }
         for kind, pair in (("exif", (A, B)), ("iptc", (ONE, TWO)), ("xmp", (T, U))):
             for number, make in enumerate(places[kind]):
                 found = self.compared(*map(make, pair), status=1)["kinds"]
@@ -172,11 +228,15 @@ class WhatIsCompared(Promises):
     def test_parts_without_a_reader(self):
         """Two pictures with a part of other bytes; the result names the part."""
         for name, make in (
-            ("trailer", lambda it: jpeg(behind=it)), ("APP1 segment of an unknown kind", lambda it: jpeg(segment(0xE1, it))),
-            ("raw profile of another kind", lambda it: png(profile(b"other", it))), ("chunk of an unknown kind", lambda it: webp((b"WHAT", it))),
-            ("second picture", lambda it: jpeg(behind=jpeg(behind=it))), ("Photoshop's layers", lambda it: tiff(page((0x935C, UNDEFINED, b"long " + it)))),
-            ("APP3 segment Meta", lambda it: jpeg(segment(0xE3, b"Meta\0\0" + it))), ("Photoshop resource 0423", lambda it: jpeg(app13(resource(0x0423, it)))),
-        ):  # fmt: skip
+            ("trailer", lambda it: jpeg(behind=it)),
+            ("APP1 segment of an unknown kind", lambda it: jpeg(segment(0xE1, it))),
+            ("raw profile of another kind", lambda it: png(profile(b"other", it))),
+            ("chunk of an unknown kind", lambda it: webp((b"WHAT", it))),
+            ("second picture", lambda it: jpeg(behind=jpeg(behind=it))),
+            ("Photoshop's layers", lambda it: tiff(page((0x935C, UNDEFINED, b"long " + it)))),
+            ("APP3 segment Meta", lambda it: jpeg(segment(0xE3, b"Meta\0\0" + it))),
+            ("Photoshop resource 0423", lambda it: jpeg(app13(resource(0x0423, it)))),
+        ):
             found = self.compared(*map(make, (b"one", b"two")), status=2)
             self.assertEqual((found["result"], name in found["note"]), ("not wholly read", True), found)
 
@@ -185,18 +245,24 @@ class WhatIsCompared(Promises):
         self.assertEqual(jpeg_tail.WINDOW, 65_536)
         self.assertEqual(self.result(*(with_tail(b"", it) for it in (b"one", b"two")), status=2), "not wholly read")
         self.assertEqual(self.result(*(SMALL_JPEG[:-2] + MANY + app1(it) + SMALL_JPEG[-2:] for it in (A, B)), status=2), "not wholly read")
-        inside, appended = [with_tail(app1(it), b"") for it in (A, B)], [SMALL_JPEG + jpeg(app1(it), base=with_tail(b"", b"")) for it in (A, B)]
+        inside, appended = [with_tail(app1(it), b"") for it in (A, B)], [
+            SMALL_JPEG + jpeg(app1(it), base=with_tail(b"", b"")) for it in (A, B)
+        ]
         for pair in (inside, appended):
             self.assertEqual([self.result(*pair), self.result(*pair, "--whole", status=2)], ["same", "not wholly read"])
 
     def test_what_is_not_compared(self):
         """JFIF, ICC profiles, comments, text chunks, other Photoshop resources and JUMBF."""
         for make in (
-            lambda it: jpeg(segment(0xE0, b"JFXX\0\x13\1\1" + it)), lambda it: jpeg(segment(0xE2, b"ICC_PROFILE\0\1\1" + it)),
-            lambda it: png(chunk(b"iCCP", b"p\0\0" + it)), lambda it: webp((b"ICCP", it)), lambda it: jpeg(segment(0xFE, it)),
-            lambda it: png(chunk(b"tEXt", b"Title\0" + it)), lambda it: jpeg(app13(resource(0x0400, it))),
+            lambda it: jpeg(segment(0xE0, b"JFXX\0\x13\1\1" + it)),
+            lambda it: jpeg(segment(0xE2, b"ICC_PROFILE\0\1\1" + it)),
+            lambda it: png(chunk(b"iCCP", b"p\0\0" + it)),
+            lambda it: webp((b"ICCP", it)),
+            lambda it: jpeg(segment(0xFE, it)),
+            lambda it: png(chunk(b"tEXt", b"Title\0" + it)),
+            lambda it: jpeg(app13(resource(0x0400, it))),
             lambda it: jpeg(segment(0xEB, b"JP\0\1\0\0\0\1" + it)),
-        ):  # fmt: skip
+        ):
             self.assertEqual(self.result(make(b"one"), make(b"two")), "same")
 
     def test_xmp(self):
@@ -207,13 +273,23 @@ class WhatIsCompared(Promises):
         other_prefix = T.replace(b"dc:", b"q:").replace(b":dc=", b":q=")
         named = T.replace(b"rdf:about=''", b"rdf:about='u:1'")
         without = T[T.index(b"<x:xmpmeta") : T.index(b"<?xpacket end")]
-        same = [(T, T + b"  "), (T, without), (T, T_OTHERWISE), (T, other_prefix), (xmp("".join(two)), xmp("".join(two[::-1]))), (T, named),
-                (bag("Bag", "a", "b"), bag("Bag", "b", "a"))]  # fmt: skip
+        same = [
+            (T, T + b"  "),
+            (T, without),
+            (T, T_OTHERWISE),
+            (T, other_prefix),
+            (xmp("".join(two)), xmp("".join(two[::-1]))),
+            (T, named),
+            (bag("Bag", "a", "b"), bag("Bag", "b", "a")),
+        ]
         dates = [xmp("", f"xmp:{name}='{it}'") for name in ("ModifyDate", "InstanceID") for it in "12"]
         subjects = T.replace(b"</rdf:RDF>", b"<rdf:Description rdf:about='u:2'/></rdf:RDF>").replace(b"rdf:about=''", b"rdf:about='u:1'")
         bad = [b"<x", b"<!DOCTYPE x>" + T, subjects, xmp("", "note:HasExtendedXMP='0'")]
-        for status, word, pairs in ((0, "same", same), (1, "different", [dates[:2], dates[2:], (bag("Seq", "a", "b"), bag("Seq", "b", "a"))]),
-                                    (2, "unreadable", [(T, it) for it in bad])):  # fmt: skip
+        for status, word, pairs in (
+            (0, "same", same),
+            (1, "different", [dates[:2], dates[2:], (bag("Seq", "a", "b"), bag("Seq", "b", "a"))]),
+            (2, "unreadable", [(T, it) for it in bad]),
+        ):
             for pair in pairs:
                 self.assertEqual(self.result(*map(with_packet, pair), status=status), word, pair)
 
@@ -263,8 +339,16 @@ class Catalogues(Promises):
 
     def test_same(self):
         record = with_record(ONE)
-        self.files("p", a=jpeg(app1(A), record), b=jpeg(app1(turned(A)), record), c=jpeg(app1(B), record), d=jpeg(app1(DOUBLED), record),
-                   e=jpeg(app1(DOUBLED), record), f=jpeg(app1_xmp(b"<x")), g=jpeg(app1_xmp(b"<x")))  # fmt: skip
+        self.files(
+            "p",
+            a=jpeg(app1(A), record),
+            b=jpeg(app1(turned(A)), record),
+            c=jpeg(app1(B), record),
+            d=jpeg(app1(DOUBLED), record),
+            e=jpeg(app1(DOUBLED), record),
+            f=jpeg(app1_xmp(b"<x")),
+            g=jpeg(app1_xmp(b"<x")),
+        )
         self.index("@/p")
         for kind, expected in (("all", ["ab", "de", "fg"]), ("exif", ["ab", "de"]), ("iptc", ["abcde"]), ("xmp", ["fg"])):
             groups = self.objects("same", "--catalogue", "@/c", "--kind", kind)
@@ -301,8 +385,18 @@ class Catalogues(Promises):
         html = read(self.path("page")).decode()
         self.assertEqual((re.findall("<h1>(.*)</h1>", html), re.findall("<title>(.*?)</title>", html)[0]), (["Another"], "Another"))
         self.assertEqual(OUTSIDE.findall(html), [])
-        self.assertEqual(OUTSIDE.findall("<script></script><link><img src='a'><img src='data:,'><a href='b'>"), ["<script", "<link", "src='", "href='"])
-        for part in ("<b>2</b> accepted", ">Doubled</text>", "2 pictures <span", '<img src="data:image/', "main:Make", "trailer of 4 bytes", "Remedy"):
+        self.assertEqual(
+            OUTSIDE.findall("<script></script><link><img src='a'><img src='data:,'><a href='b'>"), ["<script", "<link", "src='", "href='"]
+        )
+        for part in (
+            "<b>2</b> accepted",
+            ">Doubled</text>",
+            "2 pictures <span",
+            '<img src="data:image/',
+            "main:Make",
+            "trailer of 4 bytes",
+            "Remedy",
+        ):
             self.assertIn(part, html)
         for more, has in (([], False), (["--since", "@/old"], True)):
             self.assertEqual(any("results" in it for it in self.objects("report", "--catalogue", "@/c", *more)), has)
@@ -384,18 +478,32 @@ class Pictures(Promises):
         """The library has another name here, and its folder has no other one."""
         self.files("p", a=jpeg(app1(A)))
         shutil.copy(os.environ["EXIFNORM_LIBRARY"], self.path("other.so"))
-        found = [run(["exifnorm-pictures", "show", "p/a.jpg"], self.folder, EXIFNORM_LIBRARY=self.path(it)) for it in ("other.so", "none.so")]
-        self.assertEqual([(it.returncode, b'"Abc"' in it.stdout, b"none.so" in it.stderr) for it in found], [(0, True, False), (4, False, True)])
+        found = [
+            run(["exifnorm-pictures", "show", "p/a.jpg"], self.folder, EXIFNORM_LIBRARY=self.path(it)) for it in ("other.so", "none.so")
+        ]
+        self.assertEqual(
+            [(it.returncode, b'"Abc"' in it.stdout, b"none.so" in it.stderr) for it in found], [(0, True, False), (4, False, True)]
+        )
 
     def test_statuses(self):
         """Each with what the page names for it; the greatest counts."""
-        files = {"refused": jpeg(app1(DOUBLED)), "unread": jpeg(app1(A), behind=b"rest"), "unreadable": jpeg(app1(A), app1_xmp(b"<x")),
-                 "also_differs": jpeg(app1(B), app1_xmp(b"<x"))}  # fmt: skip
+        files = {
+            "refused": jpeg(app1(DOUBLED)),
+            "unread": jpeg(app1(A), behind=b"rest"),
+            "unreadable": jpeg(app1(A), app1_xmp(b"<x")),
+            "also_differs": jpeg(app1(B), app1_xmp(b"<x")),
+        }
         for name, octets in {**files, "differs": jpeg(app1(B)), "one": jpeg(app1(A))}.items():
             self.files(name, a=octets)
         self.files("moved", b=jpeg(app1(A)))
         self.files("missing", c=jpeg(app1(B)))
-        for after, status, of_picture in (("refused", 2, 2), ("unreadable", 2, 2), ("also_differs", 1, 2), ("unread", 2, 0), ("differs", 1, 0)):
+        for after, status, of_picture in (
+            ("refused", 2, 2),
+            ("unreadable", 2, 2),
+            ("also_differs", 1, 2),
+            ("unread", 2, 0),
+            ("differs", 1, 0),
+        ):
             self.printed("changed", "@/one", f"@/{after}", status=status)
             for command in ("show", "captions", "explain"):
                 self.printed(command, f"@/{after}/a.jpg", status=of_picture)
@@ -412,8 +520,12 @@ class Pictures(Promises):
 
     @needs("exiftool")
     def test_no_picture_is_modified(self):
-        self.files("p", a=jpeg(app1(A), with_record(ONE), app1_xmp(T)), b=jpeg(app1(turned(A)), with_record(ONE + b"\0"), app1_xmp(T_OTHERWISE)),
-                   c=jpeg(app1(DOUBLED)))  # fmt: skip
+        self.files(
+            "p",
+            a=jpeg(app1(A), with_record(ONE), app1_xmp(T)),
+            b=jpeg(app1(turned(A)), with_record(ONE + b"\0"), app1_xmp(T_OTHERWISE)),
+            c=jpeg(app1(DOUBLED)),
+        )
         shutil.copytree(self.path("p"), self.path("later"))
         write(self.path("later", "a.jpg"), jpeg(app1(B), with_record(ONE), app1_xmp(T)))
         before = self.marks("p")

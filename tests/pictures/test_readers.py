@@ -10,8 +10,25 @@ from unittest import mock
 
 from made_blocks import ASCII, LONG, SHORT, segment
 from made_files import (
-    EXTENSION_HEAD, app1, app1_xmp, app13, chunk, exif, extension, iim, jpeg, mpf, page, png, png_xmp, profile, resource, tiff, title, webp,
-)  # fmt: skip
+    EXTENSION_HEAD,
+    app1,
+    app1_xmp,
+    app13,
+    chunk,
+    exif,
+    extension,
+    iim,
+    jpeg,
+    mpf,
+    page,
+    png,
+    png_xmp,
+    profile,
+    resource,
+    tiff,
+    title,
+    webp,
+)
 from studio import SMALL_JPEG
 
 from exifnorm_pictures.extract import budgets
@@ -45,7 +62,9 @@ class Readers(unittest.TestCase):
         found = found_in(octets, whole)
         self.assertEqual([(it.kind, it.name, it.where, it.data) for it in found.found], list(blocks))
         self.assertEqual([tuple(it) for it in found.not_read], left(*parts))
-        self.assertEqual((found.problem, found.detail, found.extractor, {it.extractor for it in found.found} | {"own"}), (None, "", "own", {"own"}))
+        self.assertEqual(
+            (found.problem, found.detail, found.extractor, {it.extractor for it in found.found} | {"own"}), (None, "", "own", {"own"})
+        )
         return found
 
     def broken(self, octets, why, whole=False):
@@ -61,31 +80,64 @@ class Readers(unittest.TestCase):
     def test_segments_of_a_jpeg(self):
         two, name = extension(b"extended", 5)
         pieces = [
-            app1(A), segment(0xE1, b"Exif\0\0" + b"goes on"), app1_xmp(T), two[0], two[1], app1_xmp(U), segment(0xE1, b"\0\0EXIF\0#" + B),
-            segment(0xE1, b"http://other"), segment(0xE3, b"Meta\0\0abc"), segment(0xE3, b"other"), segment(0xE2, b"ICC_PROFILE\0"),
-            app13(resource(0x0404, K), resource(0x0422, b"Exif\0\0" + A), resource(0x0423, b"more"), resource(0x0424, T)), segment(0xED, b"Adobe_CM"),
-            segment(0xED, b"Adobe_Photoshop2.5:12345678" + resource(0x0404, L) + b"rest"), segment(0xED, b"other"),
-        ]  # fmt: skip
+            app1(A),
+            segment(0xE1, b"Exif\0\0" + b"goes on"),
+            app1_xmp(T),
+            two[0],
+            two[1],
+            app1_xmp(U),
+            segment(0xE1, b"\0\0EXIF\0#" + B),
+            segment(0xE1, b"http://other"),
+            segment(0xE3, b"Meta\0\0abc"),
+            segment(0xE3, b"other"),
+            segment(0xE2, b"ICC_PROFILE\0"),
+            app13(resource(0x0404, K), resource(0x0422, b"Exif\0\0" + A), resource(0x0423, b"more"), resource(0x0424, T)),
+            segment(0xED, b"Adobe_CM"),
+            segment(0xED, b"Adobe_Photoshop2.5:12345678" + resource(0x0404, L) + b"rest"),
+            segment(0xED, b"other"),
+        ]
         at = [2 + sum(map(len, pieces[:number])) for number in range(len(pieces))]
-        found = self.seen(jpeg(*pieces), [
-            ("xmp", "XMP", f"APP1 segment at {at[2]}", T), ("xmp", "second XMP", f"APP1 segment at {at[5]}", U),
-            ("exif", "Exif", "APP1 segment at 2", A + b"goes on"), ("exif", "second Exif", f"APP1 segment at {at[6]}", B),
-            ("iim", "IPTC", f"Photoshop resource 0404 in the APP13 segment at {at[11]}", K),
-            ("exif", "third Exif", f"Photoshop resource 0422 in the APP13 segment at {at[11]}", A),
-            ("xmp", "third XMP", f"Photoshop resource 0424 in the APP13 segment at {at[11]}", T),
-            ("iim", "second IPTC", f"Photoshop resource 0404 in the APP13 segment at {at[13]}", L),
-            ("xmp", "extended XMP", f"APP1 segment at {at[3]}", b"extended"),
-        ], [("APP1 segment of an unknown kind", b"http://other"), ("APP3 segment Meta", b"Meta\0\0abc"), ("APP3 segment other", b"other"),
-            ("APP13 segment of an unknown kind", b"other"), (f"Photoshop resource 0423 in the APP13 segment at {at[11]}", b"more"),
-            (f"bytes behind the Photoshop resources in the APP13 segment at {at[13]}", b"rest")])  # fmt: skip
+        found = self.seen(
+            jpeg(*pieces),
+            [
+                ("xmp", "XMP", f"APP1 segment at {at[2]}", T),
+                ("xmp", "second XMP", f"APP1 segment at {at[5]}", U),
+                ("exif", "Exif", "APP1 segment at 2", A + b"goes on"),
+                ("exif", "second Exif", f"APP1 segment at {at[6]}", B),
+                ("iim", "IPTC", f"Photoshop resource 0404 in the APP13 segment at {at[11]}", K),
+                ("exif", "third Exif", f"Photoshop resource 0422 in the APP13 segment at {at[11]}", A),
+                ("xmp", "third XMP", f"Photoshop resource 0424 in the APP13 segment at {at[11]}", T),
+                ("iim", "second IPTC", f"Photoshop resource 0404 in the APP13 segment at {at[13]}", L),
+                ("xmp", "extended XMP", f"APP1 segment at {at[3]}", b"extended"),
+            ],
+            [
+                ("APP1 segment of an unknown kind", b"http://other"),
+                ("APP3 segment Meta", b"Meta\0\0abc"),
+                ("APP3 segment other", b"other"),
+                ("APP13 segment of an unknown kind", b"other"),
+                (f"Photoshop resource 0423 in the APP13 segment at {at[11]}", b"more"),
+                (f"bytes behind the Photoshop resources in the APP13 segment at {at[13]}", b"rest"),
+            ],
+        )
         self.assertEqual((found.type, found.has_more, found.found[-1].extends), ("JPEG", False, name))
 
     def test_what_is_after_resources(self):
         """Zeros are padding; anything else, and a resource that is cut, is named with all that follows."""
         one = resource(0x0404, K)
-        for rest, unread in ((b"", b""), (bytes(9), b""), (b"\0\0x\0", b"\0\0x\0"), (one[:-1], one[:-1]), (one[:11], one[:11]), (b"8BIM", b"8BIM")):
+        for rest, unread in (
+            (b"", b""),
+            (bytes(9), b""),
+            (b"\0\0x\0", b"\0\0x\0"),
+            (one[:-1], one[:-1]),
+            (one[:11], one[:11]),
+            (b"8BIM", b"8BIM"),
+        ):
             what = "bytes behind the Photoshop resources in the APP13 segment at 2"
-            self.seen(jpeg(app13(one + rest)), [("iim", "IPTC", "Photoshop resource 0404 in the APP13 segment at 2", K)], [(what, unread)] if unread else [])
+            self.seen(
+                jpeg(app13(one + rest)),
+                [("iim", "IPTC", "Photoshop resource 0404 in the APP13 segment at 2", K)],
+                [(what, unread)] if unread else [],
+            )
 
     def test_extended_xmp(self):
         one, _ = extension(b"12345678", 4, b"a" * 32)
@@ -95,11 +147,16 @@ class Readers(unittest.TestCase):
         wrong = segment(0xE1, EXTENSION_HEAD + b"a" * 32 + struct.pack(">II", 9, 4) + b"5678")
         empty = segment(0xE1, EXTENSION_HEAD + b"d" * 32 + bytes(8))
         parts = [one[0], short, two[1], two[0], wrong, third[1], two[0], one[1], empty]
-        found = self.seen(jpeg(*parts), [("xmp", "extended XMP", "APP1 segment at 2", b"12345678"),
-                                         ("xmp", "second extended XMP", f"APP1 segment at {2 + len(one[0] + short)}", b"abcdefgh"),
-                                         ("xmp", "fourth extended XMP", f"APP1 segment at {2 + len(b''.join(parts[:-1]))}", b"")],
-                          [("piece of extended XMP that does not fit the others", it[4:]) for it in (short, wrong, two[0])]
-                          + [("third extended XMP, of which pieces are missing or overlap", b"EFGH")])  # fmt: skip
+        found = self.seen(
+            jpeg(*parts),
+            [
+                ("xmp", "extended XMP", "APP1 segment at 2", b"12345678"),
+                ("xmp", "second extended XMP", f"APP1 segment at {2 + len(one[0] + short)}", b"abcdefgh"),
+                ("xmp", "fourth extended XMP", f"APP1 segment at {2 + len(b''.join(parts[:-1]))}", b""),
+            ],
+            [("piece of extended XMP that does not fit the others", it[4:]) for it in (short, wrong, two[0])]
+            + [("third extended XMP, of which pieces are missing or overlap", b"EFGH")],
+        )
         self.assertEqual([it.extends for it in found.found], ["A" * 32, "B" * 32, "D" * 32])
 
     def test_pictures_of_an_index(self):
@@ -107,18 +164,28 @@ class Readers(unittest.TestCase):
         for order in "<>":
             octets = mpf(app1(A), further, MIN + b"behind", order=order)
             start = octets.index(further)
-            self.seen(octets, [("exif", "Exif", "APP1 segment at 2", A), ("exif", "Exif of MPF picture 2", f"APP1 segment at {start + 2}", B)],
-                      [("APP1 segment of an unknown kind of MPF picture 2", b"other"),
-                       (f"Photoshop resource 0423 in the APP13 segment at {start + 2 + len(app1(B)) + 9}", b"more"),
-                       (f"bytes behind the Photoshop resources in the APP13 segment at {start + 2 + len(app1(B)) + 9}", b"rest"),
-                       ("trailer of 6 bytes of MPF picture 3", b"behind")])  # fmt: skip
+            self.seen(
+                octets,
+                [("exif", "Exif", "APP1 segment at 2", A), ("exif", "Exif of MPF picture 2", f"APP1 segment at {start + 2}", B)],
+                [
+                    ("APP1 segment of an unknown kind of MPF picture 2", b"other"),
+                    (f"Photoshop resource 0423 in the APP13 segment at {start + 2 + len(app1(B)) + 9}", b"more"),
+                    (f"bytes behind the Photoshop resources in the APP13 segment at {start + 2 + len(app1(B)) + 9}", b"rest"),
+                    ("trailer of 6 bytes of MPF picture 3", b"behind"),
+                ],
+            )
         head = b"MPF\0MM\0*"
-        for data, why in ((head[:4] + b"XX\0*", "the MPF index has no header"), (head, "the MPF index is cut"), (head + struct.pack(">I", 9), "the MPF index is cut"),
-                          (head + struct.pack(">IH", 8, 1), "the MPF index is cut"), (head + struct.pack(">IH", 8, 0), "the MPF index has no list of pictures"),
-                          (head + struct.pack(">IHHHII", 8, 1, 0xB001, 7, 16, 22) + bytes(16), "the MPF index has no list of pictures"),
-                          (head + struct.pack(">IHHHII", 8, 1, 0xB002, 7, 15, 22) + bytes(16), "the MPF index has no list of pictures"),
-                          (head + struct.pack(">IHHHII", 8, 1, 0xB002, 7, 16, 23) + bytes(16), "the MPF index has no list of pictures"),
-                          (head + struct.pack(">IHHHII", 8, 1, 0xB002, 7, 16, 22) + struct.pack(">IIII", 0, 9, 5, 0), "no picture at 15")):  # fmt: skip
+        for data, why in (
+            (head[:4] + b"XX\0*", "the MPF index has no header"),
+            (head, "the MPF index is cut"),
+            (head + struct.pack(">I", 9), "the MPF index is cut"),
+            (head + struct.pack(">IH", 8, 1), "the MPF index is cut"),
+            (head + struct.pack(">IH", 8, 0), "the MPF index has no list of pictures"),
+            (head + struct.pack(">IHHHII", 8, 1, 0xB001, 7, 16, 22) + bytes(16), "the MPF index has no list of pictures"),
+            (head + struct.pack(">IHHHII", 8, 1, 0xB002, 7, 15, 22) + bytes(16), "the MPF index has no list of pictures"),
+            (head + struct.pack(">IHHHII", 8, 1, 0xB002, 7, 16, 23) + bytes(16), "the MPF index has no list of pictures"),
+            (head + struct.pack(">IHHHII", 8, 1, 0xB002, 7, 16, 22) + struct.pack(">IIII", 0, 9, 5, 0), "no picture at 15"),
+        ):
             self.seen(jpeg(segment(0xE2, data)), [], [(f"MPF index that does not fit the file ({why})", data[4:])])
         rows = struct.pack(">IIIIIIII", 0, 4, 0, 0, 9, 7, 99, 3)
         data = b"MM\0*" + struct.pack(">IHHHII", 8, 2, 1, 7, 3, 4) + struct.pack(">HHII", 0xB002, 7, 32, 34) + rows
@@ -128,29 +195,48 @@ class Readers(unittest.TestCase):
         end = len(SMALL_JPEG)
         afcp, vrd = b"AXS!12345678", b"CANON OPTIONAL DATA\0" + bytes(44)
         for behind, what, more in (
-            (b"\0\0abc", "trailer of 5 bytes", False), (bytes(1000) + MIN, "trailer of 1,008 bytes", False), (bytes(9) + MIN, "second picture of 17 bytes", False),
-            (b"x" + afcp, "AFCP trailer of 13 bytes", True), (b"AXS*\n2345678", "AFCP trailer of 12 bytes", True),
-            (b"\xa1\xb2\xc3\xd4", "FotoStation trailer of 4 bytes", True), (b"cbipcbbl", "PhotoMechanic trailer of 8 bytes", True),
-            (b"\0\0QDIOBS", "Samsung trailer of 8 bytes", False), (b"\0\0SEFT", "Samsung trailer of 6 bytes", False),
-            (b"zmie~\0\0\6" + b"1234" + b"\x10\4", "MIE trailer of 14 bytes", True), (b"zmie~\0\0\n" + b"12345678" + b"\x18\x08", "MIE trailer of 18 bytes", True),
-            (vrd, "Canon VRD trailer of 64 bytes", True), (vrd[:-2] + b"x", "trailer of 63 bytes", False),
-            (b"zmie~\0\0\7" + b"1234" + b"\x10\4", "trailer of 14 bytes", False), (b"\0QDIOBS", "trailer of 7 bytes", False),
-        ):  # fmt: skip
+            (b"\0\0abc", "trailer of 5 bytes", False),
+            (bytes(1000) + MIN, "trailer of 1,008 bytes", False),
+            (bytes(9) + MIN, "second picture of 17 bytes", False),
+            (b"x" + afcp, "AFCP trailer of 13 bytes", True),
+            (b"AXS*\n2345678", "AFCP trailer of 12 bytes", True),
+            (b"\xa1\xb2\xc3\xd4", "FotoStation trailer of 4 bytes", True),
+            (b"cbipcbbl", "PhotoMechanic trailer of 8 bytes", True),
+            (b"\0\0QDIOBS", "Samsung trailer of 8 bytes", False),
+            (b"\0\0SEFT", "Samsung trailer of 6 bytes", False),
+            (b"zmie~\0\0\6" + b"1234" + b"\x10\4", "MIE trailer of 14 bytes", True),
+            (b"zmie~\0\0\n" + b"12345678" + b"\x18\x08", "MIE trailer of 18 bytes", True),
+            (vrd, "Canon VRD trailer of 64 bytes", True),
+            (vrd[:-2] + b"x", "trailer of 63 bytes", False),
+            (b"zmie~\0\0\7" + b"1234" + b"\x10\4", "trailer of 14 bytes", False),
+            (b"\0QDIOBS", "trailer of 7 bytes", False),
+        ):
             found = self.seen(SMALL_JPEG + behind, [], [(what, behind)])
             self.assertEqual(found.has_more, more, what)
         self.seen(SMALL_JPEG + bytes(100), [])
         self.seen(SMALL_JPEG[:-2] + b"rest", [])
         late, other = app1(A), app13(resource(0x0404, K))
         octets = SMALL_JPEG[:-2] + late + segment(0xDB, b"table") + b"\xff\x00\xff\xd0" + other + b"\xff\xd9after"
-        self.seen(octets, [], [("metadata segment behind the first scan", late), ("metadata segment behind the first scan", other), ("trailer of 5 bytes", b"after")])
+        self.seen(
+            octets,
+            [],
+            [
+                ("metadata segment behind the first scan", late),
+                ("metadata segment behind the first scan", other),
+                ("trailer of 5 bytes", b"after"),
+            ],
+        )
         self.seen(octets[: end - 2 + 10], [], [("metadata segment behind the first scan", late[:10])])
 
     def test_broken_jpegs(self):
         for octets, why in (
-            (b"\xff\xd8\xff\xe0\0\2abcd", "no marker at 6"), (b"\xff\xd8\xff\0ab", "no marker at 2"), (b"\xff\xd8\xff\xe0\0\1ab", "no segment at 2"),
+            (b"\xff\xd8\xff\xe0\0\2abcd", "no marker at 6"),
+            (b"\xff\xd8\xff\0ab", "no marker at 2"),
+            (b"\xff\xd8\xff\xe0\0\1ab", "no segment at 2"),
             (b"\xff\xd8\xff\xfe\0\2\xfe\xe0\0\x07JFIF\0", "no marker at 6"),
-            (b"\xff\xd8\xff\xe1\0\x09Exif", "the file ends inside the segment at 2"), (b"\xff\xd8\xff\xff\xff\xe1\0\x09Exif", "the file ends inside the segment at 4"),
-        ):  # fmt: skip
+            (b"\xff\xd8\xff\xe1\0\x09Exif", "the file ends inside the segment at 2"),
+            (b"\xff\xd8\xff\xff\xff\xe1\0\x09Exif", "the file ends inside the segment at 4"),
+        ):
             self.broken(octets, why)
         self.too_much(MIN[:-2] + b"\xff\xe1\0\2" * 1001, "more than 1,000 metadata segments after the first scan")
         self.assertEqual(len(found_in(MIN[:-2] + b"\xff\xed\0\2" * 1000).not_read), 1000)
@@ -194,7 +280,9 @@ class Readers(unittest.TestCase):
                 self.too_much(stream.getvalue(), f"more than 1 {what}")
                 stream = mock.Mock(wraps=stream, budget=budgets.Budget(whole=True))
                 self.assertEqual(jpeg_.read(stream, True).type, "JPEG")
-        self.assertEqual({what: most / budgets.LIMITS[what] for what, most in budgets.Budget(whole=True).left.items()}, dict.fromkeys(budgets.LIMITS, 64))
+        self.assertEqual(
+            {what: most / budgets.LIMITS[what] for what, most in budgets.Budget(whole=True).left.items()}, dict.fromkeys(budgets.LIMITS, 64)
+        )
 
     def test_the_time_that_a_file_takes(self):
         """The clock begins when it is first looked at, which small pictures never do."""
@@ -209,52 +297,89 @@ class Readers(unittest.TestCase):
         packed = chunk(b"zTXt", b"xml:COM.adobe.xmp\0\0" + zlib.compress(U))
         text = chunk(b"tEXt", b"Raw profile type exif\0\nexif\n%8d\n" % (len(A) + 6) + (b"Exif\0\0" + A).hex().encode())
         chunks = [
-            chunk(b"eXIf", A), chunk(b"eXIf", b"Exif\0\0" + B), chunk(b"zxIf", b"packed"), plain, packed, png_xmp(T, True), text, chunk(b"tEXt", b"Comment\0a"),
-            profile(b"APP1", b"http://ns.adobe.com/xap/1.0/\0" + T), profile(b"app1", b"Exif\0\0" + A), profile(b"exif", A), profile(b"iptc", K),
-            profile(b"8bim", resource(0x0404, L) + b"rest"), profile(b"iptc", b"Photoshop 3.0\0" + resource(0x0404, K)), profile(b"xmp", U),
-            profile(b"icc", b"1"), profile(b"icm", b"1"), profile(b"other", b"data"), chunk(b"gAMA", b"1234"),
-        ]  # fmt: skip
+            chunk(b"eXIf", A),
+            chunk(b"eXIf", b"Exif\0\0" + B),
+            chunk(b"zxIf", b"packed"),
+            plain,
+            packed,
+            png_xmp(T, True),
+            text,
+            chunk(b"tEXt", b"Comment\0a"),
+            profile(b"APP1", b"http://ns.adobe.com/xap/1.0/\0" + T),
+            profile(b"app1", b"Exif\0\0" + A),
+            profile(b"exif", A),
+            profile(b"iptc", K),
+            profile(b"8bim", resource(0x0404, L) + b"rest"),
+            profile(b"iptc", b"Photoshop 3.0\0" + resource(0x0404, K)),
+            profile(b"xmp", U),
+            profile(b"icc", b"1"),
+            profile(b"icm", b"1"),
+            profile(b"other", b"data"),
+            chunk(b"gAMA", b"1234"),
+        ]
         at = [33 + sum(map(len, chunks[:number])) for number in range(len(chunks))]
-        self.seen(png(*chunks, behind=b"\0behind"), [
-            ("exif", "Exif", "eXIf chunk at 33", A), ("exif", "second Exif", f"eXIf chunk at {at[1]}", B), ("xmp", "XMP", f"iTXt chunk at {at[3]}", T),
-            ("xmp", "second XMP", f"zTXt chunk at {at[4]}", U), ("xmp", "third XMP", f"iTXt chunk at {at[5]}", T),
-            ("exif", "third Exif", f"tEXt chunk at {at[6]}", A), ("xmp", "fourth XMP", f"zTXt chunk at {at[8]}", T),
-            ("exif", "fourth Exif", f"zTXt chunk at {at[9]}", A), ("exif", "fifth Exif", f"zTXt chunk at {at[10]}", A),
-            ("iim", "IPTC", f"zTXt chunk at {at[11]}", K), ("iim", "second IPTC", f"Photoshop resource 0404 in the zTXt chunk at {at[12]}", L),
-            ("iim", "third IPTC", f"Photoshop resource 0404 in the zTXt chunk at {at[13]}", K), ("xmp", "fifth XMP", f"zTXt chunk at {at[14]}", U),
-        ], [("compressed Exif chunk", b"packed"), (f"bytes behind the Photoshop resources in the zTXt chunk at {at[12]}", b"rest"),
-            ("raw profile of another kind", b"data"), ("trailer of 7 bytes", b"\0behind")])  # fmt: skip
+        self.seen(
+            png(*chunks, behind=b"\0behind"),
+            [
+                ("exif", "Exif", "eXIf chunk at 33", A),
+                ("exif", "second Exif", f"eXIf chunk at {at[1]}", B),
+                ("xmp", "XMP", f"iTXt chunk at {at[3]}", T),
+                ("xmp", "second XMP", f"zTXt chunk at {at[4]}", U),
+                ("xmp", "third XMP", f"iTXt chunk at {at[5]}", T),
+                ("exif", "third Exif", f"tEXt chunk at {at[6]}", A),
+                ("xmp", "fourth XMP", f"zTXt chunk at {at[8]}", T),
+                ("exif", "fourth Exif", f"zTXt chunk at {at[9]}", A),
+                ("exif", "fifth Exif", f"zTXt chunk at {at[10]}", A),
+                ("iim", "IPTC", f"zTXt chunk at {at[11]}", K),
+                ("iim", "second IPTC", f"Photoshop resource 0404 in the zTXt chunk at {at[12]}", L),
+                ("iim", "third IPTC", f"Photoshop resource 0404 in the zTXt chunk at {at[13]}", K),
+                ("xmp", "fifth XMP", f"zTXt chunk at {at[14]}", U),
+            ],
+            [
+                ("compressed Exif chunk", b"packed"),
+                (f"bytes behind the Photoshop resources in the zTXt chunk at {at[12]}", b"rest"),
+                ("raw profile of another kind", b"data"),
+                ("trailer of 7 bytes", b"\0behind"),
+            ],
+        )
         self.assertEqual((found_in(png()).type, found_in(png(behind=bytes(9))).not_read), ("PNG", []))
 
     def test_texts_of_a_png(self):
         head = b"Raw profile type iptc\0"
         digits = zlib.compress(b"\niptc\n       3\n1c0219\n")
         for data, why in (
-            (b"XML:com.adobe.xmp\0\0", "its fields are cut"), (b"XML:com.adobe.xmp\0\0\0en\0title", "its fields are cut"),
+            (b"XML:com.adobe.xmp\0\0", "its fields are cut"),
+            (b"XML:com.adobe.xmp\0\0\0en\0title", "its fields are cut"),
             (b"XML:com.adobe.xmp\0\1\1\0\0" + zlib.compress(T), "its compression is not known"),
             (b"XML:com.adobe.xmp\0\1\0\0\0no data", "its compressed data is damaged"),
             (b"XML:com.adobe.xmp\0\1\0\0\0" + zlib.compress(T)[:-1], "its compressed data is cut"),
-        ):  # fmt: skip
+        ):
             self.seen(png(chunk(b"iTXt", data)), [], [(f"text chunk that cannot be read ({why})", data)])
         for text, why in (
-            (b"\1" + digits, "its compression is not known"), (b"\0" + digits[:-5], "its compressed data is cut"),
-            (b"\0" + zlib.compress(b"\niptc\n"), "its profile has no length"), (b"\0" + zlib.compress(b"\niptc\nabc\n1c"), "its profile has no length"),
+            (b"\1" + digits, "its compression is not known"),
+            (b"\0" + digits[:-5], "its compressed data is cut"),
+            (b"\0" + zlib.compress(b"\niptc\n"), "its profile has no length"),
+            (b"\0" + zlib.compress(b"\niptc\nabc\n1c"), "its profile has no length"),
             (b"\0" + zlib.compress(b"\niptc\n00000000001\n1c"), "its profile has no length"),
             (b"\0" + zlib.compress(b"\niptc\n1\n1x"), "its profile has other characters than hexadecimal digits"),
             (b"\0" + zlib.compress(b"\niptc\n2\n1c"), "its profile has another length than it says"),
             (b"\0" + zlib.compress(b"\niptc\n1"), "its profile has another length than it says"),
-        ):  # fmt: skip
+        ):
             self.seen(png(chunk(b"zTXt", head + text)), [], [(f"text chunk that cannot be read ({why})", head + text)])
-        self.seen(png(chunk(b"zTXt", head + b"\0" + zlib.compress(b"  \niptc\n0000000003 1c\n02 19"))), [("iim", "IPTC", "zTXt chunk at 33", b"\x1c\2\x19")])
+        self.seen(
+            png(chunk(b"zTXt", head + b"\0" + zlib.compress(b"  \niptc\n0000000003 1c\n02 19"))),
+            [("iim", "IPTC", "zTXt chunk at 33", b"\x1c\2\x19")],
+        )
 
     def test_broken_pngs(self):
         whole = png(chunk(b"eXIf", A))
         after = len(whole) - 12  # of IEND
         for octets, why in (
-            (whole[:-1], f"the file ends inside the chunk at {after}"), (whole[:-8], f"the file ends inside the 8 bytes at {after}"),
+            (whole[:-1], f"the file ends inside the chunk at {after}"),
+            (whole[:-8], f"the file ends inside the 8 bytes at {after}"),
             (png(chunk(b"eXIf", A, wrong=1)), "wrong check sum of the chunk at 33"),
             (whole[:33] + struct.pack(">I", 0xFFFFFFFF) + b"eXIf", "the file ends inside the chunk at 33"),
-        ):  # fmt: skip
+        ):
             self.broken(octets, why)
         with mock.patch.dict(budgets.LIMITS, {budgets.CHUNKS: 4, budgets.CHUNK_BYTES: 1000}):
             self.assertEqual(len(found_in(whole).found), 1)
@@ -265,12 +390,26 @@ class Readers(unittest.TestCase):
             self.too_much(png(packed), "more than 1,000 bytes of chunks")
 
     def test_chunks_of_a_webp(self):
-        chunks = [(b"VP8 ", b"abc"), (b"EXIF", b"Exif\0\0" + A), (b"XMP ", T), (b"EXIF", B), (b"XMP\0", U), (b"ICCP", b"12"), (b"OTHR", b"odd")]
+        chunks = [
+            (b"VP8 ", b"abc"),
+            (b"EXIF", b"Exif\0\0" + A),
+            (b"XMP ", T),
+            (b"EXIF", B),
+            (b"XMP\0", U),
+            (b"ICCP", b"12"),
+            (b"OTHR", b"odd"),
+        ]
         at = [12 + sum(8 + len(it) + len(it) % 2 for _, it in chunks[:number]) for number in range(len(chunks))]
-        found = self.seen(webp(*chunks, behind=b"\0behind"), [
-            ("exif", "Exif", f"EXIF chunk at {at[1]}", A), ("xmp", "XMP", f"XMP chunk at {at[2]}", T), ("exif", "second Exif", f"EXIF chunk at {at[3]}", B),
-            ("xmp", "second XMP", f"XMP chunk at {at[4]}", U),
-        ], [("chunk of an unknown kind", b"odd"), ("trailer of 7 bytes", b"\0behind")])  # fmt: skip
+        found = self.seen(
+            webp(*chunks, behind=b"\0behind"),
+            [
+                ("exif", "Exif", f"EXIF chunk at {at[1]}", A),
+                ("xmp", "XMP", f"XMP chunk at {at[2]}", T),
+                ("exif", "second Exif", f"EXIF chunk at {at[3]}", B),
+                ("xmp", "second XMP", f"XMP chunk at {at[4]}", U),
+            ],
+            [("chunk of an unknown kind", b"odd"), ("trailer of 7 bytes", b"\0behind")],
+        )
         self.assertEqual(found.type, "WEBP")
         self.seen(webp(*((kind, b"1") for kind in (b"VP8 ", b"VP8L", b"VP8X", b"ALPH", b"ANIM", b"ANMF", b"ICCP")), behind=bytes(3)), [])
         whole = webp((b"EXIF", A))
@@ -285,35 +424,69 @@ class Readers(unittest.TestCase):
 
     def test_pages_of_a_tiff(self):
         below = [(0x010F, ASCII, b"below\0"), (0x014A, LONG, [(0x0110, ASCII, b"deep\0\0")])]
-        first = page((0x010F, ASCII, b"Maker one\0"), (0x014A, LONG, below), (0x02BC, 1, T), (0x83BB, 7, K), (0x8649, 7, resource(0x0404, L) + b"rest"),
-                     (0x935C, 7, b"layers"), (0x8606, LONG, 0))  # fmt: skip
+        first = page(
+            (0x010F, ASCII, b"Maker one\0"),
+            (0x014A, LONG, below),
+            (0x02BC, 1, T),
+            (0x83BB, 7, K),
+            (0x8649, 7, resource(0x0404, L) + b"rest"),
+            (0x935C, 7, b"layers"),
+            (0x8606, LONG, 0),
+        )
         octets = tiff(first, page((0x02BC, 1, U)), behind=b"\0behind")
         with mock.patch.object(tiff_, "Layout", lambda _, table: mock.Mock(length=8, block=lambda: [it.tag for it in table.entries])):
             found = found_in(octets)
         kept = [0x100, 0x101, 0x102, 0x103, 0x106, 0x10F, 0x115, 0x116, 0x8606]
         places = [it.where.partition(",")[0] for it in found.found if it.kind == "exif"]
-        self.assertEqual([(it.kind, it.name, it.where, it.data) for it in found.found], [
-            ("xmp", "XMP", "tag 02bc of page 1", T), ("iim", "IPTC", "tag 83bb of page 1", K),
-            ("iim", "second IPTC", "Photoshop resource 0404 in the tag 8649 of page 1", L),
-            ("exif", "Exif", f"{places[0]}, without StripByteCounts, StripOffsets, SubIFDs", kept),
-            ("exif", "Exif of SubIFD 1 of page 1", f"{places[1]}, without SubIFDs", [0x10F]),
-            ("exif", "Exif of SubIFD 1 of SubIFD 1 of page 1", places[2], [0x110]),
-            ("xmp", "XMP of page 2", "tag 02bc of page 2", U),
-            ("exif", "Exif of page 2", f"{places[3]}, without StripByteCounts, StripOffsets", [it for it in kept if it not in (0x10F, 0x8606)]),
-        ])  # fmt: skip
+        self.assertEqual(
+            [(it.kind, it.name, it.where, it.data) for it in found.found],
+            [
+                ("xmp", "XMP", "tag 02bc of page 1", T),
+                ("iim", "IPTC", "tag 83bb of page 1", K),
+                ("iim", "second IPTC", "Photoshop resource 0404 in the tag 8649 of page 1", L),
+                ("exif", "Exif", f"{places[0]}, without StripByteCounts, StripOffsets, SubIFDs", kept),
+                ("exif", "Exif of SubIFD 1 of page 1", f"{places[1]}, without SubIFDs", [0x10F]),
+                ("exif", "Exif of SubIFD 1 of SubIFD 1 of page 1", places[2], [0x110]),
+                ("xmp", "XMP of page 2", "tag 02bc of page 2", U),
+                (
+                    "exif",
+                    "Exif of page 2",
+                    f"{places[3]}, without StripByteCounts, StripOffsets",
+                    [it for it in kept if it not in (0x10F, 0x8606)],
+                ),
+            ],
+        )
         self.assertEqual(int(places[0].rpartition(" ")[2]), struct.unpack_from(">I", octets, 4)[0])
-        self.assertEqual([tuple(it) for it in found.not_read], [
-            ("Leaf's IFD of page 1", ""), *left(("bytes behind the Photoshop resources in the tag 8649 of page 1", b"rest"),
-                                                ("Photoshop's layers of page 1", b"layers"), ("trailer of 7 bytes", b"\0behind"))])  # fmt: skip
+        self.assertEqual(
+            [tuple(it) for it in found.not_read],
+            [
+                ("Leaf's IFD of page 1", ""),
+                *left(
+                    ("bytes behind the Photoshop resources in the tag 8649 of page 1", b"rest"),
+                    ("Photoshop's layers of page 1", b"layers"),
+                    ("trailer of 7 bytes", b"\0behind"),
+                ),
+            ],
+        )
         self.assertEqual((found.type, found_in(tiff(page())).not_read), ("TIFF", []))
         for length, names in ((4, []), (5, ["Photoshop's layers of page 1"])):  # four bytes are in the entry, and so in the block
             self.assertEqual([it.what for it in found_in(tiff(page((0x935C, 7, b"x" * length)))).not_read], names)
 
     def test_entries_that_lead_to_pixels(self):
         """By TIFF 6.0, sections 8, 15 and 22, and Technical Note 1; each is left out and named."""
-        names = {0x0111: "StripOffsets", 0x0117: "StripByteCounts", 0x0120: "FreeOffsets", 0x0121: "FreeByteCounts", 0x0144: "TileOffsets",
-                 0x0145: "TileByteCounts", 0x0201: "JPEGInterchangeFormat", 0x0202: "JPEGInterchangeFormatLength", 0x0207: "JPEGQTables",
-                 0x0208: "JPEGDCTables", 0x0209: "JPEGACTables"}  # fmt: skip
+        names = {
+            0x0111: "StripOffsets",
+            0x0117: "StripByteCounts",
+            0x0120: "FreeOffsets",
+            0x0121: "FreeByteCounts",
+            0x0144: "TileOffsets",
+            0x0145: "TileByteCounts",
+            0x0201: "JPEGInterchangeFormat",
+            0x0202: "JPEGInterchangeFormatLength",
+            0x0207: "JPEGQTables",
+            0x0208: "JPEGDCTables",
+            0x0209: "JPEGACTables",
+        }
         for order in "<>":
             octets = tiff([(0x0110, ASCII, b"Xyz\0"), *((tag, LONG, 8) for tag in names)], order=order)
             at = struct.unpack_from(order + "I", octets, 4)[0]
@@ -338,7 +511,14 @@ class Readers(unittest.TestCase):
                     self.seen(block + rest, [("exif", "Exif", "directory at 8", block)], trailer)
                 block = head + struct.pack(order + "HHII", tag, LONG, 1, 26) + bytes(4) + inside
                 self.seen(block, [("exif", "Exif", "directory at 8", block)])
-                second = block[:8] + struct.pack(order + "H", 2) + block[10:18] + struct.pack(order + "I", 38) + block[10:18] + struct.pack(order + "I", 8)
+                second = (
+                    block[:8]
+                    + struct.pack(order + "H", 2)
+                    + block[10:18]
+                    + struct.pack(order + "I", 38)
+                    + block[10:18]
+                    + struct.pack(order + "I", 8)
+                )
                 second += bytes(4) + inside
                 self.seen(second, [("exif", "Exif", "directory at 8", second[:30] + second[18:22] + second[34:])])
 
@@ -346,9 +526,14 @@ class Readers(unittest.TestCase):
         """Blocks of a million bytes are below those of each reader."""
         long = b"MM\0*\0\0\0\x08" + bytes(1_000_000)
         many = T + b" " * 1_000_000
-        self.seen(png(chunk(b"eXIf", long), png_xmp(many, True)), [("exif", "Exif", "eXIf chunk at 33", long),
-                                                                   ("xmp", "XMP", f"iTXt chunk at {45 + len(long)}", many)])  # fmt: skip
-        self.seen(webp((b"EXIF", long), (b"XMP ", many)), [("exif", "Exif", "EXIF chunk at 12", long), ("xmp", "XMP", f"XMP chunk at {20 + len(long)}", many)])
+        self.seen(
+            png(chunk(b"eXIf", long), png_xmp(many, True)),
+            [("exif", "Exif", "eXIf chunk at 33", long), ("xmp", "XMP", f"iTXt chunk at {45 + len(long)}", many)],
+        )
+        self.seen(
+            webp((b"EXIF", long), (b"XMP ", many)),
+            [("exif", "Exif", "EXIF chunk at 12", long), ("xmp", "XMP", f"XMP chunk at {20 + len(long)}", many)],
+        )
         found = found_in(tiff([(0x02BC, 1, many), (0x83BB, 7, K), (0x010F, ASCII, b"x" * 1_000_000)]))
         self.assertEqual([(it.kind, len(it.data)) for it in found.found], [("xmp", len(many)), ("iim", len(K)), ("exif", 26 + 1_000_000)])
 
@@ -357,8 +542,12 @@ class Readers(unittest.TestCase):
         inside = [(0x9003, ASCII, b"12345678")]
         below = tiff(page((0x8769, LONG, inside), (0x8825, LONG, [(0x001D, ASCII, b"abcdefgh")])))
         strip = tiff(page())
-        for octets, tag, kind, count in ((below, 0x9003, ASCII, 8), (below, 0x001D, ASCII, 8), (tiff(page((0x010F, ASCII, b"12345678"))), 0x010F, ASCII, 8),
-                                         (strip, 0x0111, LONG, 1)):  # fmt: skip
+        for octets, tag, kind, count in (
+            (below, 0x9003, ASCII, 8),
+            (below, 0x001D, ASCII, 8),
+            (tiff(page((0x010F, ASCII, b"12345678"))), 0x010F, ASCII, 8),
+            (strip, 0x0111, LONG, 1),
+        ):
             moved = bytearray(octets)
             at = moved.index(struct.pack(">HHI", tag, kind, count)) + 8
             struct.pack_into(">I", moved, at, len(octets))
@@ -381,11 +570,13 @@ class Readers(unittest.TestCase):
         for _ in range(11):
             deep = page((0x014A, LONG, deep))
         for octets, why in (
-            (b"MM\0*\0\0\0\x08\0\1" + bytes(14), "the file ends inside the 16 bytes at 10"), (b"MM\0*\0\0\0\x08\0", "the file ends inside the 2 bytes at 8"),
+            (b"MM\0*\0\0\0\x08\0\1" + bytes(14), "the file ends inside the 16 bytes at 10"),
+            (b"MM\0*\0\0\0\x08\0", "the file ends inside the 2 bytes at 8"),
             (b"MM\0*\0\0\0\x04" + bytes(50), "the directory at 4 shares bytes with another one"),
             (b"II*\0\x08\0\0\0" + struct.pack("<HI", 0, 8), "the directory at 8 shares bytes with another one"),
-            (bytes(value), f"the value at {first} shares bytes with a directory"), (tiff(deep), "more than 10 SubIFDs below one another"),
-        ):  # fmt: skip
+            (bytes(value), f"the value at {first} shares bytes with a directory"),
+            (tiff(deep), "more than 10 SubIFDs below one another"),
+        ):
             self.broken(octets, why)
         with mock.patch.dict(budgets.LIMITS, {budgets.VALUE_BYTES: 100}):
             self.too_much(tiff(page((0x02BC, 1, b"x" * 101))), "more than 100 bytes of values")

@@ -23,9 +23,16 @@ PLACES = ("ThumbnailOffset", "PreviewImageStart", "OtherImageStart", "StripOffse
 def camera(order=">", shared=False, unsorted=False, doubled=False, cut=False, empty=False):
     """A block as a camera writes it, with each directory, and with these faults."""
     short = (lambda number: number << 16) if order == ">" else (lambda number: number)
-    pack = lambda *rows: struct.pack(order + "H", len(rows)) + b"".join(struct.pack(order + "HHII", *it) for it in rows)  # noqa: E731
-    main_rows = [(0x010F, ASCII, 6, 300), (0x0110, ASCII, 8, 306), (0x0112, SHORT, 1, short(6)), (0x011A, RATIONAL, 1, 320),
-                 (0x011B, RATIONAL, 1, 320 if shared else 328), (0x8769, LONG, 1, 140), (0x8825, LONG, 1, 220)]  # fmt: skip
+    pack = lambda *rows: struct.pack(order + "H", len(rows)) + b"".join(struct.pack(order + "HHII", *it) for it in rows)
+    main_rows = [
+        (0x010F, ASCII, 6, 300),
+        (0x0110, ASCII, 8, 306),
+        (0x0112, SHORT, 1, short(6)),
+        (0x011A, RATIONAL, 1, 320),
+        (0x011B, RATIONAL, 1, 320 if shared else 328),
+        (0x8769, LONG, 1, 140),
+        (0x8825, LONG, 1, 220),
+    ]
     if doubled:
         main_rows.insert(3, main_rows[2])
     if unsorted:
@@ -44,9 +51,13 @@ def camera(order=">", shared=False, unsorted=False, doubled=False, cut=False, em
 
 
 REFUSED = {
-    "unsorted": camera(unsorted=True), "shared": camera(shared=True), "doubled": camera(doubled=True), "empty": camera(empty=True),
-    "little": camera("<", unsorted=True, shared=True), "all": camera(unsorted=True, shared=True, doubled=True),
-}  # fmt: skip
+    "unsorted": camera(unsorted=True),
+    "shared": camera(shared=True),
+    "doubled": camera(doubled=True),
+    "empty": camera(empty=True),
+    "little": camera("<", unsorted=True, shared=True),
+    "all": camera(unsorted=True, shared=True, doubled=True),
+}
 
 
 def values_of(folder, blocks):
@@ -54,8 +65,29 @@ def values_of(folder, blocks):
     for number, octets in enumerate(blocks):
         (folder / f"{number:04}.jpg").write_bytes(jpeg(app1(octets)))
     names = [f"{number:04}.jpg" for number in range(len(blocks))]
-    words = ["exiftool", "-config", "", "-q", "-q", "-m", "-json", "-a", "-u", "-n", "-G1:4", "-b", "-x", "File:all", "-x", "System:all", "-x",
-             "ExifTool:all", "-x", "Composite:all", *names]  # fmt: skip
+    words = [
+        "exiftool",
+        "-config",
+        "",
+        "-q",
+        "-q",
+        "-m",
+        "-json",
+        "-a",
+        "-u",
+        "-n",
+        "-G1:4",
+        "-b",
+        "-x",
+        "File:all",
+        "-x",
+        "System:all",
+        "-x",
+        "ExifTool:all",
+        "-x",
+        "Composite:all",
+        *names,
+    ]
     done = subprocess.run(words, cwd=folder, capture_output=True, timeout=600)
     found = json.loads(done.stdout)
     assert [it.pop("SourceFile") for it in found] == names
@@ -137,9 +169,12 @@ def test_which_repairs_make_pictures_the_same(folder, capsys, monkeypatch):
     edited = plain.replace(b"Model 7", b"Model 8")
     lossy = BLOCKS["Doubled"]
     for name, before, after, result, status in (
-        ("same", REFUSED["all"], plain, "the same after repair", 2), ("both", REFUSED["unsorted"], REFUSED["little"], "the same after repair", 2),
-        ("edited", REFUSED["all"], edited, "different after repair", 1), ("lossy", lossy, exif(b"Abc"), "refused", 2), ("itself", lossy, lossy, "refused, the same bytes", 0),
-    ):  # fmt: skip
+        ("same", REFUSED["all"], plain, "the same after repair", 2),
+        ("both", REFUSED["unsorted"], REFUSED["little"], "the same after repair", 2),
+        ("edited", REFUSED["all"], edited, "different after repair", 1),
+        ("lossy", lossy, exif(b"Abc"), "refused", 2),
+        ("itself", lossy, lossy, "refused, the same bytes", 0),
+    ):
         for side, octets in (("before", before), ("after", after)):
             (folder / name / side).mkdir(parents=True)
             (folder / name / side / "a.jpg").write_bytes(jpeg(app1(octets)))
@@ -151,9 +186,14 @@ def test_which_repairs_make_pictures_the_same(folder, capsys, monkeypatch):
             assert [it["name"] for it in found["fields"]] == ["main:Model"]
 
 
-@pytest.mark.parametrize("kind, holder", [
-    ("JPEG", lambda it: jpeg(app1(it), behind=b"rest")), ("PNG", lambda it: png(chunk(b"eXIf", it))), ("WEBP", lambda it: webp((b"EXIF", it))),
-])  # fmt: skip
+@pytest.mark.parametrize(
+    "kind, holder",
+    [
+        ("JPEG", lambda it: jpeg(app1(it), behind=b"rest")),
+        ("PNG", lambda it: png(chunk(b"eXIf", it))),
+        ("WEBP", lambda it: webp((b"EXIF", it))),
+    ],
+)
 @pytest.mark.parametrize("name", ["unsorted", "shared", "all"])
 def test_the_rest_of_a_repaired_file_stays(kind, holder, name):
     """Also where the block becomes longer."""

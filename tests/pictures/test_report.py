@@ -19,6 +19,7 @@ def picture(maker, model=b"Xyz\0"):
 
 class Text(HTMLParser):
     """The texts of a page by their element, or its class; whether each element is closed."""
+
     VOID = {"meta", "img", "rect", "br"}
 
     def __init__(self, page):
@@ -83,7 +84,9 @@ class Report(WithPictures):
         heads = [it for it in page.texts("h3") if re.match(r"\d+ pictures", it)]
         self.assertEqual(heads, ["5 pictures", "3 pictures"])
         names = page.texts("small")
-        self.assertEqual(sorted(names), sorted(f"{maker[:3]}{number}.jpg" for maker in ("One\0", "Two\0") for number in range(GROUPS[maker])))
+        self.assertEqual(
+            sorted(names), sorted(f"{maker[:3]}{number}.jpg" for maker in ("One\0", "Two\0") for number in range(GROUPS[maker]))
+        )
         self.assertEqual(page.texts("summary").count(f"{CHANGED} pictures"), 1)
         self.assertLess(self.page.index(f"{CHANGED} pictures"), self.page.index("alone.jpg"), "what is in many pictures comes first")
         rows = page.texts("fields")
@@ -100,7 +103,9 @@ class Report(WithPictures):
         page = Text(read(self.path("r.html")).decode())
         self.assertEqual(sum("Doubled at" in it for it in page.texts("note")), 60)
         self.assertIn(".. and 40 more blocks, which --json lists", page.texts("note"))
-        self.assertEqual(sum(it.startswith('{"refused"') and '"Doubled"' in it for it in self.asked("report", "--catalogue", "c", "--json")), 100)
+        self.assertEqual(
+            sum(it.startswith('{"refused"') and '"Doubled"' in it for it in self.asked("report", "--catalogue", "c", "--json")), 100
+        )
 
     @needs("chromium")
     def test_on_a_phone(self):
@@ -108,8 +113,15 @@ class Report(WithPictures):
         page = re.sub(r'<meta http-equiv="Content-Security-Policy"[^>]*>', "", self.page).replace("</body>", measure + "</body>")
         page = page.replace("changed0.jpg", "a_very_long_name_without_any_space_" * 6 + ".jpg")
         write(self.path("measured.html"), page.encode())
-        browser = [shutil.which("chromium"), "--headless", "--no-sandbox", "--disable-gpu", f"--user-data-dir={self.path('b')}",
-                   "--window-size=500,844", "--dump-dom"]  # fmt: skip
+        browser = [
+            shutil.which("chromium"),
+            "--headless",
+            "--no-sandbox",
+            "--disable-gpu",
+            f"--user-data-dir={self.path('b')}",
+            "--window-size=500,844",
+            "--dump-dom",
+        ]
         seen = run([*browser, "file://" + self.path("measured.html")], self.folder, HOME=self.folder).stdout.decode()
         found = re.search(r"<title>(\d+) of (\d+)</title>", seen)
         self.assertIsNotNone(found, seen[:500])

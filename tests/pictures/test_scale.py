@@ -237,10 +237,13 @@ class Scale(WithPictures):
         names = ("extract.extraction", "refusals.mend", "refusals.explain", "compare.changed", "report.page", "scan.workers")
         own = [f"exifnorm_pictures.{it}" for it in names]
         watched = {"exifnorm", "html", "logging", "multiprocessing", "subprocess", "urllib", "xml", *own}
-        for words, needed in ((["same", "--catalogue", "c"], {"subprocess"}), (["index", "p", "--catalogue", "c", "--quiet"], {"subprocess"}),
-                              (["merge", "c", "--catalogue", "d"], {"subprocess"}),
-                              (["changed", "c", "c"], {"subprocess", "exifnorm_pictures.compare.changed"}),
-                              (["show", "p/0000.jpg"], watched - {"multiprocessing", "urllib", "html", "logging", *own[3:]})):  # fmt: skip
+        for words, needed in (
+            (["same", "--catalogue", "c"], {"subprocess"}),
+            (["index", "p", "--catalogue", "c", "--quiet"], {"subprocess"}),
+            (["merge", "c", "--catalogue", "d"], {"subprocess"}),
+            (["changed", "c", "c"], {"subprocess", "exifnorm_pictures.compare.changed"}),
+            (["show", "p/0000.jpg"], watched - {"multiprocessing", "urllib", "html", "logging", *own[3:]}),
+        ):
             with self.subTest(words[0]):
                 done = run([sys.executable, "-S", "-c", call, *words], self.folder)
                 imported = set(done.stderr.decode().split())

@@ -48,7 +48,10 @@ class Steps(unittest.TestCase):
         record = "IPTC:SubjectReference{}=exifnorm:01000000:mend"
         none, some = (0, b""), (0, b"\x1c\2\0\0\2\0\4")
         self.assertEqual(self.called(mend._touch, none, none, none, none), ([ASKING, RECORD, adding, taking], True))
-        both = [[*WRITING, "-IFD0:PageName=zz", "-" + record.format("+"), "p"], [*WRITING, "-IFD0:PageName=", "-" + record.format("-"), "p"]]
+        both = [
+            [*WRITING, "-IFD0:PageName=zz", "-" + record.format("+"), "p"],
+            [*WRITING, "-IFD0:PageName=", "-" + record.format("-"), "p"],
+        ]
         self.assertEqual(self.called(mend._touch, none, some, none, none), ([ASKING, RECORD, *both], True))
         self.assertEqual(self.called(mend._touch, none, none, (1, b"")), ([ASKING, RECORD, adding], False))
         self.assertEqual(self.called(mend._touch, none, none, none, (1, b"")), ([ASKING, RECORD, adding, taking], False))
@@ -71,15 +74,41 @@ class Steps(unittest.TestCase):
         self.assertEqual(list(mend._REMEDIES.items()), [("touch", mend._touch), ("exiv2", mend._by_exiv2), ("rebuild", mend._rebuild)])
 
     def test_a_field_that_is_free(self):
-        for printed, expected in ((b"", "PageName"), (b"DocumentName : PageName\n", "PageName"), (b"PageName  : x\n", "DocumentName"),
-                                  (b"PageName: x\nDocumentName:y\n", "HostComputer"), (b"\xff : x\nPageName : HostComputer", "DocumentName")):  # fmt: skip
+        for printed, expected in (
+            (b"", "PageName"),
+            (b"DocumentName : PageName\n", "PageName"),
+            (b"PageName  : x\n", "DocumentName"),
+            (b"PageName: x\nDocumentName:y\n", "HostComputer"),
+            (b"\xff : x\nPageName : HostComputer", "DocumentName"),
+        ):
             self.assertEqual(self.called(mend._free_field, (0, printed)), ([ASKING], expected))
 
     def test_values_that_are_compared(self):
-        words = [*EXIFTOOL, "-q", "-q", "-m", "-a", "-u", "-s", "-G1", "-x", "System:all", "-x", "File:all", "-x", "Composite:all", "-x", "ExifTool:all",
-                 "-x", "JFIF:all", "p"]  # fmt: skip
-        lines = (b"[IFD0] Make      : A  b\n\n[IFD0] Make : A b\n[IFD1] ThumbnailOffset : 8\n[IFD1] Thumb : (Binary data 9 bytes, use -b option to extract)\n"
-                 b"[M] Start Of : 1\n[M] Started : \xff\n[E] Padding : 1\n[P] IPTCDigest : 0\n")  # fmt: skip
+        words = [
+            *EXIFTOOL,
+            "-q",
+            "-q",
+            "-m",
+            "-a",
+            "-u",
+            "-s",
+            "-G1",
+            "-x",
+            "System:all",
+            "-x",
+            "File:all",
+            "-x",
+            "Composite:all",
+            "-x",
+            "ExifTool:all",
+            "-x",
+            "JFIF:all",
+            "p",
+        ]
+        lines = (
+            b"[IFD0] Make      : A  b\n\n[IFD0] Make : A b\n[IFD1] ThumbnailOffset : 8\n[IFD1] Thumb : (Binary data 9 bytes, use -b option to extract)\n"
+            b"[M] Start Of : 1\n[M] Started : \xff\n[E] Padding : 1\n[P] IPTCDigest : 0\n"
+        )
         calls, found = self.called(mend._printed, (0, lines))
         self.assertEqual(calls, [words])
         self.assertEqual(dict(found), {"[IFD0] Make : A b": 2, "[IFD1] Thumb : (Binary data 9 bytes": 1, "[M] Started : \\xff": 1})
@@ -87,6 +116,7 @@ class Steps(unittest.TestCase):
 
 class Copies(WithPictures):
     """The copy that `mend` writes."""
+
     GOOD, BAD = Blocks(type="JPEG"), {"Exif": "refused: Overlap at 34"}
 
     def mended(self, name="a.jpg", refusals=({"Exif": "refused: Overlap at 34"}, {}), remedy=None, blocks=None, out="out.jpg"):
@@ -105,8 +135,12 @@ class Copies(WithPictures):
             write(self.path(name), b"a picture")
             os.utime(self.path(name), (READ, 20))
             os.chmod(self.path(name), 0o640)
-        changed = {"blocks_of": read_blocks, "_refusals": lambda _: refusals.pop(0), "_printed": lambda _: mend.Counter("ab"),
-                   "_REMEDIES": {it: remedy or touch for it in mend.STEPS}}  # fmt: skip
+        changed = {
+            "blocks_of": read_blocks,
+            "_refusals": lambda _: refusals.pop(0),
+            "_printed": lambda _: mend.Counter("ab"),
+            "_REMEDIES": {it: remedy or touch for it in mend.STEPS},
+        }
         os.makedirs(self.path("room"), exist_ok=True)
         with mock.patch.multiple(mend, **changed), mock.patch.object(programs, "needed", lambda it: it):
             return mend.mend(os.fsencode(self.path(name)), os.fsencode(self.path(out)), self.path("room"))
@@ -135,8 +169,16 @@ class Copies(WithPictures):
 
     def test_endings_of_names(self):
         """ExifTool and exiv2 look at them, so they are kept if they are short and plain."""
-        for name, ending in (("b.Jp2", ".Jp2"), ("b", ""), ("b.abcdefgh", ".abcdefgh"), ("b.abcdefghi", ""), ("b.a-b", ""), ("b.\u00e9", ""), ("b.c.d", ".d"),
-                             ("b.jpg\n", "")):  # fmt: skip
+        for name, ending in (
+            ("b.Jp2", ".Jp2"),
+            ("b", ""),
+            ("b.abcdefgh", ".abcdefgh"),
+            ("b.abcdefghi", ""),
+            ("b.a-b", ""),
+            ("b.\u00e9", ""),
+            ("b.c.d", ".d"),
+            ("b.jpg\n", ""),
+        ):
             self.mended(name, out=f"out{ending}-{len(name)}{name[-1:]}.x")
             self.assertEqual(self.used[1], f"touch{ending}", name)
 
@@ -163,32 +205,67 @@ class Lines(WithPictures):
         one = {"Exif": "refused: Overlap at 34"}
         two = {**one, "IPTC": "refused: DataSetCut at 0"}
         for found, lines, members in (
-            (mend.Mended("none", {}, problem="NoPicture: text"), ["a\\n: NoPicture: text"],
-             {"step": "none", "before": {}, "lost": [], "gained": [], "problem": "NoPicture: text"}),
-            (mend.Mended("copy", {}), ["a\\n: nothing was to be mended: a plain copy"], {"step": "copy", "before": {}, "lost": [], "gained": []}),
-            (mend.Mended("touch", one), ["a\\n: Exif refused: Overlap at 34: ExifTool added a field and removed it", "  0 printed values lost or changed"],
-             {"step": "touch", "before": one, "lost": [], "gained": []}),
-            (mend.Mended("exiv2", two, [], ["[IFD0] A : b"]),
-             ["a\\n: Exif refused: Overlap at 34; IPTC refused: DataSetCut at 0: exiv2 added a field and removed it",
-              "  0 printed values lost or changed", "  + [IFD0] A : b"],
-             {"step": "exiv2", "before": two, "lost": [], "gained": ["[IFD0] A : b"]}),
-            (mend.Mended("rebuild", one, ["x", "y"], ["z"]),
-             ["a\\n: Exif refused: Overlap at 34: ExifTool wrote all tags that it knows into a new block", "  2 printed values lost or changed",
-              "  - x", "  - y", "  + z"], {"step": "rebuild", "before": one, "lost": ["x", "y"], "gained": ["z"]}),
-            (mend.Mended("none", one), ["a\\n: Exif refused: Overlap at 34: no remedy helped"], {"step": "none", "before": one, "lost": [], "gained": []}),
-        ):  # fmt: skip
+            (
+                mend.Mended("none", {}, problem="NoPicture: text"),
+                ["a\\n: NoPicture: text"],
+                {"step": "none", "before": {}, "lost": [], "gained": [], "problem": "NoPicture: text"},
+            ),
+            (
+                mend.Mended("copy", {}),
+                ["a\\n: nothing was to be mended: a plain copy"],
+                {"step": "copy", "before": {}, "lost": [], "gained": []},
+            ),
+            (
+                mend.Mended("touch", one),
+                ["a\\n: Exif refused: Overlap at 34: ExifTool added a field and removed it", "  0 printed values lost or changed"],
+                {"step": "touch", "before": one, "lost": [], "gained": []},
+            ),
+            (
+                mend.Mended("exiv2", two, [], ["[IFD0] A : b"]),
+                [
+                    "a\\n: Exif refused: Overlap at 34; IPTC refused: DataSetCut at 0: exiv2 added a field and removed it",
+                    "  0 printed values lost or changed",
+                    "  + [IFD0] A : b",
+                ],
+                {"step": "exiv2", "before": two, "lost": [], "gained": ["[IFD0] A : b"]},
+            ),
+            (
+                mend.Mended("rebuild", one, ["x", "y"], ["z"]),
+                [
+                    "a\\n: Exif refused: Overlap at 34: ExifTool wrote all tags that it knows into a new block",
+                    "  2 printed values lost or changed",
+                    "  - x",
+                    "  - y",
+                    "  + z",
+                ],
+                {"step": "rebuild", "before": one, "lost": ["x", "y"], "gained": ["z"]},
+            ),
+            (
+                mend.Mended("none", one),
+                ["a\\n: Exif refused: Overlap at 34: no remedy helped"],
+                {"step": "none", "before": one, "lost": [], "gained": []},
+            ),
+        ):
             self.assertEqual(mend_cli._mended_lines(b"a\n", found), lines)
             self.assertEqual(mend_cli._mended_members(b"a\n", found), {"path": "a\n", "repairs": [], **members})
 
     def printed(self, why, as_json):
         with mock.patch.object(mend, "mend", mock.Mock(side_effect=why)), contextlib.redirect_stdout(io.StringIO()) as lines:
-            self.assertEqual(mend_cli._mend_one(argparse.Namespace(json=as_json, files_from=None), b"a\xff", b"b\n", ""), 4 if isinstance(why, mend.NotWritten) else 2)
+            self.assertEqual(
+                mend_cli._mend_one(argparse.Namespace(json=as_json, files_from=None), b"a\xff", b"b\n", ""),
+                4 if isinstance(why, mend.NotWritten) else 2,
+            )
         return lines.getvalue()
 
     def test_what_is_not_written(self):
-        for why, word in ((mend.NotWritten("no space left"), "NotWritten"), (programs.Failed("exiftool took longer than 1 seconds"), "ToolFailed")):
+        for why, word in (
+            (mend.NotWritten("no space left"), "NotWritten"),
+            (programs.Failed("exiftool took longer than 1 seconds"), "ToolFailed"),
+        ):
             self.assertEqual(self.printed(why, False), f"a\\xff: b\\n isn't written: {why}\n")
-            self.assertEqual(json.loads(self.printed(why, True)), {"path": "a\\xff", "path_hex": "61ff", "problem": word, "detail": str(why)})
+            self.assertEqual(
+                json.loads(self.printed(why, True)), {"path": "a\\xff", "path_hex": "61ff", "problem": word, "detail": str(why)}
+            )
 
     def pairs(self, names, files_from=None, given=()):
         with mock.patch.object(mend_cli, "from_list", lambda _: list(given)):
@@ -199,12 +276,16 @@ class Lines(WithPictures):
         write(self.path("file"), b"")
         out = os.fsencode(self.path("out"))
         self.assertEqual(self.pairs(["a", "b"]), [(b"a", b"b")])
-        self.assertEqual(self.pairs([self.path("out")], "-", [b"x/a.jpg", b"/y/b.jpg"]), [(b"x/a.jpg", out + b"/x/a.jpg"), (b"/y/b.jpg", out + b"/y/b.jpg")])
+        self.assertEqual(
+            self.pairs([self.path("out")], "-", [b"x/a.jpg", b"/y/b.jpg"]),
+            [(b"x/a.jpg", out + b"/x/a.jpg"), (b"/y/b.jpg", out + b"/y/b.jpg")],
+        )
         for names, files_from, message in (
-            (["a"], None, "mend: give PICTURE and OUT"), (["a", "b", "c"], None, "mend: give PICTURE and OUT"),
+            (["a"], None, "mend: give PICTURE and OUT"),
+            (["a", "b", "c"], None, "mend: give PICTURE and OUT"),
             (["a", "b"], "-", "mend: with --files-from give the folder OUT alone, which must be there"),
             ([self.path("file")], "-", "mend: with --files-from give the folder OUT alone, which must be there"),
-        ):  # fmt: skip
+        ):
             with contextlib.redirect_stderr(io.StringIO()) as lines, self.assertRaises(SystemExit) as ended:
                 self.pairs(names, files_from, [b"x"])
             self.assertEqual((lines.getvalue().splitlines()[-1], ended.exception.code), (f"exifnorm-pictures: {message}", 3))
@@ -287,7 +368,15 @@ class Folders(WithPictures):
             with mock.patch.object(tempdir.os, "geteuid", lambda: os.getuid() + 1), tempdir.room():
                 self.assertTrue(os.path.exists(self.path("exifnorm-killed")), "it is another user's")
             with tempdir.room() as name:
-                kept = ["another", "exifnor-other", "exifnorm-alive", "exifnorm-file", "exifnorm-link", "exifnorm-linked", "exifnorm-without"]
+                kept = [
+                    "another",
+                    "exifnor-other",
+                    "exifnorm-alive",
+                    "exifnorm-file",
+                    "exifnorm-link",
+                    "exifnorm-linked",
+                    "exifnorm-without",
+                ]
                 self.assertEqual(sorted(os.listdir(self.folder)), sorted([*kept, os.path.basename(name)]))
         for it in ("another", "exifnor-other", "exifnorm-alive", "exifnorm-linked", "exifnorm-without"):
             self.assertEqual(len(os.listdir(self.path(it))), 3 if it == "exifnorm-linked" else 2, it)

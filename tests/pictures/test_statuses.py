@@ -36,10 +36,17 @@ def make_link(path):
     os.symlink("nothing", path)
 
 
-@pytest.mark.parametrize("make, problem, status", [
-    (os.mkfifo, "NotAFile", 0), (make_link, "LinkToNothing", 0), (lambda path: os.symlink(path, path), "LinkToNothing", 0),
-    (lambda path: os.symlink("/dev/zero", path), "NotAFile", 0), (lambda path: path.write_bytes(jpeg(app1(BLOCKS["Overlap"]))), "Exif", 0),
-], ids=["a pipe", "a link to nothing", "a link to itself", "a device", "a refused picture"])  # fmt: skip
+@pytest.mark.parametrize(
+    "make, problem, status",
+    [
+        (os.mkfifo, "NotAFile", 0),
+        (make_link, "LinkToNothing", 0),
+        (lambda path: os.symlink(path, path), "LinkToNothing", 0),
+        (lambda path: os.symlink("/dev/zero", path), "NotAFile", 0),
+        (lambda path: path.write_bytes(jpeg(app1(BLOCKS["Overlap"]))), "Exif", 0),
+    ],
+    ids=["a pipe", "a link to nothing", "a link to itself", "a device", "a refused picture"],
+)
 def test_a_line_and_the_status_of_index(asked, folder, make, problem, status):
     make(folder / "p/b.jpg")
     lines = asked("index", "p", "--catalogue", "c", "--quiet", status=status)
@@ -65,10 +72,14 @@ def test_a_file_that_never_was_is_not_gone(asked):
 
 
 @pytest.mark.parametrize("there", [True, False])
-@pytest.mark.parametrize("statement", [
-    "UPDATE pictures SET xmp = NULL; UPDATE blocks SET status = 'unreadable', cause = 'NeedsRdflib' WHERE kind = 'xmp'",
-    f"UPDATE pictures SET not_read = NULL; INSERT INTO not_read SELECT id, 0, '{UNREAD_TRAILER}', '' FROM pictures",
-], ids=["rdflib", "exiftool"])  # fmt: skip
+@pytest.mark.parametrize(
+    "statement",
+    [
+        "UPDATE pictures SET xmp = NULL; UPDATE blocks SET status = 'unreadable', cause = 'NeedsRdflib' WHERE kind = 'xmp'",
+        f"UPDATE pictures SET not_read = NULL; INSERT INTO not_read SELECT id, 0, '{UNREAD_TRAILER}', '' FROM pictures",
+    ],
+    ids=["rdflib", "exiftool"],
+)
 def test_what_a_missing_program_left_is_read_once_it_is_there(asked, monkeypatch, statement, there):
     asked("index", "p", "--catalogue", "c", "--quiet")
     base = sqlite3.connect("c")

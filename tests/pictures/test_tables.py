@@ -45,8 +45,19 @@ def picture(name, blocks=BASE, parts=(), number=0, problem=None, root="/a", file
         raise ValueError(root)
     path = os.fsencode(f"{root.rstrip('/')}/{name}")
     number = number or int(digest(name)[:8], 16)
-    return PictureRecord(path, os.fsencode(root), Stamp(number, number, number, number), "JPEG", "own", problem, "why" if problem else "",
-                 tuple(block_of(kind, text) for kind, text in ({} if problem else blocks).items()), tuple(parts), None, file)  # fmt: skip
+    return PictureRecord(
+        path,
+        os.fsencode(root),
+        Stamp(number, number, number, number),
+        "JPEG",
+        "own",
+        problem,
+        "why" if problem else "",
+        tuple(block_of(kind, text) for kind, text in ({} if problem else blocks).items()),
+        tuple(parts),
+        None,
+        file,
+    )
 
 
 class Tables(WithPictures):
@@ -116,13 +127,27 @@ class Tables(WithPictures):
 
     def test_what_moved(self):
         bare = {}
-        before = [picture("file", {EXIF: "1"}, number=1), picture("meaning", {EXIF: "2"}, number=2), picture("bare", bare, number=3),
-                  picture("x/twin", {EXIF: "4"}, number=4), picture("y/twin2", {EXIF: "4"}, number=4), picture("stays", number=6),
-                  picture("here", problem="Vanished"), picture("bad", problem="Unreadable"), picture("part", {EXIF: "8"}, [UNKNOWN], 8)]  # fmt: skip
-        after = [picture("new/file", {EXIF: "other"}, number=1), picture("new/meaning", {EXIF: "2"}, number=2)._replace(
-                     stamp=Stamp(2, 9, 9, 9)), picture("new/bare", bare, number=33), picture("z/twin2", {EXIF: "4"}, number=4),
-                 picture("z/other", {EXIF: "4"}, number=4), picture("stays", number=66), picture("new/here"),
-                 picture("new/part", {EXIF: "8"}, [UNKNOWN], 88)]  # fmt: skip
+        before = [
+            picture("file", {EXIF: "1"}, number=1),
+            picture("meaning", {EXIF: "2"}, number=2),
+            picture("bare", bare, number=3),
+            picture("x/twin", {EXIF: "4"}, number=4),
+            picture("y/twin2", {EXIF: "4"}, number=4),
+            picture("stays", number=6),
+            picture("here", problem="Vanished"),
+            picture("bad", problem="Unreadable"),
+            picture("part", {EXIF: "8"}, [UNKNOWN], 8),
+        ]
+        after = [
+            picture("new/file", {EXIF: "other"}, number=1),
+            picture("new/meaning", {EXIF: "2"}, number=2)._replace(stamp=Stamp(2, 9, 9, 9)),
+            picture("new/bare", bare, number=33),
+            picture("z/twin2", {EXIF: "4"}, number=4),
+            picture("z/other", {EXIF: "4"}, number=4),
+            picture("stays", number=66),
+            picture("new/here"),
+            picture("new/part", {EXIF: "8"}, [UNKNOWN], 88),
+        ]
         found, counts = self.compared(before, after)
         moves = {"file": "new/file", "meaning": "new/meaning", "x/twin": "z/other", "y/twin2": "z/twin2"}
         gone = {it: "missing after" for it in ("bare", "bad", "part")}
@@ -147,9 +172,17 @@ class Tables(WithPictures):
         after = [picture(it, {EXIF: text}, root="/other/folder") for it, text in zip(("a", "b", "c", "new"), ("a", "B", "C", "n"))]
         everything = {"same": 1, "different": 2, "missing after": 1, "missing before": 1}
         self.assertEqual(self.compared(before, after)[1], everything)
-        for only, expected in (({b"a"}, {"same": 1}), ({b"b", b"a"}, {"same": 1, "different": 1}), ({b"/a/b"}, {"different": 1}),
-                          ({b"/other/folder/b"}, {"different": 1}), ({b"/other/folder/a"}, {"same": 1}), ({b"gone"}, {"missing after": 1}),
-                          ({b"/other/folder/new", b"c"}, {"missing before": 1, "different": 1}), ({b"/x"}, {}), (set(), {})):  # fmt: skip
+        for only, expected in (
+            ({b"a"}, {"same": 1}),
+            ({b"b", b"a"}, {"same": 1, "different": 1}),
+            ({b"/a/b"}, {"different": 1}),
+            ({b"/other/folder/b"}, {"different": 1}),
+            ({b"/other/folder/a"}, {"same": 1}),
+            ({b"gone"}, {"missing after": 1}),
+            ({b"/other/folder/new", b"c"}, {"missing before": 1, "different": 1}),
+            ({b"/x"}, {}),
+            (set(), {}),
+        ):
             with self.subTest(only):
                 self.assertEqual(self.compared(before, after, only)[1], expected)
 
@@ -157,10 +190,14 @@ class Tables(WithPictures):
         """Where a catalogue has more than one folder, whole paths are compared."""
         before = [picture("a"), picture("b", root="/b")]
         self.assertEqual(self.compared(before, before)[1], {"same": 2})
-        self.assertEqual(self.compared(before, [picture("a"), picture("c", {EXIF: "c"}, root="/c")])[1],
-                         {"same": 1, "missing after": 1, "missing before": 1})  # fmt: skip
-        for one, other, counts in ((before, [picture("a", {EXIF: "c"}, number=77, root="/other")], {"missing after": 2, "missing before": 1}),
-                                   ([picture("a", {EXIF: "c"}, number=77, root="/other")], before, {"missing after": 1, "missing before": 2})):  # fmt: skip
+        self.assertEqual(
+            self.compared(before, [picture("a"), picture("c", {EXIF: "c"}, root="/c")])[1],
+            {"same": 1, "missing after": 1, "missing before": 1},
+        )
+        for one, other, counts in (
+            (before, [picture("a", {EXIF: "c"}, number=77, root="/other")], {"missing after": 2, "missing before": 1}),
+            ([picture("a", {EXIF: "c"}, number=77, root="/other")], before, {"missing after": 1, "missing before": 2}),
+        ):
             self.assertEqual(self.compared(one, other)[1], counts)
         self.assertEqual(self.compared([picture("a", root="/")], [picture("a", root="/x")])[1], {"same": 1})
         self.assertEqual(self.compared([], [picture("a")])[1], {"missing before": 1})
@@ -194,24 +231,41 @@ class Tables(WithPictures):
         """It names both catalogues, as either may be damaged."""
         sides = [self.catalogue(name, picture("p", {EXIF: name})) for name in ("before", "after")]
         names = f"{re.escape(self.path('before'))} or {re.escape(self.path('after'))}"
-        for call, table in ((lambda it: list(it.differing()), "moved"), (lambda it: list(it.came()), "alone_after"), (pairing.Pairs.count, "chosen")):
+        for call, table in (
+            (lambda it: list(it.differing()), "moved"),
+            (lambda it: list(it.came()), "alone_after"),
+            (pairing.Pairs.count, "chosen"),
+        ):
             with contextlib.closing(pairing.Pairs(*sides, only={b"p"})) as pairs:
                 pairs.base.execute(f"DROP TABLE main.{table}")
                 with self.assertRaisesRegex(NoCatalogue, rf"^{names}: no such table: (main\.)?{table}$"):
                     call(pairs)
 
     def test_groups_and_what_is_in_none(self):
-        made = self.catalogue("c", *(picture(it) for it in "abc"), *(picture(it, {**BASE, XMP: "other"}) for it in "de"),
-                              picture("f", {**BASE, IPTC: "!DataSetCut"}), picture("g", parts=[UNKNOWN]), picture("h", parts=[UNKNOWN]),
-                              picture("i", parts=[KNOWN]), picture("j", parts=[KNOWN]), picture("k", parts=[OTHER]), picture("l", {}),
-                              picture("m", {}), picture("n", problem="NoPicture"), picture("o", problem="Vanished"))  # fmt: skip
+        made = self.catalogue(
+            "c",
+            *(picture(it) for it in "abc"),
+            *(picture(it, {**BASE, XMP: "other"}) for it in "de"),
+            picture("f", {**BASE, IPTC: "!DataSetCut"}),
+            picture("g", parts=[UNKNOWN]),
+            picture("h", parts=[UNKNOWN]),
+            picture("i", parts=[KNOWN]),
+            picture("j", parts=[KNOWN]),
+            picture("k", parts=[OTHER]),
+            picture("l", {}),
+            picture("m", {}),
+            picture("n", problem="NoPicture"),
+            picture("o", problem="Vanished"),
+        )
         found = [[os.path.basename(it).decode() for it in one.pictures()] for one in groups.groups(made, look=False)]
         self.assertEqual(found, [["a", "b", "c"], ["d", "e"], ["i", "j"]])
         self.assertEqual(groups.totals(made), (3, 7))
         self.assertEqual(groups.left_out(made), 3)
         self.assertEqual(groups.totals(made, (EXIF,)), (2, 8))
         self.assertEqual(groups.left_out(made, (EXIF,)), 2)
-        self.assertEqual([it.sentence() for it in groups.groups(made, (EXIF, IPTC), look=False)][0], "Exif and IPTC are the same in the same bytes")
+        self.assertEqual(
+            [it.sentence() for it in groups.groups(made, (EXIF, IPTC), look=False)][0], "Exif and IPTC are the same in the same bytes"
+        )
 
     def test_bytes_that_differ_in_one_kind(self):
         other = [it._replace(octets="0" * 64) if it.kind == IPTC else it for it in picture("a").blocks]
@@ -221,9 +275,17 @@ class Tables(WithPictures):
 
     def test_counts_of_a_report(self):
         old = [picture(it) for it in "abcd"]
-        now = [picture("a"), picture("b", {**BASE, EXIF: "!Overlap", IPTC: "!DataSetCut"}), picture("c", {**BASE, EXIF: "new"}, [KNOWN]),
-               picture("d", {**BASE, EXIF: "new"}, [KNOWN, NotRead("other", "")]), picture("e", {EXIF: "!Overlap"}), picture("f", {}),
-               picture("n", problem="NoPicture"), picture("m", problem="NoPicture"), picture("u", problem="Unreadable")]  # fmt: skip
+        now = [
+            picture("a"),
+            picture("b", {**BASE, EXIF: "!Overlap", IPTC: "!DataSetCut"}),
+            picture("c", {**BASE, EXIF: "new"}, [KNOWN]),
+            picture("d", {**BASE, EXIF: "new"}, [KNOWN, NotRead("other", "")]),
+            picture("e", {EXIF: "!Overlap"}),
+            picture("f", {}),
+            picture("n", problem="NoPicture"),
+            picture("m", problem="NoPicture"),
+            picture("u", problem="Unreadable"),
+        ]
         found = contents.gather(contents.About(self.catalogue("c", *now), self.catalogue("old", *old), look=False))
         self.assertEqual(found.total, 9)
         self.assertEqual(dict(found.states), {"accepted": 3, "refused": 2, "no block": 1, "NoPicture": 2, "Unreadable": 1})
@@ -252,6 +314,7 @@ def note(text):
 
 class Details(WithPictures):
     """All that is known of a picture that was compared."""
+
     catalogue = Tables.catalogue
     maxDiff = None
 
@@ -270,23 +333,40 @@ class Details(WithPictures):
         one, two = with_fields(EXIF, "Exif", "a", [make("a")], "exiv2"), with_fields(IPTC, "IPTC", "b", [make("b")], "exiftool")
         own, other = with_fields(EXIF, "Exif", "a", [make("a")]), with_fields(IPTC, "IPTC", "c", [make("c")])
         for before, after, expected in (
-            ([own, two], [own, two], "; extracted by ExifTool"), ([one, two], [own], "; extracted by ExifTool; extracted by exiv2; no IPTC after"),
-            ([own], [one], "; extracted by exiv2"), ([own, other], [own, other], ""), ([own, other], [own, two], "; extracted by ExifTool"),
-        ):  # fmt: skip
+            ([own, two], [own, two], "; extracted by ExifTool"),
+            ([one, two], [own], "; extracted by ExifTool; extracted by exiv2; no IPTC after"),
+            ([own], [one], "; extracted by exiv2"),
+            ([own, other], [own, other], ""),
+            ([own, other], [own, two], "; extracted by ExifTool"),
+        ):
             result, found, _, _ = self.compared(before, after)
             self.assertEqual("; ".join(["", *found.split("; ")[1:]]) if "; " in found else "", expected, (before, after))
 
     def test_fields_of_several_blocks(self):
         first, second = with_fields(EXIF, "Exif", "a", [make("a"), make("z")]), with_fields(EXIF, "second Exif", "b", [make("b")])
         other = with_fields(EXIF, "second Exif", "c", [make("c"), note("1")])
-        self.assertEqual(self.compared([first, second], [first, other]), (
-            "different", "Exif is different, no IPTC and no XMP",
-            [("second Exif: main:Make", '"b"', '"c"'), ("second Exif: exif:MakerNote", None, "undefined[4] 1")], ["different", "absent", "absent"]))  # fmt: skip
-        self.assertEqual(self.compared([first], [first, second]), (
-            "different", "Exif is different, no IPTC and no XMP; no second Exif before", [("second Exif: main:Make", None, '"b"')],
-            ["different", "absent", "absent"]))  # fmt: skip
-        self.assertEqual(self.compared([first, second], [first])[:3], (
-            "different", "Exif is different, no IPTC and no XMP; no second Exif after", [("second Exif: main:Make", '"b"', None)]))  # fmt: skip
+        self.assertEqual(
+            self.compared([first, second], [first, other]),
+            (
+                "different",
+                "Exif is different, no IPTC and no XMP",
+                [("second Exif: main:Make", '"b"', '"c"'), ("second Exif: exif:MakerNote", None, "undefined[4] 1")],
+                ["different", "absent", "absent"],
+            ),
+        )
+        self.assertEqual(
+            self.compared([first], [first, second]),
+            (
+                "different",
+                "Exif is different, no IPTC and no XMP; no second Exif before",
+                [("second Exif: main:Make", None, '"b"')],
+                ["different", "absent", "absent"],
+            ),
+        )
+        self.assertEqual(
+            self.compared([first, second], [first])[:3],
+            ("different", "Exif is different, no IPTC and no XMP; no second Exif after", [("second Exif: main:Make", '"b"', None)]),
+        )
 
     def test_only_the_maker_note(self):
         """Of Exif alone, and if nothing else differs."""
@@ -299,45 +379,69 @@ class Details(WithPictures):
         second, another = (with_fields(EXIF, "second Exif", text, [note(text)]) for text in "xy")
         only, different = "only MakerNote differs", "different"
         for before, after, expected in (
-            ([one], [two], only), ([one, record], [two, record], only), ([one], [three], different), ([one, record], [two, other], different),
-            ([one], [exif("4", make("a"))], only), ([one, record], [two], different), ([one], [], different), ([exif("5", make("a"))], [exif("6", make("a"))], different),
-            ([one, record], [two, block_of(IPTC, "!DataSetCut")], only), ([one, second], [three, another], different),
-        ):  # fmt: skip
+            ([one], [two], only),
+            ([one, record], [two, record], only),
+            ([one], [three], different),
+            ([one, record], [two, other], different),
+            ([one], [exif("4", make("a"))], only),
+            ([one, record], [two], different),
+            ([one], [], different),
+            ([exif("5", make("a"))], [exif("6", make("a"))], different),
+            ([one, record], [two, block_of(IPTC, "!DataSetCut")], only),
+            ([one, second], [three, another], different),
+        ):
             self.assertEqual(self.compared(before, after)[0], expected, (before, after))
         refused = "Exif is different, IPTC is refused, no XMP; IPTC: before accepted, after DataSetCut at 7"
         self.assertEqual(self.compared([one, record], [two, block_of(IPTC, "!DataSetCut")])[1], refused)
 
     def test_refused_blocks(self):
-        bad, worse, good = block_of(EXIF, "!Overlap"), block_of(EXIF, "!Doubled")._replace(place=None), with_fields(EXIF, "Exif", "a", [make("a")])
+        bad, worse, good = (
+            block_of(EXIF, "!Overlap"),
+            block_of(EXIF, "!Doubled")._replace(place=None),
+            with_fields(EXIF, "Exif", "a", [make("a")]),
+        )
         for before, after, expected in (
             ([bad], [worse], "Exif is refused, no IPTC and no XMP; Exif: before Overlap at 7, after Doubled"),
             ([bad], [bad], "Exif is refused in the same bytes, no IPTC and no XMP; Exif: Overlap at 7"),
             ([good], [bad], "Exif is refused, no IPTC and no XMP; Exif: before accepted, after Overlap at 7"),
-            ([], [bad], "Exif is refused, no IPTC and no XMP; Exif: after Overlap at 7"), ([bad], [], "Exif is refused, no IPTC and no XMP; Exif: before Overlap at 7"),
-        ):  # fmt: skip
+            ([], [bad], "Exif is refused, no IPTC and no XMP; Exif: after Overlap at 7"),
+            ([bad], [], "Exif is refused, no IPTC and no XMP; Exif: before Overlap at 7"),
+        ):
             self.assertEqual(self.compared(before, after)[1], expected)
 
     def test_files_with_a_problem(self):
         none, bad, good = picture("p", problem="NoPicture"), picture("p", problem="Unreadable"), picture("p")
         for before, after, expected in (
-            (none, none, ("not read", "no picture")), (none, bad, ("not read", "before: NoPicture, after: Unreadable")), (good, bad, ("not read", "after: Unreadable")),
-            (bad, good, ("not read", "before: Unreadable")), (bad, bad, ("not read", "Unreadable")),
-        ):  # fmt: skip
+            (none, none, ("not read", "no picture")),
+            (none, bad, ("not read", "before: NoPicture, after: Unreadable")),
+            (good, bad, ("not read", "after: Unreadable")),
+            (bad, good, ("not read", "before: Unreadable")),
+            (bad, bad, ("not read", "Unreadable")),
+        ):
             self.assertEqual(self.compared(before, after), (*expected, [], []))
 
 
 class Reported(WithPictures):
     """A report of two catalogues, as wholes."""
+
     catalogue = Tables.catalogue
     maxDiff = None
 
     def setUp(self):
         super().setUp()
         old = [picture(it) for it in ("b1", "b2", "different", "gone", "moves")]
-        now = [picture("b1", {**BASE, EXIF: "B"}), picture("b2", {**BASE, EXIF: "B"}), picture("different", {**BASE, EXIF: "D", IPTC: "!DataSetCut"}),
-               picture("x/moves", number=int(digest("moves")[:8], 16)), picture("no", problem="NoPicture"), picture("new"),
-               picture("r\udcff", {EXIF: "!Overlap", XMP: "!NoRDF"}, [UNKNOWN, NotRead("a chunk", "3" * 64)]), picture("u", problem="Unreadable"),
-               picture("zero", {}), picture("part", {EXIF: "P"}, [KNOWN])]  # fmt: skip
+        now = [
+            picture("b1", {**BASE, EXIF: "B"}),
+            picture("b2", {**BASE, EXIF: "B"}),
+            picture("different", {**BASE, EXIF: "D", IPTC: "!DataSetCut"}),
+            picture("x/moves", number=int(digest("moves")[:8], 16)),
+            picture("no", problem="NoPicture"),
+            picture("new"),
+            picture("r\udcff", {EXIF: "!Overlap", XMP: "!NoRDF"}, [UNKNOWN, NotRead("a chunk", "3" * 64)]),
+            picture("u", problem="Unreadable"),
+            picture("zero", {}),
+            picture("part", {EXIF: "P"}, [KNOWN]),
+        ]
         made = self.catalogue("now", *now)
         made.set_versions(1, "1.0.0", "12.57", "0.27.6")
         made.end_run(1, "2000-01-01T00:00:09Z")
@@ -359,8 +463,10 @@ class Reported(WithPictures):
         """Their counts, groups, refusals and unread parts alone."""
         about = contents.About(self.about.catalogue, None, {b"/a/b1", b"/a/b2", b"/a/new", b"/a/r\xff", b"/a/no"}, look=False)
         found = contents.gather(about)
-        self.assertEqual((found.total, dict(found.causes), dict(found.parts), found.unread, found.all_groups, found.all_problems, found.since),
-                         (5, {"Overlap": 1, "NoRDF": 1}, {"trailer": 1, "a chunk": 1}, 1, (1, 2), 1, False))  # fmt: skip
+        self.assertEqual(
+            (found.total, dict(found.causes), dict(found.parts), found.unread, found.all_groups, found.all_problems, found.since),
+            (5, {"Overlap": 1, "NoRDF": 1}, {"trailer": 1, "a chunk": 1}, 1, (1, 2), 1, False),
+        )
         kinds = [next(iter(it)) for it in contents.members(about)]
         self.assertEqual(kinds, ["pictures", "same", "refused", "refused", "problem", "not_read"])
         self.assertEqual(next(contents.members(about))["pictures"], 5)
@@ -368,17 +474,25 @@ class Reported(WithPictures):
     def test_the_first_of_each_list(self):
         """Pictures that can't be read come before those that are none."""
         rows = [picture(f"n{it}", problem="NoPicture") for it in range(3)] + [picture(f"u{it}", problem="Unreadable") for it in range(3)]
-        rows += [picture(f"o{it}", {EXIF: "!Overlap"}) for it in range(3)] + [picture(f"g{it}{more}", {EXIF: f"g{it}"}) for it in range(3) for more in "abc"]
+        rows += [picture(f"o{it}", {EXIF: "!Overlap"}) for it in range(3)] + [
+            picture(f"g{it}{more}", {EXIF: f"g{it}"}) for it in range(3) for more in "abc"
+        ]
         old = [picture(f"g{it}{more}", {EXIF: f"old{it}"}) for it in range(3) for more in "abc"]
         limits = {"MOST_CHANGES": 2, "MOST_REFUSED": 2, "MOST_GROUPS": 2, "MOST_OF_GROUP": 2, "MOST_NAMES": 2}
         with mock.patch.multiple(contents, **limits):
             found = contents.gather(contents.About(self.catalogue("many", *rows), self.catalogue("before", *old), look=False))
         self.assertEqual(([it.path for it in found.problems], found.all_problems), ([b"/a/u0", b"/a/u1"], 6))
         self.assertEqual(([it.path for it in found.refused["Overlap"]], dict(found.causes)), ([b"/a/o0", b"/a/o1"], {"Overlap": 3}))
-        self.assertEqual(([it[::2] for it in found.groups], found.all_groups), ([(3, [b"/a/g0a", b"/a/g0b"]), (3, [b"/a/g1a", b"/a/g1b"])], (3, 9)))
-        self.assertEqual(([(it.count, it.names) for it in found.changed], found.all_changed), ([(3, [b"g0a", b"g0b"]), (3, [b"g1a", b"g1b"])], 4))
+        self.assertEqual(
+            ([it[::2] for it in found.groups], found.all_groups), ([(3, [b"/a/g0a", b"/a/g0b"]), (3, [b"/a/g1a", b"/a/g1b"])], (3, 9))
+        )
+        self.assertEqual(
+            ([(it.count, it.names) for it in found.changed], found.all_changed), ([(3, [b"g0a", b"g0b"]), (3, [b"g1a", b"g1b"])], 4)
+        )
         with mock.patch.multiple(contents, **limits):
-            self.assertEqual([it.path for it in contents.gather(contents.About(self.catalogue("few", *rows[:4]))).problems], [b"/a/u0", b"/a/n0"])
+            self.assertEqual(
+                [it.path for it in contents.gather(contents.About(self.catalogue("few", *rows[:4]))).problems], [b"/a/u0", b"/a/n0"]
+            )
 
 
 class File(WithPictures):
@@ -403,7 +517,10 @@ class File(WithPictures):
             self.assertEqual(sorted(os.listdir(self.folder)), sorted(os.path.basename(name) + it for it in ("", "-shm", "-wal")))
         with open(name, "rb") as file:
             head = file.read(100)
-        self.assertEqual((head[18:20], head[60:64], head[68:72], os.listdir(self.folder)), (b"\1\1", VERSION.to_bytes(4, "big"), b"EXNP", [os.path.basename(name)]))
+        self.assertEqual(
+            (head[18:20], head[60:64], head[68:72], os.listdir(self.folder)),
+            (b"\1\1", VERSION.to_bytes(4, "big"), b"EXNP", [os.path.basename(name)]),
+        )
         with Catalogue(name) as made:
             self.assertEqual(self.settings(made)[:4] + self.settings(made)[6:], [0x45584E50, VERSION, 1, "delete", 60_000])
             with self.assertRaisesRegex(NoCatalogue, "attempt to write a readonly database$"):
@@ -477,8 +594,14 @@ class Marks(WithPictures):
         for name in ("size", "modified", "changed", "inode"):
             self.assertFalse(_is_unchanged(FoundFile(b"/a", b"/", marks._replace(**{name: 9})), known), name)
         self.assertTrue(_is_unchanged(FoundFile(b"/a", b"/", marks._replace(device=9)), known), "another mount is no edit")
-        for found, before in ((None, known), (marks, None), (marks, Known(1, None, None)), (marks, Known(1, marks, "Unreadable")),
-                              (marks, Known(1, marks, "Vanished")), (None, Known(1, None, None))):  # fmt: skip
+        for found, before in (
+            (None, known),
+            (marks, None),
+            (marks, Known(1, None, None)),
+            (marks, Known(1, marks, "Unreadable")),
+            (marks, Known(1, marks, "Vanished")),
+            (None, Known(1, None, None)),
+        ):
             self.assertFalse(_is_unchanged(FoundFile(b"/a", b"/", found), before))
         self.assertTrue(_is_unchanged(FoundFile(b"/a", b"/", marks), Known(1, marks, "NoPicture")))
 
@@ -567,10 +690,26 @@ class Statuses(unittest.TestCase):
         """The greatest status of all results; 1 is a difference that is known, and nothing else."""
         from exifnorm_pictures.cli.changed import status_of
 
-        expected = {"same": 0, "refused, the same bytes": 0, "unreadable, the same bytes": 0, "different": 1, "only MakerNote differs": 1,
-               "not read, the same bytes": 0, "not read, different bytes": 1, "different after repair": 1, "the same after repair": 2,
-               "the same but for a MakerNote that moved": 2, "only bytes that a MakerNote can reach differ": 2,
-               "moved": 1, "missing before": 1, "missing after": 1, "refused": 2, "unreadable": 2, "not wholly read": 2, "not read": 2}  # fmt: skip
+        expected = {
+            "same": 0,
+            "refused, the same bytes": 0,
+            "unreadable, the same bytes": 0,
+            "different": 1,
+            "only MakerNote differs": 1,
+            "not read, the same bytes": 0,
+            "not read, different bytes": 1,
+            "different after repair": 1,
+            "the same after repair": 2,
+            "the same but for a MakerNote that moved": 2,
+            "only bytes that a MakerNote can reach differ": 2,
+            "moved": 1,
+            "missing before": 1,
+            "missing after": 1,
+            "refused": 2,
+            "unreadable": 2,
+            "not wholly read": 2,
+            "not read": 2,
+        }
         self.assertEqual(set(expected), set(changed.RESULTS))
         for one, status in expected.items():
             self.assertEqual(status_of(Counter([one])), status, one)

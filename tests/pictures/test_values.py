@@ -35,8 +35,10 @@ class RowsOfCatalogues(WithPictures):
         made = Catalogue(self.path(name), make=True)
         self.addCleanup(made.close)
         block = Block(EXIF, "Exif", "somewhere", "own", "refused", None, "Overlap", 34, 100, "0" * 64)
-        made.put(made.begin_run("2000-01-01T00:00:00Z"),
-                 [PictureRecord(it, b"/", Stamp(1, 2, 3, 4), "JPEG", blocks=(block,), not_read=(NotRead("a part", "1" * 64),)) for it in names])  # fmt: skip
+        made.put(
+            made.begin_run("2000-01-01T00:00:00Z"),
+            [PictureRecord(it, b"/", Stamp(1, 2, 3, 4), "JPEG", blocks=(block,), not_read=(NotRead("a part", "1" * 64),)) for it in names],
+        )
         return made
 
     def test_values_of_another_type(self):
@@ -50,8 +52,13 @@ class RowsOfCatalogues(WithPictures):
 
         self.assertEqual([it.refusal for it in read()], ["Overlap at 34"])
         types = {(table, row[1]): row[2] for table in COLUMNS for row in made.base.execute(f"PRAGMA table_info({table})")}
-        wrong = [(table, column, value) for table, columns in COLUMNS.items() for column in columns.split(", ") if column != "id"
-                 for value in WRONG[types[table, column]]]  # fmt: skip
+        wrong = [
+            (table, column, value)
+            for table, columns in COLUMNS.items()
+            for column in columns.split(", ")
+            if column != "id"
+            for value in WRONG[types[table, column]]
+        ]
         for table, column, value in wrong:
             made.base.execute("BEGIN")
             made.base.execute(f"UPDATE {table} SET {column} = {value}")
@@ -67,7 +74,16 @@ class RowsOfCatalogues(WithPictures):
         sides = [self.catalogue(b"/p", name=name) for name in ("before", "after")]
         text = "CAST('{}' AS BLOB)".format
         good = [text('[["main", "010f", "ASCII", 4, "abc"]]'), text('[["main", "010f", "ASCII", 4, "xyz"]]')]
-        wrong = ("x'0011'", "7", "'text'", text("["), text("[1]"), text('[["main"]]'), text("[" * 100_000), f"x'{zlib.compress(bytes([255])).hex()}'")
+        wrong = (
+            "x'0011'",
+            "7",
+            "'text'",
+            text("["),
+            text("[1]"),
+            text('[["main"]]'),
+            text("[" * 100_000),
+            f"x'{zlib.compress(bytes([255])).hex()}'",
+        )
         for side, fields in [(side, fields) for side in (0, 1) for fields in wrong]:
             for it, digest, value in zip(sides, "ab", good):
                 it.base.execute(f"UPDATE blocks SET status = 'accepted', cause = NULL, place = NULL, digest = '{digest}', fields = {value}")
@@ -88,9 +104,14 @@ class RowsOfCatalogues(WithPictures):
         made.end_run(later, "2001-02-03T04:05:07Z")
         last = made.begin_run("2002-01-01T00:00:00Z")
         made.set_versions(last, "1.0.0", "13.00", None)
-        self.assertEqual(made.runs(), [("2000-01-01T00:00:00Z", None, None, None, None),
-                                       ("2001-02-03T04:05:06Z", "2001-02-03T04:05:07Z", "1.0.0-unproved", "12.57", "0.27.6"),
-                                       ("2002-01-01T00:00:00Z", None, "1.0.0", "13.00", None)])  # fmt: skip
+        self.assertEqual(
+            made.runs(),
+            [
+                ("2000-01-01T00:00:00Z", None, None, None, None),
+                ("2001-02-03T04:05:06Z", "2001-02-03T04:05:07Z", "1.0.0-unproved", "12.57", "0.27.6"),
+                ("2002-01-01T00:00:00Z", None, "1.0.0", "13.00", None),
+            ],
+        )
 
     def test_a_copy_that_cannot_be_made(self):
         made = self.catalogue()
@@ -110,11 +131,13 @@ class SingleBlocks(unittest.TestCase):
     def test_lines_about_one(self):
         """The last column is as `exifnorm check` prints it (docs/FORMAT.md, section 8). A byte offset may be 0."""
         for status, cause, place, refusal, line in (
-            ("accepted", None, None, "None", "ok exif"), ("refused", "Overlap", 34, "Overlap at 34", "refused: Overlap at 34"),
-            ("refused", "UnknownKind", 0, "UnknownKind at 0", "refused: UnknownKind at 0"), ("unreadable", "NoRDF", None, "NoRDF", "unreadable: NoRDF"),
+            ("accepted", None, None, "None", "ok exif"),
+            ("refused", "Overlap", 34, "Overlap at 34", "refused: Overlap at 34"),
+            ("refused", "UnknownKind", 0, "UnknownKind at 0", "refused: UnknownKind at 0"),
+            ("unreadable", "NoRDF", None, "NoRDF", "unreadable: NoRDF"),
             ("too long", "NormalTooLong", None, "NormalTooLong", "refused: NormalTooLong"),
             ("failed", "OutOfMemory", None, "OutOfMemory", "failed: OutOfMemory"),
-        ):  # fmt: skip
+        ):
             it = Block(EXIF, "Exif", "somewhere", "own", status, None, cause, place, 9, "0" * 64)
             self.assertEqual((it.refusal, it.line), (refusal, line))
 
@@ -122,20 +145,28 @@ class SingleBlocks(unittest.TestCase):
         some = found_.Blocks()
         for kind, data, part in ((EXIF, b"1", ""), (found_.XMP, b"2", ""), (EXIF, b"3", ""), (EXIF, b"4", "page 2")):
             some.add(kind, data, "somewhere", part)
-        self.assertEqual([[it.data for it in some.of_kind(kind)] for kind in (EXIF, found_.IPTC, found_.XMP)], [[b"1", b"3", b"4"], [], [b"2"]])
+        self.assertEqual(
+            [[it.data for it in some.of_kind(kind)] for kind in (EXIF, found_.IPTC, found_.XMP)], [[b"1", b"3", b"4"], [], [b"2"]]
+        )
 
     def test_extensions_of_packets(self):
         """The first one of a name is read with its packet, which has the MD5 of its bytes; each further one in other bytes is reported."""
         more, plain = xmp("<dc:title>two</dc:title>"), xmp("<dc:format>one</dc:format>")
         name = hashlib.md5(more).hexdigest().upper()
         asking = xmp("<dc:format>one</dc:format>", f"note:HasExtendedXMP='{name}'")
-        read, damaged, missing = (("XMP", "accepted", None), *(("XMP", "unreadable", it) for it in ("ExtensionDamaged", "ExtensionMissing")))
+        read, damaged, missing = (
+            ("XMP", "accepted", None),
+            *(("XMP", "unreadable", it) for it in ("ExtensionDamaged", "ExtensionMissing")),
+        )
         first, second = (f"{it}extended XMP" for it in ("", "second "))
         for packet, pieces, expected in (
-            (asking, [more], [read]), (asking, [more, more], [read]), (asking, [more, b"other"], [read, (second, "unreadable", "ExtensionNotNamed")]),
-            (asking, [b"other", more], [damaged, (second, "unreadable", "ExtensionNotNamed")]), (asking, [], [missing]),
+            (asking, [more], [read]),
+            (asking, [more, more], [read]),
+            (asking, [more, b"other"], [read, (second, "unreadable", "ExtensionNotNamed")]),
+            (asking, [b"other", more], [damaged, (second, "unreadable", "ExtensionNotNamed")]),
+            (asking, [], [missing]),
             (plain, [more], [read, (first, "unreadable", "ExtensionNotNamed")]),
-        ):  # fmt: skip
+        ):
             some = found_.Blocks()
             some.add(found_.XMP, packet, "somewhere")
             some.found += [found_.FoundBlock(found_.XMP, data, it, "somewhere", extends=name) for it, data in zip((first, second), pieces)]
@@ -240,8 +271,10 @@ class Closed(WithPictures):
 class Languages(unittest.TestCase):
     def test_of_packets_that_rdflib_reads(self):
         """Upper and lower case mean the same (RFC 5646, 2.1.1), and languages differ."""
-        packets = [xmp(f"<xmp:d rdf:datatype='http://t/'>1</xmp:d><dc:format{it}>one</dc:format>").decode()
-                   for it in (" xml:lang='en-GB'", " xml:lang='EN-gb'", " xml:lang='en-gb'", " xml:lang='en'", "")]  # fmt: skip
+        packets = [
+            xmp(f"<xmp:d rdf:datatype='http://t/'>1</xmp:d><dc:format{it}>one</dc:format>").decode()
+            for it in (" xml:lang='en-GB'", " xml:lang='EN-gb'", " xml:lang='en-gb'", " xml:lang='en'", "")
+        ]
         call = "import sys; from test_xmp import said; print(*[said(it.encode()) for it in sys.argv[1:]])"
         environment = {**os.environ, "PYTHONPATH": TESTS_PATH}
         done = subprocess.run([interpreter_with("rdflib"), "-c", call, *packets], capture_output=True, env=environment)

@@ -81,7 +81,9 @@ class Written(WithPictures):
             with self.system(nameless, links) as found:
                 atomic.copy_new(self.source, self.out, os.stat(self.source))
             now = os.stat(self.out)
-            self.assertEqual((found, read(self.out), stat.S_IMODE(now.st_mode), now.st_mtime, self.files()), (steps, NEW, 0o640, 30, ["out", "source"]))
+            self.assertEqual(
+                (found, read(self.out), stat.S_IMODE(now.st_mode), now.st_mtime, self.files()), (steps, NEW, 0o640, 30, ["out", "source"])
+            )
             os.remove(self.out)
 
     def test_a_file_in_the_way_of_a_copy(self):
@@ -102,7 +104,9 @@ class Written(WithPictures):
                     write(self.out, earlier)
                 with self.system(nameless, links) as found:
                     self.replace()
-                self.assertEqual((found, read(self.out), stat.S_IMODE(os.stat(self.out).st_mode), self.files()), (steps, NEW, 0o640, ["out", "source"]))
+                self.assertEqual(
+                    (found, read(self.out), stat.S_IMODE(os.stat(self.out).st_mode), self.files()), (steps, NEW, 0o640, ["out", "source"])
+                )
                 os.remove(self.out)
 
     def test_failures(self):

@@ -47,13 +47,22 @@ class Packets(unittest.TestCase):
         bare = f"<rdf:RDF {SPACES}><rdf:Description><dc:format>one</dc:format></rdf:Description></rdf:RDF>"
         other_prefix = bare.replace("dc:", "q:").replace(":dc=", ":q=")
         for packet in (
-            base + b"   \n" * 500 + b"\0", xmp("", "dc:format='one'"), xmp("<dc:format>one</dc:format>", outer="x:xmptk='XMP Core 6'"),
-            xmp("\n  <!-- a comment --><dc:format>one</dc:format>\n"), xmp("<dc:format>one</dc:format><dc:format>one</dc:format>"),
-            bare.encode(), other_prefix.encode(), bare.replace("Description>", "Description rdf:about='uuid:1'>", 1).encode(),
-            bare.encode("utf-16"), bare.encode("utf-16-be"), bare.encode("utf-32"), b"\xef\xbb\xbf" + bare.encode(),
-            b"<?xml version='1.0' encoding='UTF-8'?>" + bare.encode(), b"<?xml\nversion='1.0'\tencoding='utf-8' ?>\n" + bare.encode(),
+            base + b"   \n" * 500 + b"\0",
+            xmp("", "dc:format='one'"),
+            xmp("<dc:format>one</dc:format>", outer="x:xmptk='XMP Core 6'"),
+            xmp("\n  <!-- a comment --><dc:format>one</dc:format>\n"),
+            xmp("<dc:format>one</dc:format><dc:format>one</dc:format>"),
+            bare.encode(),
+            other_prefix.encode(),
+            bare.replace("Description>", "Description rdf:about='uuid:1'>", 1).encode(),
+            bare.encode("utf-16"),
+            bare.encode("utf-16-be"),
+            bare.encode("utf-32"),
+            b"\xef\xbb\xbf" + bare.encode(),
+            b"<?xml version='1.0' encoding='UTF-8'?>" + bare.encode(),
+            b"<?xml\nversion='1.0'\tencoding='utf-8' ?>\n" + bare.encode(),
             b"<?xml\tversion='1.0' encoding='UTF-16'?>".decode().encode("utf-16") + bare.encode("utf-16-le"),
-        ):  # fmt: skip
+        ):
             self.assertEqual(said(packet), said(base), packet)
         self.assertEqual(said(array("Bag", "a", "b", "b")), said(array("Bag", "b", "a", "b")))
         spelled = [xmp(f"<dc:format xml:lang='{it}'>one</dc:format>") for it in ("en-gb", "en-GB", "EN-GB")]  # RFC 5646, 2.1.1
@@ -67,40 +76,87 @@ class Packets(unittest.TestCase):
         """Several descriptions in a packet are of the same picture, named or not (XMP part 1, 7.4); with two names they are of two."""
         both = said(xmp("<dc:title>two</dc:title><dc:format>one</dc:format>"))
         none, one, other = " rdf:about=''", " rdf:about='u:1'", " rdf:about='u:2'"
-        for first, second, expected in ((one, "", both), ("", one, both), (none, one, both), (one, one, both), ("", "", both), (one, other, None)):
-            packet = (f"<rdf:RDF {SPACES}><rdf:Description{first}><dc:format>one</dc:format></rdf:Description>"
-                      f"<rdf:Description{second}><dc:title>two</dc:title></rdf:Description></rdf:RDF>").encode()  # fmt: skip
+        for first, second, expected in (
+            (one, "", both),
+            ("", one, both),
+            (none, one, both),
+            (one, one, both),
+            ("", "", both),
+            (one, other, None),
+        ):
+            packet = (
+                f"<rdf:RDF {SPACES}><rdf:Description{first}><dc:format>one</dc:format></rdf:Description>"
+                f"<rdf:Description{second}><dc:title>two</dc:title></rdf:Description></rdf:RDF>"
+            ).encode()
             self.assertEqual((cause(packet), expected and said(packet)), (None, expected) if expected else ("SeveralSubjects", None))
 
     def test_what_means_something(self):
         packets_ = [
-            title("one"), title("One"), title(" one"), xmp("<dc:title>one</dc:title>"), xmp("<xmp:format>one</xmp:format>"),
-            xmp("<dc:format xml:lang='en'>one</dc:format>"), xmp("<dc:format rdf:resource='http://one/'/>"), xmp(""),
-            xmp("<dc:format>one</dc:format><dc:format>two</dc:format>"), xmp("<dc:format>one</dc:format>", "xmp:ModifyDate='2026'"),
-            array("Bag", "a", "b"), array("Bag", "a", "b", "b"), array("Seq", "a", "b"), array("Seq", "b", "a"), array("Alt", "a", "b"),
-            xmp("<xmp:s xmp:a='1' xmp:b='2'/>"), xmp("<xmp:s xmp:a='12'/>"), xmp("<xmp:s xmp:a='1'/><xmp:s xmp:b='2'/>"),
-            xmp("<xmp:s xmp:a='1'/><xmp:s xmp:a='1'/>"), xmp("<xmp:s xmp:a='1'/>"),
+            title("one"),
+            title("One"),
+            title(" one"),
+            xmp("<dc:title>one</dc:title>"),
+            xmp("<xmp:format>one</xmp:format>"),
+            xmp("<dc:format xml:lang='en'>one</dc:format>"),
+            xmp("<dc:format rdf:resource='http://one/'/>"),
+            xmp(""),
+            xmp("<dc:format>one</dc:format><dc:format>two</dc:format>"),
+            xmp("<dc:format>one</dc:format>", "xmp:ModifyDate='2026'"),
+            array("Bag", "a", "b"),
+            array("Bag", "a", "b", "b"),
+            array("Seq", "a", "b"),
+            array("Seq", "b", "a"),
+            array("Alt", "a", "b"),
+            xmp("<xmp:s xmp:a='1' xmp:b='2'/>"),
+            xmp("<xmp:s xmp:a='12'/>"),
+            xmp("<xmp:s xmp:a='1'/><xmp:s xmp:b='2'/>"),
+            xmp("<xmp:s xmp:a='1'/><xmp:s xmp:a='1'/>"),
+            xmp("<xmp:s xmp:a='1'/>"),
             xmp("<dc:title rdf:parseType='Resource'><rdf:value>one</rdf:value><xmp:q>1</xmp:q></dc:title>"),
             xmp("<dc:title rdf:parseType='Resource'><rdf:value>one</rdf:value><xmp:q>2</xmp:q></dc:title>"),
-        ]  # fmt: skip
+        ]
         self.assertEqual(len({said(it) for it in packets_}), len(packets_))
 
     def test_rare_forms_are_left_to_rdflib(self):
         from exifnorm_pictures.xmp import packets as rdf, reader
 
         for inside in (
-            "<xmp:d><rdf:Description rdf:about='http://x/' xmp:a='7'/></xmp:d>", "<xmp:d><rdf:Description rdf:about='' xmp:a='7'/></xmp:d>",
-            "<xmp:d rdf:parseType='Literal'>1</xmp:d>", "<xmp:d rdf:nodeID='n'/>", "<xmp:d rdf:datatype='http://t/'>1</xmp:d>", "text",
-            "<xmp:d rdf:resource='relative'/>", "<xmp:d><rdf:Description/>text</xmp:d>", "<xmp:d xml:lang='!'>1</xmp:d>",
-            *(f"<xmp:d rdf:resource='{it}'/>" for it in ("http://x/ y", "http://x/&lt;y&gt;", "http://x/\\", "http://x/^", "1:x", "-a:x", ":x", "a_b:x", "")),
-            *(f"<xmp:d xml:lang='{it}'>1</xmp:d>" for it in ("en_US", "123", "abcdefghi", "en-", "-en", "en--us", "en-abcdefghi", "d\u00e9")),
-            *(f"<xmp:d rdf:{it} xmp:a='1'/>" for it in ("ID='i'", "nodeID='n'", "type='http://t/'", "resource='http://x/'", "parseType='Resource'")),
-            "<rdf:_1>1</rdf:_1>", "<q:d xmlns:q='http://x/ y'>1</q:d>", "<q:d xmlns:q='http://x/^'>1</q:d>", "<d>1</d>",
-            "<dc:format>one</dc:format>text", "<xmp:d><rdf:Bag><rdf:li>1</rdf:li>text</rdf:Bag></xmp:d>",
-        ):  # fmt: skip
+            "<xmp:d><rdf:Description rdf:about='http://x/' xmp:a='7'/></xmp:d>",
+            "<xmp:d><rdf:Description rdf:about='' xmp:a='7'/></xmp:d>",
+            "<xmp:d rdf:parseType='Literal'>1</xmp:d>",
+            "<xmp:d rdf:nodeID='n'/>",
+            "<xmp:d rdf:datatype='http://t/'>1</xmp:d>",
+            "text",
+            "<xmp:d rdf:resource='relative'/>",
+            "<xmp:d><rdf:Description/>text</xmp:d>",
+            "<xmp:d xml:lang='!'>1</xmp:d>",
+            *(
+                f"<xmp:d rdf:resource='{it}'/>"
+                for it in ("http://x/ y", "http://x/&lt;y&gt;", "http://x/\\", "http://x/^", "1:x", "-a:x", ":x", "a_b:x", "")
+            ),
+            *(
+                f"<xmp:d xml:lang='{it}'>1</xmp:d>"
+                for it in ("en_US", "123", "abcdefghi", "en-", "-en", "en--us", "en-abcdefghi", "d\u00e9")
+            ),
+            *(
+                f"<xmp:d rdf:{it} xmp:a='1'/>"
+                for it in ("ID='i'", "nodeID='n'", "type='http://t/'", "resource='http://x/'", "parseType='Resource'")
+            ),
+            "<rdf:_1>1</rdf:_1>",
+            "<q:d xmlns:q='http://x/ y'>1</q:d>",
+            "<q:d xmlns:q='http://x/^'>1</q:d>",
+            "<d>1</d>",
+            "<dc:format>one</dc:format>text",
+            "<xmp:d><rdf:Bag><rdf:li>1</rdf:li>text</rdf:Bag></xmp:d>",
+        ):
             with self.assertRaises(reader.Unusual, msg=inside):
                 reader.statements(rdf.rdf_of(xmp(inside)))
-        for attribute, inside in (("xml:base='http://b/'", "<rdf:Description/>"), ("", "text<rdf:Description/>"), ("", "<rdf:Description/>text"), ("", "<dc:a/>")):
+        for attribute, inside in (
+            ("xml:base='http://b/'", "<rdf:Description/>"),
+            ("", "text<rdf:Description/>"),
+            ("", "<rdf:Description/>text"),
+            ("", "<dc:a/>"),
+        ):
             with self.assertRaises(reader.Unusual, msg=(attribute, inside)):
                 reader.statements(rdf.rdf_of(f"<rdf:RDF {SPACES} {attribute}>{inside}</rdf:RDF>".encode()))
 
@@ -153,7 +209,9 @@ class Packets(unittest.TestCase):
 
         rdf, dc = "http://www.w3.org/1999/02/22-rdf-syntax-ns#", "http://purl.org/dc/elements/1.1/"
         bag = digest(line(f"{rdf}type", f"<{rdf}Bag"), line("member", '"0:0:a'), line("member", '"2:de0:b'))
-        packet = xmp("<dc:format>one</dc:format><dc:subject><rdf:Bag><rdf:li>a</rdf:li><rdf:li xml:lang='de'>b</rdf:li></rdf:Bag></dc:subject>")
+        packet = xmp(
+            "<dc:format>one</dc:format><dc:subject><rdf:Bag><rdf:li>a</rdf:li><rdf:li xml:lang='de'>b</rdf:li></rdf:Bag></dc:subject>"
+        )
         self.assertEqual(said(packet), digest(line(f"{dc}format", '"0:0:one'), line(f"{dc}subject", f"_{bag}")))
 
     def test_extended(self):
@@ -162,7 +220,9 @@ class Packets(unittest.TestCase):
         asking = xmp("<dc:format>one</dc:format>", f"note:HasExtendedXMP='{name}'")
         both = xmp("<dc:title>two</dc:title><dc:format>one</dc:format>")
         self.assertEqual(said(asking, {name: more}), said(both))
-        self.assertEqual(said(asking.replace(name.encode(), name.lower().encode()), {name: more}), said(both))  # RFC 4648, 8: in letters of either kind
+        self.assertEqual(
+            said(asking.replace(name.encode(), name.lower().encode()), {name: more}), said(both)
+        )  # RFC 4648, 8: in letters of either kind
         self.assertEqual(cause(asking), "ExtensionMissing")
         self.assertEqual(cause(asking, {name: more + b" "}), "ExtensionDamaged")
 
@@ -184,7 +244,7 @@ class Packets(unittest.TestCase):
         self.assertLess(len(long[0]), 200)
         control = fields(title("a&#10;b\u202e"))[0].shown
         self.assertEqual(control, '"a\\nb\\u202e"')
-        quoted = fields(title("one\", \"two"))[0].shown
+        quoted = fields(title('one", "two'))[0].shown
         self.assertEqual(quoted, '"one\\", \\"two"')
         doubled = [fields(xmp(f"<dc:format>{one_}</dc:format><dc:format>{other_}</dc:format>")) for one_, other_ in ("ab", "ba")]
         self.assertNotEqual(doubled[0], doubled[1])  # XMP allows a property once; of several, readers take the first or the last
@@ -201,13 +261,20 @@ class Harm(unittest.TestCase):
         bare = f"<rdf:RDF {SPACES}><rdf:Description><dc:format>&a;</dc:format></rdf:Description></rdf:RDF>"
         deep = "<xmp:a rdf:parseType='Resource'>" * 200 + "</xmp:a>" * 200
         expected = {
-            entities + bare: "DocumentType", file_ + bare: "DocumentType", bare: "NotWellFormed", "<x:y": "NotWellFormed", "": "NotWellFormed",
-            "<a/>": "NoRDF", f"<x:xmpmeta xmlns:x='adobe:ns:meta/'><rdf:RDF {SPACES}/><rdf:RDF {SPACES}/></x:xmpmeta>": "NoRDF",
-            xmp(deep).decode(): "TooDeep", "<a>" * 500_001: "TooLong", " " * (16 << 20) + "<a/>": "TooLong",
+            entities + bare: "DocumentType",
+            file_ + bare: "DocumentType",
+            bare: "NotWellFormed",
+            "<x:y": "NotWellFormed",
+            "": "NotWellFormed",
+            "<a/>": "NoRDF",
+            f"<x:xmpmeta xmlns:x='adobe:ns:meta/'><rdf:RDF {SPACES}/><rdf:RDF {SPACES}/></x:xmpmeta>": "NoRDF",
+            xmp(deep).decode(): "TooDeep",
+            "<a>" * 500_001: "TooLong",
+            " " * (16 << 20) + "<a/>": "TooLong",
             "<?xml version='1.0' encoding='cp037'?>" + bare: "NotText",
             "<?xml\nversion='1.0' encoding='cp037'?>" + bare: "NotText",
             f"<rdf:RDF {SPACES}><rdf:Description rdf:about='a:1'/><rdf:Description rdf:about='a:2'/></rdf:RDF>": "SeveralSubjects",
-        }  # fmt: skip
+        }
         for packet, why in expected.items():
             self.assertEqual(cause(packet.encode()), why, packet[:100])
         self.assertEqual(cause(b"<a>\xff</a>"), "NotText")

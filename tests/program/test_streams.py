@@ -92,9 +92,22 @@ def test_links(program, folder, checks):
 
 
 ENDS = {
-    "check one": 0, "show one": 0, "captions one": 0, "normalise one OUT": 0, "compare one one": 0, "check loop": 2, "compare loop one": 2,
-    "check absent": 4, "normalise absent OUT": 4, "normalise one one": 3, "check": 3, "chek": 3, "-": 3, "--help": 0, "--version": 0,
-}  # fmt: skip
+    "check one": 0,
+    "show one": 0,
+    "captions one": 0,
+    "normalise one OUT": 0,
+    "compare one one": 0,
+    "check loop": 2,
+    "compare loop one": 2,
+    "check absent": 4,
+    "normalise absent OUT": 4,
+    "normalise one one": 3,
+    "check": 3,
+    "chek": 3,
+    "-": 3,
+    "--help": 0,
+    "--version": 0,
+}
 
 
 @pytest.mark.timeout(60)

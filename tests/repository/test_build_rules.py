@@ -40,8 +40,18 @@ def store_of(room: Room, version: str = "toolchain 1") -> Store:
 
 
 # Every kind of source, and a change of each; what names no crate is of all crates.
-SOURCES = [f"crates/CRATE/{it}" for it in ("src/lib.rt", "src/further.rt", "specs/Words.antt", "specs/calls/Words.antt",
-    "specs/lemmas/Laws.antt", "proofs/Answers.antt", "proofs/lists/Listed.antt")]
+SOURCES = [
+    f"crates/CRATE/{it}"
+    for it in (
+        "src/lib.rt",
+        "src/further.rt",
+        "specs/Words.antt",
+        "specs/calls/Words.antt",
+        "specs/lemmas/Laws.antt",
+        "proofs/Answers.antt",
+        "proofs/lists/Listed.antt",
+    )
+]
 CHANGES = {
     "edited": lambda it: it.write_text("two"),
     "edited, with its time put back": lambda it: [it.write_text("two"), os.utime(it, (10**9, 10**9))],
@@ -104,8 +114,12 @@ def test_whatever_a_crate_is_made_from_is_in_the_sum(room):
 def test_whatever_the_list_of_crates_says_is_in_the_sum(room):
     room = levels(room)
     assert room.prove("px_high").returncode == 0, room.log()
-    for old, new in (("px_low: byteorder", "px_low: byteorder hex"), ("px_high staticlib:", "px_high:"),
-            ("px_middle: px_low", "px_middle: px_low hex"), ("px_high staticlib: px_middle", "px_high staticlib: px_middle px_low")):
+    for old, new in (
+        ("px_low: byteorder", "px_low: byteorder hex"),
+        ("px_high staticlib:", "px_high:"),
+        ("px_middle: px_low", "px_middle: px_low hex"),
+        ("px_high staticlib: px_middle", "px_high staticlib: px_middle px_low"),
+    ):
         (room.top / "crates.txt").write_text(LEVELS.replace(old, new))
         assert not store_of(room).is_current("px_high"), new
     (room.top / "crates.txt").write_text(LEVELS.replace("px_aside: px_low", "px_aside:") + "# a comment\n")
@@ -121,8 +135,12 @@ def test_a_crate_is_good_over_the_very_libraries_that_it_was_built_over(room):
     room = levels(room)
     room.prove("px_high")
     folder = room.top / "out/proved"
-    for name, unbuilt in (("libpx_high.a", ["px_high"]), ("px_low.made-from", ["px_low", "px_middle", "px_high"]),
-            ("px_middle.made-from", ["px_middle", "px_high"]), ("px_high.made-from", ["px_high"])):
+    for name, unbuilt in (
+        ("libpx_high.a", ["px_high"]),
+        ("px_low.made-from", ["px_low", "px_middle", "px_high"]),
+        ("px_middle.made-from", ["px_middle", "px_high"]),
+        ("px_high.made-from", ["px_high"]),
+    ):
         away = room.folder / "away"
         os.rename(folder / name, away)
         assert store_of(room).unbuilt("px_high") == unbuilt, (name, store_of(room).unbuilt("px_high"))
@@ -246,41 +264,50 @@ def library_of(room: Room) -> Path:
 def test_nothing_counts_as_just_proved_over_a_library_of_another_run(room):
     room = levels(room)
     library = library_of(room)
-    see_nothing_counts(room, {
-        "a library of before": lambda: os.utime(library, (10**9, 10**9)),
-        "a library with a folder of before": lambda: [(library / "old").mkdir(), os.utime(library / "old", (10**9, 10**9))],
-        "a library with files of before": lambda: add_to_an_old_library(room, library),
-        "a library without files": lambda: [(library / it).unlink() for it in ("checked", "kept")],
-        "a library of another command": lambda: (library.parent / "stamp").touch(),
-    })  # fmt: skip
+    see_nothing_counts(
+        room,
+        {
+            "a library of before": lambda: os.utime(library, (10**9, 10**9)),
+            "a library with a folder of before": lambda: [(library / "old").mkdir(), os.utime(library / "old", (10**9, 10**9))],
+            "a library with files of before": lambda: add_to_an_old_library(room, library),
+            "a library without files": lambda: [(library / it).unlink() for it in ("checked", "kept")],
+            "a library of another command": lambda: (library.parent / "stamp").touch(),
+        },
+    )
 
 
 def test_nothing_counts_as_just_proved_by_the_mark_of_another_run(room):
     room = levels(room)
     ahead = room.rt.stat().st_mtime + 86_400
-    see_nothing_counts(room, {
-        "no mark": lambda: room.mark.unlink(),
-        "a mark without sums": lambda: room.mark.write_text(""),
-        "a mark of fewer crates": lambda: room.mark.write_text(room.mark.read_text().rpartition("px_aside")[0]),
-        "an edit after the clock was set back": lambda: [
-            (room.top / "crates/px_low/src/lib.rt").write_text("two"),
-            *(os.utime(it, (ahead, ahead)) for it in (room.mark, *room.top.glob("crates/*/out/rlib/*/checked"))),
-        ],
-    })  # fmt: skip
+    see_nothing_counts(
+        room,
+        {
+            "no mark": lambda: room.mark.unlink(),
+            "a mark without sums": lambda: room.mark.write_text(""),
+            "a mark of fewer crates": lambda: room.mark.write_text(room.mark.read_text().rpartition("px_aside")[0]),
+            "an edit after the clock was set back": lambda: [
+                (room.top / "crates/px_low/src/lib.rt").write_text("two"),
+                *(os.utime(it, (ahead, ahead)) for it in (room.mark, *room.top.glob("crates/*/out/rlib/*/checked"))),
+            ],
+        },
+    )
 
 
 def test_nothing_counts_as_just_proved_with_what_was_touched_since(room):
     room = levels(room)
-    see_nothing_counts(room, {
-        "a list of crates that was touched": lambda: (room.top / "crates.txt").touch(),
-        "another toolchain": lambda: (room.folder / "version").write_text("toolchain 2\n"),
-        "another command": lambda: room.rt.touch(),
-        "other scripts": lambda: (room.top / "build/verdict.py").write_text((room.top / "build/verdict.py").read_text() + "# more\n"),
-        "an edit that was taken back, with the time of the file": lambda: [
-            *((room.top / "crates/px_low/src/lib.rt").write_text(it) for it in ("two", "one")),
-            os.utime(room.top / "crates/px_low/src/lib.rt", (10**9, 10**9)),
-        ],
-    })  # fmt: skip
+    see_nothing_counts(
+        room,
+        {
+            "a list of crates that was touched": lambda: (room.top / "crates.txt").touch(),
+            "another toolchain": lambda: (room.folder / "version").write_text("toolchain 2\n"),
+            "another command": lambda: room.rt.touch(),
+            "other scripts": lambda: (room.top / "build/verdict.py").write_text((room.top / "build/verdict.py").read_text() + "# more\n"),
+            "an edit that was taken back, with the time of the file": lambda: [
+                *((room.top / "crates/px_low/src/lib.rt").write_text(it) for it in ("two", "one")),
+                os.utime(room.top / "crates/px_low/src/lib.rt", (10**9, 10**9)),
+            ],
+        },
+    )
 
 
 def test_no_program_is_taken_that_is_not_of_the_last_proof(room):
@@ -320,8 +347,17 @@ def test_how_many_are_proved_at_once(room):
     assert machine.processors() <= (os.cpu_count() or 1), "more processors than there are"
     were = machine.processors, machine.free_memory
     try:
-        for processors, gigabytes, expected in ((1, 64, 1), (2, 64, 2), (3, 64, 3), (64, 64, 3), (4, 0, 1), (4, 3, 1), (4, 5, 1), (4, 6, 2),
-                (4, 9, 3)):
+        for processors, gigabytes, expected in (
+            (1, 64, 1),
+            (2, 64, 2),
+            (3, 64, 3),
+            (64, 64, 3),
+            (4, 0, 1),
+            (4, 3, 1),
+            (4, 5, 1),
+            (4, 6, 2),
+            (4, 9, 3),
+        ):
             machine.processors, machine.free_memory = lambda: processors, lambda: gigabytes << 30
             assert prove.places() == expected, (processors, gigabytes, prove.places())
     finally:
@@ -475,7 +511,7 @@ def test_one_build_at_a_time(room):
     room.hold("px_bytes")
     said = [room.folder / f"said {it}" for it in range(5)]
     started = [room.start(str(i), stderr=open(it, "w", encoding="utf-8")) for i, it in enumerate(said)]
-    waiting = lambda: sum("waiting for it" in it.read_text() for it in said)  # noqa: E731
+    waiting = lambda: sum("waiting for it" in it.read_text() for it in said)
     wait_until(lambda: waiting() == 4 or len(room.log()) > 1, "four of five wait")
     assert len(room.log()) == 1, room.log()
     room.let_go("px_bytes")

@@ -354,8 +354,14 @@ def test_a_manual_page_has_no_mistake_of_roff(page: Path) -> None:
         if not shutil.which(words[0]):
             pytest.skip(f"{words[0]} is not installed")
         environment = {**os.environ, "LC_ALL": "C.UTF-8", "MANPAGER": "cat"}
-        ran = subprocess.run([*words, page], env=environment, stdout=subprocess.DEVNULL if words[0] == "man" else subprocess.PIPE,
-                             stderr=subprocess.PIPE, text=True, check=False)  # fmt: skip
+        ran = subprocess.run(
+            [*words, page],
+            env=environment,
+            stdout=subprocess.DEVNULL if words[0] == "man" else subprocess.PIPE,
+            stderr=subprocess.PIPE,
+            text=True,
+            check=False,
+        )
         assert (ran.stdout or "", ran.stderr) == ("", "")
 
 

@@ -267,5 +267,7 @@ def test_what_the_gate_refuses_is_not_built(user, gate):
 def build_both(folder: Path) -> tuple[FromNothing, Gate]:
     """Makes and builds both repositories at once."""
     with ThreadPoolExecutor(2) as pool:
-        user, gate = (pool.submit(lambda kind=kind, name=name: kind(folder / name).build()) for kind, name in ((FromNothing, "user"), (Gate, "gate")))
+        user, gate = (
+            pool.submit(lambda kind=kind, name=name: kind(folder / name).build()) for kind, name in ((FromNothing, "user"), (Gate, "gate"))
+        )
         return user.result(), gate.result()

@@ -257,8 +257,14 @@ class TestLibraries:
         assert run("./a.out", folder=self.work, LD_LIBRARY_PATH=str(usr.at("lib"))) == "same\n"
 
     def test_config_moves_with_its_prefix(self, other: Tree) -> None:
-        moved = run("pkg-config", "--define-variable=prefix=/moved", "--cflags", "--libs-only-L", "exifnorm",
-                    PKG_CONFIG_LIBDIR=str(other.at("lib/pkgconfig")))  # fmt: skip
+        moved = run(
+            "pkg-config",
+            "--define-variable=prefix=/moved",
+            "--cflags",
+            "--libs-only-L",
+            "exifnorm",
+            PKG_CONFIG_LIBDIR=str(other.at("lib/pkgconfig")),
+        )
         assert moved.split() == ["-I/moved/include", "-L/moved/lib"]
 
     def test_example_links_the_shared_library(self, usr: Tree, other: Tree) -> None:

@@ -37,10 +37,13 @@ def test_the_first_call_builds_each_crate_once_and_runs(room):
     assert sorted(room.built()) == ["px_bytes", "px_cli", "px_field", "px_iim"], room.log()
     assert room.built()[0] == "px_bytes", room.log()
     assert room.built()[-1] == "px_cli", room.log()
-    assert (
-ran.stderr.splitlines() == [FIRST, *(f"exifnorm: proving {it} left)" for it in (
-        "px_bytes (1 of 4, 3", "px_field (2 of 4, 2", "px_iim (3 of 4, 1", "px_cli (4 of 4, 0"))]
-)  # fmt: skip
+    assert ran.stderr.splitlines() == [
+        FIRST,
+        *(
+            f"exifnorm: proving {it} left)"
+            for it in ("px_bytes (1 of 4, 3", "px_field (2 of 4, 2", "px_iim (3 of 4, 1", "px_cli (4 of 4, 0")
+        ),
+    ]
     assert not (room.top / "out/proved/making").exists(), "what was made aside is left behind"
 
 
@@ -285,12 +288,18 @@ NOT_PROVED = {
     " logic=proved functions=1 sum=1f\n": "the compiler gave 0 verdicts",
     "logic=proved functions=1 sum=1f\nlogic=failed functions=1 sum=1f\n": "the compiler gave 2 verdicts",
     "logic=failed functions=1 sum=1f\nlogic=proved functions=1 sum=1f\n": "the compiler gave 2 verdicts",
-    **{f"logic=proved functions=1 {it} sum=1f\n": f"the verdict has {it}" for it in
-        "may-wait=1 may-abort=1 may-serve=2 partial=1 hides=1 bugs=1 main=Wait foreign=px_iim::c batches=trusted newer-word=3".split()},
-    **{f"logic=proved functions=1 sum=1f native=nat {it}\n": f"the verdict has {it}" for it in
-        "cache=trusted incremental=trusted crate-checked=trusted pinned=no".split()},
-    **{f"{it}\nlogic=proved functions=1 sum=1f\n": it for it in ("warning: no call of `px_iim::never` can meet its contract",
-        "note: the search for empty contracts did not end")},
+    **{
+        f"logic=proved functions=1 {it} sum=1f\n": f"the verdict has {it}"
+        for it in "may-wait=1 may-abort=1 may-serve=2 partial=1 hides=1 bugs=1 main=Wait foreign=px_iim::c batches=trusted newer-word=3".split()
+    },
+    **{
+        f"logic=proved functions=1 sum=1f native=nat {it}\n": f"the verdict has {it}"
+        for it in "cache=trusted incremental=trusted crate-checked=trusted pinned=no".split()
+    },
+    **{
+        f"{it}\nlogic=proved functions=1 sum=1f\n": it
+        for it in ("warning: no call of `px_iim::never` can meet its contract", "note: the search for empty contracts did not end")
+    },
 }
 
 
@@ -317,7 +326,9 @@ def called(crate: str, used: str, made: str, *more: str) -> str:
     """How the toolchain's own command calls the compiler for a crate. It asks for contracts that no call can meet."""
     externs = [f"--extern {it}={'PROVED' if it.startswith('px_') else 'KIT/rlibs'}/{it}.rlib" for it in ["std", *used.split()]]
     words = ["build --crate-name", crate, "src/main.rt" if crate == "px_cli" else "src/lib.rt", *externs]
-    words += ["-L dependency=KIT/rlibs -L dependency=PROVED --antt-project KIT/rattle/logic/antt-project.json --logic-built KIT/logic_built"]
+    words += [
+        "-L dependency=KIT/rlibs -L dependency=PROVED --antt-project KIT/rattle/logic/antt-project.json --logic-built KIT/logic_built"
+    ]
     return " ".join([*words, f"--jobs 4 --links {crate}= --empty-contracts -o PROVED/making/{made}", *more])
 
 
@@ -327,9 +338,11 @@ def test_a_compiler_is_called_as_the_toolchain_calls_it(room):
     assert small.call("a").stdout == "one: a\n", small.log()
     asked = (small.folder / "asked").read_text().replace(f"{small.top}/out/proved", "PROVED").replace(f"{small.folder}/kit", "KIT")
     native = "--toolchain KIT/toolchain --backend llvm"
-    expected = [called("px_low", "byteorder", "px_low.rlib", "--statements"),
-                called("px_c", "px_low", "libpx_c.a", f"{native} --crate-type staticlib"),
-                called("px_cli", "px_low clap", "px_cli.o", native)]  # fmt: skip
+    expected = [
+        called("px_low", "byteorder", "px_low.rlib", "--statements"),
+        called("px_c", "px_low", "libpx_c.a", f"{native} --crate-type staticlib"),
+        called("px_cli", "px_low clap", "px_cli.o", native),
+    ]
     assert asked.splitlines() == expected, asked
 
 

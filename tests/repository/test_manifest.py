@@ -76,10 +76,15 @@ class TestManifest:
         (self.root / "usr/lib/a.py").mkdir(parents=True)
         for words, why in (
             (["install", str(self.stage), str(self.root), self.LIST], f"install: {self.root}/usr/lib/a.py is a folder"),
-            (["uninstall", str(self.later), self.LIST], f"uninstall: nothing is installed there: there is no list {self.later}/{self.LIST}"),
-            (["install", str(self.root / "nothing"), str(self.root), self.LIST],
-             f"install: [Errno 2] No such file or directory: '{self.root}/nothing'"),
-        ):  # fmt: skip
+            (
+                ["uninstall", str(self.later), self.LIST],
+                f"uninstall: nothing is installed there: there is no list {self.later}/{self.LIST}",
+            ),
+            (
+                ["install", str(self.root / "nothing"), str(self.root), self.LIST],
+                f"install: [Errno 2] No such file or directory: '{self.root}/nothing'",
+            ),
+        ):
             status = manifest.main(words)
             assert (status, capsys.readouterr().err) == (1, f"exifnorm: {why}\n")
 

@@ -88,8 +88,14 @@ class TestComponents:
         """The licences and versions of a toolchain's crates."""
         self.kit = tmp_path
         mit = f"MIT\n\n{components.MIT_BEGINS.replace(' ', chr(10), 2)}, ..."
-        for name, files in {"both": {"LICENSE-APACHE": "", "LICENSE-MIT": mit}, "one": {"LICENSE": mit}, "other": {"LICENSE": "no"}, "none": {},
-                            "std": {}, "std_io": {}}.items():  # fmt: skip
+        for name, files in {
+            "both": {"LICENSE-APACHE": "", "LICENSE-MIT": mit},
+            "one": {"LICENSE": mit},
+            "other": {"LICENSE": "no"},
+            "none": {},
+            "std": {},
+            "std_io": {},
+        }.items():
             (self.kit / "rattle" / name).mkdir(parents=True)
             for file, text in {**files, "README.md": f"A port of the Rust crate `{name}` 1.2.3."}.items():
                 (self.kit / "rattle" / name / file).write_text(text)

@@ -17,9 +17,15 @@ FORMS, ROLES, FORMAT = "crates/px_field/specs/Forms.antt", "crates/px_meaning/sp
 DIRECTORIES = {"Main": "main", "Exif": "exif", "Interop": "interop", "Gps": "gps", "Thumb": "thumb"}
 IN = {"main": "Main", "Exif": "Exif", "thumbnail": "Thumb"}
 # the roles of the definitions, by their texts in that table
-MEANT = {"strip offsets": "StripOffsets", "strip lengths": "StripLengths", "JPEG offset": "JpegOffset", "JPEG length": "JpegLength",
-         "leads to the Exif directory": "To Exif", "leads to the GPS directory": "To Gps",
-         "leads to the Interoperability directory": "To Interop"}  # fmt: skip
+MEANT = {
+    "strip offsets": "StripOffsets",
+    "strip lengths": "StripLengths",
+    "JPEG offset": "JpegOffset",
+    "JPEG length": "JpegLength",
+    "leads to the Exif directory": "To Exif",
+    "leads to the GPS directory": "To Gps",
+    "leads to the Interoperability directory": "To Interop",
+}
 Types = Dict[int, Tuple[str, int]]  # the name of a type, without hyphens, and the bytes of an element, by its number
 Roles = Dict[Tuple[str, int], str]  # the role of a tag in a directory
 
@@ -151,8 +157,10 @@ class TestRules:
         assert block.captions() == "".join(["exif\n", *(f"{label}: {label}\n" for label, _ in fields)])
 
     def test_groups(self) -> None:
-        text = re.search(r"In record (\d+), DataSet (27) belongs to the group of (\d+), DataSets (47) and (50) to that of (\d+), and DataSet (85) to that of (\d+)\.",
-                         section("Groups"))  # fmt: skip
+        text = re.search(
+            r"In record (\d+), DataSet (27) belongs to the group of (\d+), DataSets (47) and (50) to that of (\d+), and DataSet (85) to that of (\d+)\.",
+            section("Groups"),
+        )
         record, *numbers = map(int, text.groups())
         leaders = {numbers[0]: numbers[1], numbers[2]: numbers[4], numbers[3]: numbers[4], numbers[5]: numbers[6]}
         assert {(record, number): (record, leader) for number, leader in leaders.items()} == meanings.GROUP_OF

@@ -36,7 +36,9 @@ class Block(NamedTuple):
     place: Optional[int]
     length: int
     octets: str  # SHA-256 of its bytes, which distinguishes a copied block from one that was written again
-    kept: Optional[bytes] = None  # its fields in the form of `listing.packed`, if they were requested; of a refused block, those after repair
+    kept: Optional[
+        bytes
+    ] = None  # its fields in the form of `listing.packed`, if they were requested; of a refused block, those after repair
     repair: Optional[str] = None  # the steps after which a refused block is accepted, in the form of `steps.packed`
     repaired: Optional[str] = None  # SHA-256 of its meaning after them
     note: Optional[int] = None  # where its MakerNote begins
@@ -130,7 +132,9 @@ class PictureRecord(NamedTuple):
     notes: Optional[bytes] = None  # what ExifTool reads of its MakerNotes, if it was asked
 
     @classmethod
-    def of(cls, path: bytes, root: bytes, stamp: Optional[Stamp], it: Blocks, judged: Sequence[Block] = (), file: str = "") -> "PictureRecord":
+    def of(
+        cls, path: bytes, root: bytes, stamp: Optional[Stamp], it: Blocks, judged: Sequence[Block] = (), file: str = ""
+    ) -> "PictureRecord":
         """The result for a file."""
         found = _digests(it.problem, judged, it.not_read)  # here, since several processes look at pictures, and one writes
         return cls(path, root, stamp, it.type, it.extractor, it.problem, it.detail, tuple(judged), tuple(it.not_read), found, file)
@@ -240,8 +244,26 @@ def picture_of_row(row: Tuple[Any, ...]) -> Picture:
     number, path, root, kind, extractor, problem, detail, size, modified, changed, inode, unread, *by_kind, repaired, notes, file = row
     has(int, number, *(it for it in (size, modified, changed, inode) if it is not None))
     has(bytes, path, root)
-    has(str, kind, extractor, detail, notes, file, *by_kind[3:], *(it for it in (problem, unread, repaired, *by_kind[:3]) if it is not None))
-    return Picture(number, path, root, kind, extractor, problem, detail, size, unread, tuple(by_kind[:3]), tuple(by_kind[3:]), (size, modified, changed, inode), repaired, notes, file)
+    has(
+        str, kind, extractor, detail, notes, file, *by_kind[3:], *(it for it in (problem, unread, repaired, *by_kind[:3]) if it is not None)
+    )
+    return Picture(
+        number,
+        path,
+        root,
+        kind,
+        extractor,
+        problem,
+        detail,
+        size,
+        unread,
+        tuple(by_kind[:3]),
+        tuple(by_kind[3:]),
+        (size, modified, changed, inode),
+        repaired,
+        notes,
+        file,
+    )
 
 
 def block_of_row(row: Tuple[Any, ...]) -> Block:

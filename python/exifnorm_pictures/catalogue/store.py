@@ -97,7 +97,9 @@ CREATE INDEX pictures_by_content ON pictures (exif, iptc, xmp, not_read) WHERE p
 
 _OCTETS = "exif_octets, iptc_octets, xmp_octets"
 _MORE = "exif_repaired, maker_notes, file"
-PICTURE_COLUMNS = f"id, path, root, type, extractor, problem, detail, size, modified, changed, inode, not_read, exif, iptc, xmp, {_OCTETS}, {_MORE}"
+PICTURE_COLUMNS = (
+    f"id, path, root, type, extractor, problem, detail, size, modified, changed, inode, not_read, exif, iptc, xmp, {_OCTETS}, {_MORE}"
+)
 BLOCK_COLUMNS = "number, kind, name, source, extractor, status, digest, cause, place, length, octets, repair, repaired, note"
 ALL_PICTURE_COLUMNS = f"path, root, size, modified, changed, inode, device, type, extractor, problem, detail, exif, iptc, xmp, not_read, other_not_read, {_OCTETS}, {_MORE}"
 # A row that replaces another of the same path takes the other's blocks and parts with it, by ON DELETE CASCADE.
@@ -113,9 +115,11 @@ _ADD_ROWS = (
 )
 # The same tables without keys, for rows that are only written and read once
 _ROWS = (
-    f"CREATE TABLE pictures (id, {ALL_PICTURE_COLUMNS}, run)", f"CREATE TABLE blocks (picture, {BLOCK_COLUMNS}, fields)",
-    "CREATE TABLE not_read (picture, number, what, digest)", "CREATE TABLE maker_notes (picture, readings)",
-)  # fmt: skip
+    f"CREATE TABLE pictures (id, {ALL_PICTURE_COLUMNS}, run)",
+    f"CREATE TABLE blocks (picture, {BLOCK_COLUMNS}, fields)",
+    "CREATE TABLE not_read (picture, number, what, digest)",
+    "CREATE TABLE maker_notes (picture, readings)",
+)
 KEPT_BEFORE = ("Vanished", "LinkToNothing", "NotAFile", "Unreadable")  # what was known of a picture stays, if it can't be read now
 
 # when it began and ended, the library's version, ExifTool's, exiv2's
@@ -459,7 +463,9 @@ class Catalogue:
         """Removes a file, or all files below a folder. Returns how many."""
         start = name.rstrip(b"/") + b"/"
         with self.transaction():
-            return self.base.execute("DELETE FROM pictures WHERE path = ? OR (path > ? AND path < ?)", (name, start, start[:-1] + b"0")).rowcount
+            return self.base.execute(
+                "DELETE FROM pictures WHERE path = ? OR (path > ? AND path < ?)", (name, start, start[:-1] + b"0")
+            ).rowcount
 
     def set_devices(self, devices: Iterable[Tuple[int, int]]) -> None:
         """Keeps on which file system some pictures are now: each a device and a picture's number."""

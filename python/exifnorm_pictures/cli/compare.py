@@ -67,7 +67,7 @@ _SENTENCES = {
     changes.FILE_SAME: "The same bytes, in a format that isn't read.",
     changes.FILE_DIFFERENT: "Different bytes, in a format that isn't read.",
     changes.NOT_READ: "The metadata can't be compared: a file isn't read.",
-}  # fmt: skip
+}
 
 
 def _lines(found: Comparison, rows: Sequence[Row], names: Sequence[bytes], exact: bool) -> Iterator[str]:

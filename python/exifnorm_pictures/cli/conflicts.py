@@ -19,9 +19,13 @@ from .output import Members, escaped, print_line, shown_path
 
 LONGEST = 160  # characters of a text that is shown whole
 _WORDS = {
-    ORDER: "a list in another order", EMPTY: "an empty field", CAMERA: "a camera's own text", JOINED: "a list in one text",
-    CUT: "a text that IPTC has cut", CHARACTERS: "a wrong or undeclared character set",
-}  # fmt: skip
+    ORDER: "a list in another order",
+    EMPTY: "an empty field",
+    CAMERA: "a camera's own text",
+    JOINED: "a list in one text",
+    CUT: "a text that IPTC has cut",
+    CHARACTERS: "a wrong or undeclared character set",
+}
 
 
 @dataclass

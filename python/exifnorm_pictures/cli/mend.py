@@ -71,7 +71,10 @@ def _mended_lines(picture: bytes, found: mend.Mended) -> List[str]:
     if found.problem:
         return [f"{name}: {found.problem}"]
     before = "; ".join(f"{name} {line}" for name, line in found.before.items())
-    lines = [f"{name}: {before + ': ' if before else ''}{mend.STEP_WORDS[found.step]}" + (f": {steps.words(found.repairs)}" if found.repairs else "")]
+    lines = [
+        f"{name}: {before + ': ' if before else ''}{mend.STEP_WORDS[found.step]}"
+        + (f": {steps.words(found.repairs)}" if found.repairs else "")
+    ]
     if found.step not in (mend.NONE, mend.COPY):
         lines.append(f"  {len(found.lost)} printed values lost or changed")
         lines += [f"  - {it}" for it in found.lost] + [f"  + {it}" for it in found.gained]

@@ -83,8 +83,13 @@ def parser() -> argparse.ArgumentParser:
     whole.add_argument("--version", action=_Version, nargs=0, help="the version")
     commands = whole.add_subparsers(dest="command", metavar="COMMAND", required=True)
     for name, words, build in _COMMANDS:
-        one = commands.add_parser(name, help=words, description=words[0].upper() + words[1:] + ".", epilog=_STATUSES,
-                                  formatter_class=argparse.RawDescriptionHelpFormatter)  # fmt: skip
+        one = commands.add_parser(
+            name,
+            help=words,
+            description=words[0].upper() + words[1:] + ".",
+            epilog=_STATUSES,
+            formatter_class=argparse.RawDescriptionHelpFormatter,
+        )
         build(one)
         one.add_argument("--json", action="store_true", help="print one JSON object for each line")
         one.add_argument("--debug", action="store_true", help="print the traceback of an internal error, as EXIFNORM_DEBUG=1 does")
@@ -121,8 +126,7 @@ def _name(text: str) -> str:
 
 
 def _limit_arguments(it: argparse.ArgumentParser) -> None:
-    it.add_argument("--limit", type=_seconds, default=SECONDS, metavar="SECONDS",
-                    help=f"time limit of ExifTool for a file ({SECONDS:g})")  # fmt: skip
+    it.add_argument("--limit", type=_seconds, default=SECONDS, metavar="SECONDS", help=f"time limit of ExifTool for a file ({SECONDS:g})")
 
 
 def _looking_arguments(it: argparse.ArgumentParser) -> None:
@@ -141,7 +145,9 @@ def _index_arguments(it: argparse.ArgumentParser) -> None:
     it.add_argument("--catalogue", required=True, type=_name, metavar="FILE", help="the catalogue; created if it is missing")
     it.add_argument("--keep-old", type=_name, metavar="OLD", help="first copy the catalogue to OLD, for changed and report --since")
     it.add_argument("--again", action="store_true", help="look at all pictures, even if they haven't changed")
-    it.add_argument("--maker-notes", action="store_true", help="also keep what ExifTool reads of MakerNotes, so that changed needs no earlier files")
+    it.add_argument(
+        "--maker-notes", action="store_true", help="also keep what ExifTool reads of MakerNotes, so that changed needs no earlier files"
+    )
     it.add_argument("--scheduler", metavar="tcp://HOST:PORT", help="look at the pictures on the workers of this Dask cluster")
     it.add_argument("--elsewhere", type=_name, metavar="PATH", help="the path of FOLDER on the workers")
     _many_arguments(it)
@@ -159,7 +165,9 @@ def _same_arguments(it: argparse.ArgumentParser) -> None:
 
 
 def _forget_arguments(it: argparse.ArgumentParser) -> None:
-    it.add_argument("folders", nargs="*", type=_name, metavar="FOLDER", help="a folder, with all below it, or a picture; it need not be there")
+    it.add_argument(
+        "folders", nargs="*", type=_name, metavar="FOLDER", help="a folder, with all below it, or a picture; it need not be there"
+    )
     it.add_argument("--catalogue", required=True, type=_name, metavar="FILE")
 
 
@@ -168,7 +176,9 @@ def _changed_arguments(it: argparse.ArgumentParser) -> None:
     it.add_argument("after", type=_name, metavar="AFTER", help="a catalogue or a folder")
     it.add_argument("--all", action="store_true", help="also list pictures that mean the same, or are refused in the same bytes")
     it.add_argument("--each", action="store_true", help="also list each value of a MakerNote that ExifTool reads otherwise")
-    it.add_argument("--no-exiftool", action="store_true", help="don't ask ExifTool whether MakerNotes that differ or have moved read the same")
+    it.add_argument(
+        "--no-exiftool", action="store_true", help="don't ask ExifTool whether MakerNotes that differ or have moved read the same"
+    )
     _many_arguments(it)
 
 
@@ -181,7 +191,9 @@ def _compare_arguments(it: argparse.ArgumentParser) -> None:
     it.add_argument("before", type=_name, metavar="A", help="a picture")
     it.add_argument("after", type=_name, metavar="B", help="a picture")
     it.add_argument("--exact", action="store_true", help="each field with its tag, its type and its exact value")
-    it.add_argument("--no-exiftool", action="store_true", help="don't ask ExifTool whether MakerNotes that differ or have moved read the same")
+    it.add_argument(
+        "--no-exiftool", action="store_true", help="don't ask ExifTool whether MakerNotes that differ or have moved read the same"
+    )
     _looking_arguments(it)
 
 
@@ -218,8 +230,9 @@ def _report_arguments(it: argparse.ArgumentParser) -> None:
 
 
 def _mend_arguments(it: argparse.ArgumentParser) -> None:
-    it.add_argument("names", nargs="+", type=_name, metavar="PICTURE OUT",
-                    help="the picture and the copy; with --files-from only a folder OUT")  # fmt: skip
+    it.add_argument(
+        "names", nargs="+", type=_name, metavar="PICTURE OUT", help="the picture and the copy; with --files-from only a folder OUT"
+    )
     _limit_arguments(it)
 
 

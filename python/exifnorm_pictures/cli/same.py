@@ -68,9 +68,15 @@ def _print_lines(it: groups.Group) -> None:
 def _print_group(it: groups.Group) -> None:
     """One object."""
     digests = {WORDS[kind]: digest for kind, digest in it.digests.items()}
-    known = {"count": it.count, "same": it.sentence(), "basis": it.basis, "digests": digests, "same_bytes": it.same_bytes,
-             "wholly_read": not it.not_read and it.basis == groups.MEANING,
-             "pictures": [_picture_members(it, one) for one in it.members]}  # fmt: skip
+    known = {
+        "count": it.count,
+        "same": it.sentence(),
+        "basis": it.basis,
+        "digests": digests,
+        "same_bytes": it.same_bytes,
+        "wholly_read": not it.not_read and it.basis == groups.MEANING,
+        "pictures": [_picture_members(it, one) for one in it.members],
+    }
     if it.links:
         known["links"] = [{**path_members(one.path), "of": path_members(one.of), "how": one.how} for one in it.links]
     for name, paths in (("gone", it.gone), ("changed", it.changed)):

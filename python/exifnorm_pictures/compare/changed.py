@@ -20,9 +20,23 @@ from ..refusals.steps import Step
 from .pairs import AFTER, BEFORE, Pair, Pairs
 from .sides import Sides
 from .verdicts import (
-    ACCEPTED, DIFFERENT, DIFFERENT_REPAIRED, MOVED_NOTE, NOT_WHOLLY_READ, ONLY_REACHED, REACHED, REFUSED, SAME, SAME_REPAIRED, UNREADABLE,
-    Verdict, left_open, result, sentence, verdicts,
-)  # fmt: skip
+    ACCEPTED,
+    DIFFERENT,
+    DIFFERENT_REPAIRED,
+    MOVED_NOTE,
+    NOT_WHOLLY_READ,
+    ONLY_REACHED,
+    REACHED,
+    REFUSED,
+    SAME,
+    SAME_REPAIRED,
+    UNREADABLE,
+    Verdict,
+    left_open,
+    result,
+    sentence,
+    verdicts,
+)
 
 ONLY_MAKER_NOTE = "only MakerNote differs"
 REFUSED_SAME, UNREADABLE_SAME = f"{REFUSED}, the same bytes", f"{UNREADABLE}, the same bytes"
@@ -35,9 +49,19 @@ DIFFERENCES = (DIFFERENT, DIFFERENT_REPAIRED, ONLY_MAKER_NOTE, FILE_DIFFERENT, M
 OPEN = (MOVED_NOTE, SAME_REPAIRED, ONLY_REACHED, REFUSED, UNREADABLE, NOT_WHOLLY_READ, NOT_READ)  # it isn't wholly decided
 UNCHANGED = (SAME, REFUSED_SAME, UNREADABLE_SAME, FILE_SAME)  # nothing is reported to differ
 RESULTS = (
-    SAME, MOVED_NOTE, SAME_REPAIRED, *DIFFERENCES, ONLY_REACHED, REFUSED, REFUSED_SAME, UNREADABLE, UNREADABLE_SAME, NOT_WHOLLY_READ,
-    FILE_SAME, NOT_READ,
-)  # fmt: skip
+    SAME,
+    MOVED_NOTE,
+    SAME_REPAIRED,
+    *DIFFERENCES,
+    ONLY_REACHED,
+    REFUSED,
+    REFUSED_SAME,
+    UNREADABLE,
+    UNREADABLE_SAME,
+    NOT_WHOLLY_READ,
+    FILE_SAME,
+    NOT_READ,
+)
 
 
 @dataclass
@@ -141,7 +165,9 @@ def _judge_maker_notes(it: Compared, one: Picture, other: Picture, pairs: Sides,
         return parts
     if not moved:  # an edit in place: ExifTool may overlook it, since it corrects some MakerNotes before it reads them
         it.note += "; MakerNote reads the same (ExifTool)" if lines or reached else ""
-        it.changes = [change._replace(said="differs in bytes, reads the same (ExifTool)") if change in lines else change for change in it.changes]
+        it.changes = [
+            change._replace(said="differs in bytes, reads the same (ExifTool)") if change in lines else change for change in it.changes
+        ]
         return parts
     it.note += "; MakerNote moved, reads the same (ExifTool)"
     it.changes = [change for change in it.changes if change not in lines]

@@ -10,22 +10,61 @@ from typing import Iterator, List, NamedTuple, Optional, Sequence, Tuple
 from ..fields.labels import DATE, EXIF, IPTC, LABELS, STANDARDS, XMP, Label, LabelText
 
 ALIKE, ORDER, EMPTY, CAMERA, JOINED, CUT, CHARACTERS, DIFFERENT = (
-    "alike", "another order", "empty", "camera's text", "joined", "cut", "character set", "different",
-)  # fmt: skip
+    "alike",
+    "another order",
+    "empty",
+    "camera's text",
+    "joined",
+    "cut",
+    "character set",
+    "different",
+)
 KINDS = (ALIKE, ORDER, EMPTY, CAMERA, JOINED, CUT, CHARACTERS, DIFFERENT)  # the least first
 # Character sets that are tried on bytes outside ASCII. One is taken only if it gives exactly the text of another standard.
 _CHARACTER_SETS = {
-    "utf-8": "UTF-8", "cp1252": "Windows-1252", "mac_roman": "Mac Roman", "cp437": "DOS 437", "cp850": "DOS 850", "cp1250": "Windows-1250",
-    "iso8859_2": "Latin-2", "mac_latin2": "Mac Central European", "cp1251": "Windows-1251", "koi8_r": "KOI8-R", "cp1253": "Windows-1253",
-    "cp1254": "Windows-1254", "cp1257": "Windows-1257", "iso8859_15": "Latin-9", "shift_jis": "Shift JIS", "euc_jp": "EUC-JP",
-    "gb18030": "GB 18030", "big5": "Big5", "euc_kr": "EUC-KR",
-}  # fmt: skip
+    "utf-8": "UTF-8",
+    "cp1252": "Windows-1252",
+    "mac_roman": "Mac Roman",
+    "cp437": "DOS 437",
+    "cp850": "DOS 850",
+    "cp1250": "Windows-1250",
+    "iso8859_2": "Latin-2",
+    "mac_latin2": "Mac Central European",
+    "cp1251": "Windows-1251",
+    "koi8_r": "KOI8-R",
+    "cp1253": "Windows-1253",
+    "cp1254": "Windows-1254",
+    "cp1257": "Windows-1257",
+    "iso8859_15": "Latin-9",
+    "shift_jis": "Shift JIS",
+    "euc_jp": "EUC-JP",
+    "gb18030": "GB 18030",
+    "big5": "Big5",
+    "euc_kr": "EUC-KR",
+}
 # What cameras write into ImageDescription by themselves, in capitals
 _CAMERAS = {
-    "OLYMPUS DIGITAL CAMERA", "SONY DSC", "MINOLTA DIGITAL CAMERA", "KONICA MINOLTA DIGITAL CAMERA", "DIGITAL CAMERA", "DCIM", "SAMSUNG",
-    "SAMSUNG DIGITAL CAMERA", "SAMSUNG CAMERA PICTURES", "KODAK DIGITAL STILL CAMERA", "DIGITAL STILL CAMERA", "DEFAULT", "MAGINON",
-    "EXIF_JPEG_PICTURE", "EXIF JPEG", "JPEG", "USER COMMENTS", "PENTAX DIGITAL CAMERA", "CASIO COMPUTER CO.,LTD", "DIGITAL IMAGE",
-}  # fmt: skip
+    "OLYMPUS DIGITAL CAMERA",
+    "SONY DSC",
+    "MINOLTA DIGITAL CAMERA",
+    "KONICA MINOLTA DIGITAL CAMERA",
+    "DIGITAL CAMERA",
+    "DCIM",
+    "SAMSUNG",
+    "SAMSUNG DIGITAL CAMERA",
+    "SAMSUNG CAMERA PICTURES",
+    "KODAK DIGITAL STILL CAMERA",
+    "DIGITAL STILL CAMERA",
+    "DEFAULT",
+    "MAGINON",
+    "EXIF_JPEG_PICTURE",
+    "EXIF JPEG",
+    "JPEG",
+    "USER COMMENTS",
+    "PENTAX DIGITAL CAMERA",
+    "CASIO COMPUTER CO.,LTD",
+    "DIGITAL IMAGE",
+}
 _CLEAREST = (XMP, IPTC, EXIF)  # the order in which two texts are compared: that which is least often cut first
 
 

@@ -18,8 +18,16 @@ Values = Dict[str, str]
 # -u: tags without a name too; -b: previews too; -sep: lists as one text
 _WORDS = ("-q", "-q", "-m", "-json", "-a", "-u", "-G1:4", "-n", "-b", "-sep", " | ", "-MakerNotes:all")
 # Numbers that are places in the file, and must change if something moves. What is there is a value of its own.
-_PLACES = ("ThumbnailOffset", "PreviewImageStart", "OtherImageStart", "JpgFromRawStart", "MPImageStart", "StripOffsets", "RawDataOffset",
-           "HiddenDataOffset")  # fmt: skip
+_PLACES = (
+    "ThumbnailOffset",
+    "PreviewImageStart",
+    "OtherImageStart",
+    "JpgFromRawStart",
+    "MPImageStart",
+    "StripOffsets",
+    "RawDataOffset",
+    "HiddenDataOffset",
+)
 LONGEST = 200  # characters of a value that is kept whole
 
 
@@ -40,7 +48,11 @@ def values_of(paths: Sequence[bytes]) -> List[Values]:
 
 
 def _short(value: str) -> str:
-    return value if len(value) <= LONGEST else f"{value[:40]}.. sha256:{hashlib.sha256(value.encode('utf-8', 'surrogatepass')).hexdigest()[:32]}"
+    return (
+        value
+        if len(value) <= LONGEST
+        else f"{value[:40]}.. sha256:{hashlib.sha256(value.encode('utf-8', 'surrogatepass')).hexdigest()[:32]}"
+    )
 
 
 def differences(before: Values, after: Values) -> List[Difference]:

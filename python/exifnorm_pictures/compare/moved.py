@@ -61,7 +61,6 @@ class Departed:
             to = self.went.get(it.path)
             yield it if to is None else PictureRecord(it.path, b"", problem="Moved", detail=f"to {shown_path(to)}")
 
-
     def _remounted(self, catalogue: Catalogue, run: int, new: Collection[bytes]) -> Iterator[PictureRecord]:
         """The pictures of folders that are gone and whose files are new in this run: a file system that is mounted at another place.
 

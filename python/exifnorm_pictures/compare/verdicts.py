@@ -45,7 +45,8 @@ class Judged(Protocol):
         ...
 
     @property
-    def meaning(self) -> Optional[str]: ...
+    def meaning(self) -> Optional[str]:
+        ...
 
 
 class Side(NamedTuple):

@@ -31,9 +31,7 @@ _TAGS = {"EXIF": EXIF, "IPTC": IPTC, "XMP": XMP}
 _SEVERAL = ("CR3", "CRX", "CRM")  # Canon's, by ExifTool's names
 
 # Files in the structure of TIFF, of which ExifTool hands over no Exif block.
-_TIFF_TYPES = frozenset(
-    "TIFF DNG NEF NRW CR2 ARW ARQ SR2 SRF SRW ORF PEF RW2 RWL 3FR IIQ ERF MEF MOS DCR KDC K25 GPR FFF RAW".split()
-)
+_TIFF_TYPES = frozenset("TIFF DNG NEF NRW CR2 ARW ARQ SR2 SRF SRW ORF PEF RW2 RWL 3FR IIQ ERF MEF MOS DCR KDC K25 GPR FFF RAW".split())
 
 # Bytes come in base64 after the word base64:, texts as they are. The filter marks a text that begins with that word by
 # itself, so that a picture can't make a text look like other bytes. -m: continue after minor errors.

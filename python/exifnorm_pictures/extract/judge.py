@@ -42,7 +42,9 @@ def _repaired(it: Block, block: bytes) -> Block:
     found = repairs.repaired(block)
     if found is None:
         return it
-    return it._replace(kept=packed(normal_form.fields(found.form)), repair=steps.packed(found.steps), repaired=hashlib.sha256(found.form).hexdigest())
+    return it._replace(
+        kept=packed(normal_form.fields(found.form)), repair=steps.packed(found.steps), repaired=hashlib.sha256(found.form).hexdigest()
+    )
 
 
 def _says_nothing(it: FoundBlock) -> bool:

@@ -11,8 +11,14 @@ from typing import Dict, List, NamedTuple, Optional, Set, Tuple
 SIZE = {1: 1, 2: 1, 3: 2, 4: 4, 5: 8, 6: 1, 7: 1, 8: 2, 9: 4, 10: 8, 11: 4, 12: 8, 13: 4, 129: 1}
 LINKS = {("main", 0x8769): "exif", ("main", 0x8825): "gps", ("exif", 0xA005): "interop"}
 MAKER_NOTE = 0x927C
-PRIVATE = {MAKER_NOTE: "the MakerNote", 0x0190: "GlobalParametersIFD", 0x8290: "Kodak's IFD", 0x8606: "Leaf's IFD", 0xFE00: "Kodak's IFD",
-           0xC634: "Adobe's private data"}  # fmt: skip
+PRIVATE = {
+    MAKER_NOTE: "the MakerNote",
+    0x0190: "GlobalParametersIFD",
+    0x8290: "Kodak's IFD",
+    0x8606: "Leaf's IFD",
+    0xFE00: "Kodak's IFD",
+    0xC634: "Adobe's private data",
+}
 
 
 class Entry(NamedTuple):
@@ -105,7 +111,11 @@ def counted(number: int, by: str) -> str:
 def notes(block: bytes) -> Notes:
     """What a block has besides its fields. Bytes of 0 are filling. As `Walk` reads it, but without an object for each entry."""
     order = "<" if block[:2] == b"II" else ">"
-    unpack, four, two = struct.Struct(order + "HHII").iter_unpack, struct.Struct(order + "I").unpack_from, struct.Struct(order + "H").unpack_from
+    unpack, four, two = (
+        struct.Struct(order + "HHII").iter_unpack,
+        struct.Struct(order + "I").unpack_from,
+        struct.Struct(order + "H").unpack_from,
+    )
     end, place, leads = len(block), None, {}  # type: int, Optional[int], Dict[str, None]
     covered = [(0, 8)]
     seen: Set[int] = set()

@@ -44,10 +44,7 @@ class Field(NamedTuple):
 
 # A line of a listing: a directory, a field, a DataSet, or a picture of the thumbnail directory.
 _LINE = re.compile(
-    r"^(?:\[(\w+)\]"
-    r"|([0-9a-f]{4}) (\w+) (\d+):(?: (.*))?"
-    r"|(\d+:\d+) (\d+):(?: (.*))?"
-    r"|(jpeg|strip) (\d+):(?: (.*))?)$",
+    r"^(?:\[(\w+)\]" r"|([0-9a-f]{4}) (\w+) (\d+):(?: (.*))?" r"|(\d+:\d+) (\d+):(?: (.*))?" r"|(jpeg|strip) (\d+):(?: (.*))?)$",
     re.M,
 )
 

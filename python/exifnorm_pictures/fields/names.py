@@ -23,7 +23,8 @@ def _table(text: str) -> Dict[str, str]:
     return dict(zip(words[0::2], words[1::2]))
 
 
-_TIFF = _table("""
+_TIFF = _table(
+    """
 00fe NewSubfileType 00ff SubfileType 0100 ImageWidth 0101 ImageLength 0102 BitsPerSample 0103 Compression
 0106 PhotometricInterpretation 0107 Threshholding 0108 CellWidth 0109 CellLength 010a FillOrder 010d DocumentName
 010e ImageDescription 010f Make 0110 Model 0111 StripOffsets 0112 Orientation 0115 SamplesPerPixel 0116 RowsPerStrip
@@ -39,9 +40,11 @@ _TIFF = _table("""
 0214 ReferenceBlackWhite 02bc XMP 4746 Rating 4749 RatingPercent 8298 Copyright 83bb IPTC 8649 PhotoshopResources
 8769 ExifIFDPointer 8773 ICCProfile 8825 GPSInfoIFDPointer 9c9b XPTitle 9c9c XPComment 9c9d XPAuthor 9c9e XPKeywords
 9c9f XPSubject c4a5 PrintImageMatching ea1c Padding
-""")
+"""
+)
 
-_EXIF = _table("""
+_EXIF = _table(
+    """
 829a ExposureTime 829d FNumber 8822 ExposureProgram 8824 SpectralSensitivity 8827 PhotographicSensitivity 8828 OECF
 8830 SensitivityType 8831 StandardOutputSensitivity 8832 RecommendedExposureIndex 8833 ISOSpeed
 8834 ISOSpeedLatitudeyyy 8835 ISOSpeedLatitudezzz 9000 ExifVersion 9003 DateTimeOriginal 9004 DateTimeDigitized
@@ -60,23 +63,29 @@ a431 BodySerialNumber a432 LensSpecification a433 LensMake a434 LensModel a435 L
 a437 Photographer a438 ImageEditor a439 CameraFirmware a43a RAWDevelopingSoftware a43b ImageEditingSoftware
 a43c MetadataEditingSoftware a460 CompositeImage a461 SourceImageNumberOfCompositeImage
 a462 SourceExposureTimesOfCompositeImage a500 Gamma
-""")
+"""
+)
 
-_GPS = _table("""
+_GPS = _table(
+    """
 0000 GPSVersionID 0001 GPSLatitudeRef 0002 GPSLatitude 0003 GPSLongitudeRef 0004 GPSLongitude 0005 GPSAltitudeRef
 0006 GPSAltitude 0007 GPSTimeStamp 0008 GPSSatellites 0009 GPSStatus 000a GPSMeasureMode 000b GPSDOP 000c GPSSpeedRef
 000d GPSSpeed 000e GPSTrackRef 000f GPSTrack 0010 GPSImgDirectionRef 0011 GPSImgDirection 0012 GPSMapDatum
 0013 GPSDestLatitudeRef 0014 GPSDestLatitude 0015 GPSDestLongitudeRef 0016 GPSDestLongitude 0017 GPSDestBearingRef
 0018 GPSDestBearing 0019 GPSDestDistanceRef 001a GPSDestDistance 001b GPSProcessingMethod 001c GPSAreaInformation
 001d GPSDateStamp 001e GPSDifferential 001f GPSHPositioningError
-""")
+"""
+)
 
-_INTEROP = _table("""
+_INTEROP = _table(
+    """
 0001 InteroperabilityIndex 0002 InteroperabilityVersion 1000 RelatedImageFileFormat 1001 RelatedImageWidth
 1002 RelatedImageLength
-""")
+"""
+)
 
-_IIM = _table("""
+_IIM = _table(
+    """
 1:0 ModelVersion 1:5 Destination 1:20 FileFormat 1:22 FileFormatVersion 1:30 ServiceIdentifier 1:40 EnvelopeNumber
 1:50 ProductID 1:60 EnvelopePriority 1:70 DateSent 1:80 TimeSent 1:90 CodedCharacterSet 1:100 UNO 1:120 ARMIdentifier
 1:122 ARMVersion 2:0 RecordVersion 2:3 ObjectTypeReference 2:4 ObjectAttributeReference 2:5 ObjectName 2:7 EditStatus
@@ -90,7 +99,8 @@ _IIM = _table("""
 2:120 CaptionAbstract 2:122 WriterEditor 2:125 RasterizedCaption 2:130 ImageType 2:131 ImageOrientation
 2:135 LanguageIdentifier 2:150 AudioType 2:151 AudioSamplingRate 2:152 AudioSamplingResolution 2:153 AudioDuration
 2:154 AudioOutcue 2:200 ObjectDataPreviewFileFormat 2:201 ObjectDataPreviewFileFormatVersion 2:202 ObjectDataPreviewData
-""")
+"""
+)
 
 _TABLES = {
     "main": (_TIFF, _EXIF),

@@ -69,5 +69,3 @@ def _pictures(kind: str, values: Any) -> Iterator[Field]:
     """The thumbnail's JPEG, or each of its strips."""
     for octets in values if kind == "STRIPS" else (values,):
         yield Field("thumb", "jpeg" if kind == "JPEG" else "strip", "octets", len(octets), shown_picture(octets))
-
-

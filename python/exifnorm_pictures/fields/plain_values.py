@@ -21,16 +21,25 @@ def _words(keys: str, text: str) -> None:
     _WORDS.update({key: rows for key in keys.split()})
 
 
-_words("0112", "1 upright; 2 mirrored left to right; 3 turn 180° to view; 4 mirrored top to bottom;"
-       "5 mirrored left to right, then turn 90° counter-clockwise to view; 6 turn 90° clockwise to view;"
-       "7 mirrored left to right, then turn 90° clockwise to view; 8 turn 90° counter-clockwise to view")  # fmt: skip
+_words(
+    "0112",
+    "1 upright; 2 mirrored left to right; 3 turn 180° to view; 4 mirrored top to bottom;"
+    "5 mirrored left to right, then turn 90° counter-clockwise to view; 6 turn 90° clockwise to view;"
+    "7 mirrored left to right, then turn 90° clockwise to view; 8 turn 90° counter-clockwise to view",
+)
 _words("0128 a210", "1 no unit; 2 inches; 3 centimetres")
-_words("8822", "0 not defined; 1 manual; 2 normal program; 3 aperture priority; 4 shutter priority; 5 creative program (depth of field);"
-       "6 action program (short exposure); 7 portrait; 8 landscape")  # fmt: skip
+_words(
+    "8822",
+    "0 not defined; 1 manual; 2 normal program; 3 aperture priority; 4 shutter priority; 5 creative program (depth of field);"
+    "6 action program (short exposure); 7 portrait; 8 landscape",
+)
 _words("9207", "0 unknown; 1 average; 2 centre-weighted average; 3 spot; 4 multi-spot; 5 multi-segment; 6 partial; 255 other")
-_words("9208", "0 unknown; 1 daylight; 2 fluorescent; 3 tungsten; 4 flash; 9 fine weather; 10 cloudy; 11 shade; 12 daylight fluorescent;"
-       "13 day white fluorescent; 14 cool white fluorescent; 15 white fluorescent; 16 warm white fluorescent; 17 standard light A;"
-       "18 standard light B; 19 standard light C; 20 D55; 21 D65; 22 D75; 23 D50; 24 ISO studio tungsten; 255 other")  # fmt: skip
+_words(
+    "9208",
+    "0 unknown; 1 daylight; 2 fluorescent; 3 tungsten; 4 flash; 9 fine weather; 10 cloudy; 11 shade; 12 daylight fluorescent;"
+    "13 day white fluorescent; 14 cool white fluorescent; 15 white fluorescent; 16 warm white fluorescent; 17 standard light A;"
+    "18 standard light B; 19 standard light C; 20 D55; 21 D65; 22 D75; 23 D50; 24 ISO studio tungsten; 255 other",
+)
 _words("a001", "1 sRGB; 2 Adobe RGB; 65535 uncalibrated")
 _words("a402", "0 automatic; 1 manual; 2 bracket")
 _words("a403", "0 automatic; 1 manual")
@@ -66,10 +75,20 @@ _EXIF: Dict[str, Rule] = {
     **{key: _table(words) for key, words in _WORDS.items()},
     **dict.fromkeys(("0132", "9003", "9004"), numbers.date),
     **dict.fromkeys(("9202", "9205"), numbers.aperture_value),
-    "829a": numbers.exposure_time, "829d": numbers.aperture_number, "9201": numbers.shutter_speed, "9204": numbers.exposure_value,
-    "920a": with_unit(" mm", 1), "a405": with_unit(" mm"), "9206": with_unit(" m", 2), "9203": with_unit(" EV", 2),
-    "9209": _flash, "a432": numbers.lens, "9286": shown_comment, "9000": numbers.version, "a000": numbers.version,
-}  # fmt: skip
+    "829a": numbers.exposure_time,
+    "829d": numbers.aperture_number,
+    "9201": numbers.shutter_speed,
+    "9204": numbers.exposure_value,
+    "920a": with_unit(" mm", 1),
+    "a405": with_unit(" mm"),
+    "9206": with_unit(" m", 2),
+    "9203": with_unit(" EV", 2),
+    "9209": _flash,
+    "a432": numbers.lens,
+    "9286": shown_comment,
+    "9000": numbers.version,
+    "a000": numbers.version,
+}
 _GPS: Dict[str, Rule] = {
     **dict.fromkeys(("0002", "0004", "0014", "0016"), numbers.angle),
     **dict.fromkeys(("000f", "0011", "0018"), with_unit("°", 2)),
@@ -77,9 +96,14 @@ _GPS: Dict[str, Rule] = {
     **dict.fromkeys(("0001", "0013"), _table({'"N"': "north", '"S"': "south"})),
     **dict.fromkeys(("0003", "0015"), _table({'"E"': "east", '"W"': "west"})),
     **dict.fromkeys(("000c", "0019"), _table({'"K"': "kilometres", '"M"': "miles", '"N"': "nautical miles"})),
-    "0000": numbers.dotted, "0005": _table({"0x00": "above sea level", "0x01": "below sea level"}), "0006": with_unit(" m", 1),
-    "0007": numbers.clock, "000d": with_unit("", 2), "001d": numbers.date, "001f": with_unit(" m", 1),
-}  # fmt: skip
+    "0000": numbers.dotted,
+    "0005": _table({"0x00": "above sea level", "0x01": "below sea level"}),
+    "0006": with_unit(" m", 1),
+    "0007": numbers.clock,
+    "000d": with_unit("", 2),
+    "001d": numbers.date,
+    "001f": with_unit(" m", 1),
+}
 _IIM: Dict[str, Rule] = {
     **dict.fromkeys(("1:70", "2:30", "2:37", "2:47", "2:55", "2:62"), numbers.iptc_date),
     **dict.fromkeys(("1:80", "2:35", "2:38", "2:60", "2:63"), numbers.iptc_time),

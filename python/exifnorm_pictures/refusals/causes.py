@@ -120,9 +120,7 @@ _CAUSES = (
         "TIFF 6.0 asks for at least one entry in a directory. Some phones always write a GPS pointer, even if they don't know"
         " the location.",
         "GPS pointer --> 00 00 | 00 00 00 00\n                !  no entries",
-        (
-            ("Xiaomi phones (an empty GPS directory), Apple iPhone 7, Nikon E995, digiKam", "6 in all"),
-        ),
+        (("Xiaomi phones (an empty GPS directory), Apple iPhone 7, Nikon E995, digiKam", "6 in all"),),
         "ExifTool, exiv2, exif, Pillow and piexif report nothing; exiv2, Pillow and piexif show the pointer as a number.",
         _TOUCH + " without the empty directory (4 of 6). If that doesn't help, use the rebuild.",
         "None by the touch (4 of 4); a rebuild changed printed values.",
@@ -135,8 +133,11 @@ _CAUSES = (
         " knows which of them was meant. Usually a count is too large. exiv2 also extends a MakerNote into the values after it.",
         "Model    -> M o d e l   1 _\nSoftware ->         l   1 _ P r o g\n                    ^^^^^^^ whose bytes are these?",
         (
-            ("Olympus C8080WZ; Ricoh Caplio (PrintIM too long); 'DIGITAL CAMERA' (Copyright too long); GoPro HERO6;"
-             " Vivitar X30; Nokia N70", "8 in all"),
+            (
+                "Olympus C8080WZ; Ricoh Caplio (PrintIM too long); 'DIGITAL CAMERA' (Copyright too long); GoPro HERO6;"
+                " Vivitar X30; Nokia N70",
+                "8 in all",
+            ),
             ("exiv2, after an edit (its MakerNote extends into the values after it)", "12 of 175"),
             ("piexif, any picture", "139 of 142, together with Unsorted and DirectoryOutside"),
         ),
@@ -267,8 +268,7 @@ _CAUSES = (
     Cause(
         "LengthForm",
         "The length of an extended DataSet has no octets, or more than four.",
-        "A DataSet of more than 32,767 octets has the number of octets of its length. Four are enough for every accepted"
-        " block.",
+        "A DataSet of more than 32,767 octets has the number of octets of its length. Four are enough for every accepted" " block.",
         "1C 02 19 80 05 | 00 00 00 00 03 | o n e\n!          five octets of length",
         (("none of 91 IPTC records from cameras or editors; those found were made to break readers", "0"),),
         "ExifTool reads the DataSet. exiv2: `Failed to decode IPTC metadata`, no DataSet at all.",
@@ -291,9 +291,7 @@ _CAUSES = (
 
 CAUSES: Dict[str, Cause] = {it.name: it for it in _CAUSES}
 
-_WRITE_AGAIN = (
-    "`exifnorm-pictures mend`, whose last step lets ExifTool write all tags that it reads into new blocks. It helps where ExifTool reads the packet."
-)
+_WRITE_AGAIN = "`exifnorm-pictures mend`, whose last step lets ExifTool write all tags that it reads into new blocks. It helps where ExifTool reads the packet."
 _WHOLE_COPY = "Take the file from its source again: a program has copied its XMP only in part."
 
 # The remedies of XMP packets that can't be read, by the causes of `exifnorm_pictures.xmp`, which has their meanings.

@@ -12,9 +12,20 @@ from typing import Dict, List, NamedTuple, Optional, Set, Tuple
 from ..fields.names import DIRECTORIES, name_of
 
 TYPES = {
-    1: ("BYTE", 1), 2: ("ASCII", 1), 3: ("SHORT", 2), 4: ("LONG", 4), 5: ("RATIONAL", 8), 6: ("SBYTE", 1), 7: ("UNDEFINED", 1),
-    8: ("SSHORT", 2), 9: ("SLONG", 4), 10: ("SRATIONAL", 8), 11: ("FLOAT", 4), 12: ("DOUBLE", 8), 129: ("UTF-8", 1),
-}  # fmt: skip
+    1: ("BYTE", 1),
+    2: ("ASCII", 1),
+    3: ("SHORT", 2),
+    4: ("LONG", 4),
+    5: ("RATIONAL", 8),
+    6: ("SBYTE", 1),
+    7: ("UNDEFINED", 1),
+    8: ("SSHORT", 2),
+    9: ("SLONG", 4),
+    10: ("SRATIONAL", 8),
+    11: ("FLOAT", 4),
+    12: ("DOUBLE", 8),
+    129: ("UTF-8", 1),
+}
 PREFIX = b"Exif\0\0"
 
 

@@ -18,8 +18,13 @@ MOST = 100  # steps
 _POINTERS = (0x0111, 0x0117, 0x0201, 0x0202, 0x8769, 0x8825, 0xA005)
 _ALLOWED = {("main", 0x8769), ("main", 0x8825), ("exif", 0xA005), *(("thumb", it) for it in (0x0111, 0x0117, 0x0201, 0x0202))}
 _ROLES = {0x0111, 0x0117, 0x0120, 0x0144, 0x014A, 0x0201, 0x0202, 0x0207, 0x0208, 0x0209, 0x8769, 0x8825, 0xA005}
-_NAMES = {"main": "main directory", "exif": "Exif directory", "gps": "GPS directory", "interop": "Interoperability directory",
-          "thumb": "thumbnail directory"}  # fmt: skip
+_NAMES = {
+    "main": "main directory",
+    "exif": "Exif directory",
+    "gps": "GPS directory",
+    "interop": "Interoperability directory",
+    "thumb": "thumbnail directory",
+}
 
 
 class Repaired(NamedTuple):
@@ -77,7 +82,9 @@ def _unsorted(block: bytes, walk: Walk) -> _Done:
     out = bytearray(block)
     for it in walk.directories:
         if it.is_whole:
-            rows = sorted((block[one.place : one.place + 12] for one in it.entries), key=lambda row: struct.unpack(walk.order + "H", row[:2]))
+            rows = sorted(
+                (block[one.place : one.place + 12] for one in it.entries), key=lambda row: struct.unpack(walk.order + "H", row[:2])
+            )
             out[it.at + 2 : it.next] = b"".join(rows)
     return out, "entries sorted", ""
 
@@ -88,7 +95,9 @@ def _overlap(block: bytes, walk: Walk) -> _Done:
 
 def _values(walk: Walk, it: Directory) -> List[Tuple[bool, int, int, int]]:
     """The values of a directory: whether it may be moved, where it begins, its length, and the place of its offset."""
-    found = [(one.tag != MAKER_NOTE, one.last, one.size, one.place + 8) for one in it.entries if one.size > 4 and (it.name, one.tag) not in LINKS]
+    found = [
+        (one.tag != MAKER_NOTE, one.last, one.size, one.place + 8) for one in it.entries if one.size > 4 and (it.name, one.tag) not in LINKS
+    ]
     by = {one.tag: one for one in it.entries}
     if it.name == "thumb" and 0x0201 in by and 0x0202 in by:
         found.append((True, by[0x0201].last, by[0x0202].last, by[0x0201].place + 8))
@@ -113,7 +122,9 @@ def _shared_values(block: bytes, walk: Walk) -> _Done:
         if any(one.at < it.next + 4 and it.at < one.next + 4 for one in walk.directories[:number]):
             return None  # directories that share bytes
     out, moved = bytearray(block), 0
-    for _, start, size, field in sorted((one for it in walk.directories for one in _values(walk, it)), key=lambda one: (one[0], one[3])):  # MakerNotes stay where they are
+    for _, start, size, field in sorted(
+        (one for it in walk.directories for one in _values(walk, it)), key=lambda one: (one[0], one[3])
+    ):  # MakerNotes stay where they are
         if start + size > len(block):
             continue
         if any(first < start + size and start < end for first, end in claimed):
@@ -140,7 +151,11 @@ def _directory_outside(block: bytes, walk: Walk) -> _Done:
     for it in walk.directories:
         for one in it.entries:
             if (it.name, one.tag) in LINKS and one.last not in starts:
-                return _without(block, walk, it, one.place), f"the pointer to the {_NAMES[LINKS[it.name, one.tag]]}, which isn't there, dropped", "a directory"
+                return (
+                    _without(block, walk, it, one.place),
+                    f"the pointer to the {_NAMES[LINKS[it.name, one.tag]]}, which isn't there, dropped",
+                    "a directory",
+                )
         if it.name == "main" and it.next + 4 <= len(block) and walk.four(it.next) not in starts | {0}:
             return _put(block, walk, it.next, 0), "the pointer to a thumbnail directory that isn't there dropped", "the thumbnail"
     return None
@@ -170,7 +185,11 @@ def _doubled(block: bytes, walk: Walk) -> _Done:
             other = by.setdefault(one.tag, one)
             if other is not one:
                 equal = value(one) == value(other)
-                what = "the second of two equal entries left out" if equal else f"the second of two different entries of tag {one.tag:04x} left out"
+                what = (
+                    "the second of two equal entries left out"
+                    if equal
+                    else f"the second of two different entries of tag {one.tag:04x} left out"
+                )
                 return _without(block, walk, it, one.place), what, "" if equal else "a value"
     return None
 
@@ -207,7 +226,11 @@ def _misplaced(block: bytes, walk: Walk) -> _Done:
     for it in walk.directories:
         for one in it.entries:
             if one.tag in _ROLES and (it.name, one.tag) not in _ALLOWED:
-                return _without(block, walk, it, one.place), f"the offset of tag {one.tag:04x} in the {_NAMES[it.name]} left out", "an offset"
+                return (
+                    _without(block, walk, it, one.place),
+                    f"the offset of tag {one.tag:04x} in the {_NAMES[it.name]} left out",
+                    "an offset",
+                )
     return None
 
 
@@ -226,7 +249,11 @@ def _thumbnail_outside(block: bytes, walk: Walk) -> _Done:
             continue
         start, size = by[0x0201].last, by[0x0202].last
         if start < len(block) < start + size:
-            return _put(block, walk, by[0x0202].place + 8, len(block) - start), "the thumbnail cut to what is there", "the end of the thumbnail"
+            return (
+                _put(block, walk, by[0x0202].place + 8, len(block) - start),
+                "the thumbnail cut to what is there",
+                "the end of the thumbnail",
+            )
         if start >= len(block):
             first = bytes(_without(block, walk, it, by[0x0201].place))
             inner = Walk(first)

@@ -177,7 +177,12 @@ def members(about: About) -> Iterator[Members]:
     states: "Counter[str]" = Counter(it.state for it in catalogue.pictures(about.table()))
     causes: "Counter[str]" = Counter(it.cause for it in _refused(about))
     without_proof = unproved(catalogue.runs())
-    yield {"pictures": sum(states.values()), "states": dict(states), "causes": dict(causes), **({"unproved": without_proof} if without_proof else {})}
+    yield {
+        "pictures": sum(states.values()),
+        "states": dict(states),
+        "causes": dict(causes),
+        **({"unproved": without_proof} if without_proof else {}),
+    }
     for group in groups.groups(catalogue, only=about.table(), look=about.look):
         wholly_read = not group.not_read and group.basis == groups.MEANING
         known = {"said": group.sentence(), "basis": group.basis, "same_bytes": group.same_bytes, "wholly_read": wholly_read}

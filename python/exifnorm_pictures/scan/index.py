@@ -141,7 +141,9 @@ def _is_unchanged(it: FoundFile, known: Optional[Known]) -> bool:
 def _worth_another(problem: Optional[str]) -> bool:
     """Whether a problem may be solved although the file is the same: rights, a program that was installed, a file that is back."""
     program = NEEDED.get(problem or "")
-    return problem in ("Unreadable", "ToolFailed", "TooSlow", "InternalError", "LinkToNothing", "NotAFile", *GONE) or (program is not None and programs.is_there(program))
+    return problem in ("Unreadable", "ToolFailed", "TooSlow", "InternalError", "LinkToNothing", "NotAFile", *GONE) or (
+        program is not None and programs.is_there(program)
+    )
 
 
 def _gone(names: Iterable[bytes], work: Work, catalogue: Catalogue) -> Tuple[List[PictureRecord], Departed]:

@@ -153,8 +153,6 @@ class CannotStart(programs.Failed):
     """No further process or thread can be started. The text is the reason."""
 
 
-
-
 class Task(NamedTuple):
     """Pictures for a process, and the file to which it writes their rows."""
 

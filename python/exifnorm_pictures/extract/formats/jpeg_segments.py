@@ -34,6 +34,7 @@ def is_not_compared(marker: int, data: bytes) -> bool:
     """
     return any(marker == number and data.startswith(head) for number, head, _ in NOT_COMPARED)
 
+
 # What follows a marker: nothing since it is none, a segment that is skipped, one that is kept, none, another FF, or the picture's data
 _NONE, _SKIPPED, _KEPT, _ALONE, _FILL, _LAST = range(6)
 _KINDS = bytearray([_SKIPPED]) * 256

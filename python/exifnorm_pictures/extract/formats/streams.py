@@ -19,9 +19,11 @@ HEAD = 1 << 15  # bytes of a file that are read at first
 class Stream(Protocol):
     """What a reader needs of a file that is open."""
 
-    def seek(self, at: int, whence: int = os.SEEK_SET, /) -> int: ...
+    def seek(self, at: int, whence: int = os.SEEK_SET, /) -> int:
+        ...
 
-    def read(self, length: int, /) -> bytes: ...
+    def read(self, length: int, /) -> bytes:
+        ...
 
 
 class File:

@@ -35,10 +35,9 @@ class Layout:
         self._tables = [table]
         for it in self._tables:  # which grows meanwhile
             self._tables += it.below.values()
-        self._parts = _joined([
-            place for it in self._tables for entry in it.entries
-            if entry.size > 4 and (place := directories.place_of(entry)) is not None
-        ])  # fmt: skip
+        self._parts = _joined(
+            [place for it in self._tables for entry in it.entries if entry.size > 4 and (place := directories.place_of(entry)) is not None]
+        )
         self._places: Dict[int, int] = {}
         self.length = 8
         for it in self._tables:
