@@ -1,15 +1,19 @@
-/* Calls a Python function while one of the allocations that Python makes fails. Built as a shared library, and called with Python's lock. */
+/* Calls a Python function while one of the allocations that Python makes fails. Built as a shared library, and called with Python's lock.
+
+Only allocations of the calling thread count: pytest-xdist has another one, which would lose its connection. */
 #define PY_SSIZE_T_CLEAN
 #include <Python.h>
+#include <pthread.h>
 
 /* Whether an allocation of the last call was refused. */
 int was_refused;
 /* How many allocations are made until the one that fails; 0: none fails. */
 static long left;
+static pthread_t caller;
 static PyMemAllocatorEx real[2];
 
 static int fails(void) {
-    return left > 0 && --left == 0;
+    return left > 0 && pthread_equal(pthread_self(), caller) && --left == 0;
 }
 
 static void *allocate(void *of, size_t size) {
@@ -42,6 +46,7 @@ PyObject *call_refused(PyObject *function, PyObject *argument, long number) {
         ours[it] = (PyMemAllocatorEx){&real[it], allocate, allocate_zeros, reallocate, release};
         PyMem_SetAllocator(domains[it], &ours[it]);
     }
+    caller = pthread_self();
     left = number;
     result = PyObject_CallFunctionObjArgs(function, argument, NULL);
     was_refused = left == 0;
