@@ -107,7 +107,9 @@ def test_a_choice_proves_nothing(gate):
 @pytest.mark.parametrize("signal_number", [signal.SIGINT, signal.SIGTERM, signal.SIGHUP])
 def test_a_stopped_run_leaves_no_process(gate, signal_number):
     put(gate, rt="(trap '' INT TERM; echo $$ >started; exec sleep 600) & sleep 600")
-    started = subprocess.Popen(["./test"], cwd=gate, env=environment(gate), stdin=subprocess.DEVNULL, stdout=subprocess.PIPE, text=True)
+    started = subprocess.Popen(
+        ["env", "--default-signal", "./test"], cwd=gate, env=environment(gate), stdin=subprocess.DEVNULL, stdout=subprocess.PIPE, text=True
+    )
     while not (gate / "started").exists():
         time.sleep(0.05)
     started.send_signal(signal_number)

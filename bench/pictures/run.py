@@ -22,7 +22,7 @@ from pathlib import Path
 from typing import Callable, Dict, Iterator, List, Optional, Sequence, Tuple
 
 TOP = Path(__file__).resolve().parent.parent.parent
-sys.path[:0] = [str(TOP / "tests" / "pictures"), str(TOP / "python")]
+sys.path[:0] = [str(TOP / "tests" / "pictures"), str(TOP / "tests" / "blocks"), str(TOP / "python")]
 sys.dont_write_bytecode = True
 
 import made_files as made
