@@ -424,7 +424,7 @@ class TestPicturesCommand:
 
     def test_takes_the_packages_that_were_installed_with_it(self, other: Tree, folder: Path) -> None:
         another = folder / "another"
-        (another / "exifnorm_pictures").mkdir(parents=True)
+        (another / "exifnorm_pictures/cli").mkdir(parents=True)
         (another / "exifnorm_pictures/__init__.py").touch()
         (another / "exifnorm_pictures/cli/__init__.py").touch()
         (another / "exifnorm_pictures/cli/main.py").write_text("def main():\n    print('another version')\n")

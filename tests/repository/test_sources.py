@@ -12,6 +12,7 @@ import sys
 from pathlib import Path
 
 import lowered
+from crates import below
 import pytest
 
 TOP = Path(__file__).resolve().parent.parent.parent
@@ -190,7 +191,7 @@ def test_each_library_is_read_as_it_was_compiled():
     if not built:
         pytest.skip("no library was built of these sources: call make first")
     uses = lowered.Crates.read(TOP).uses
-    assert [it for it in lowered.below("px_cli", uses) if it not in built] == []
+    assert [it for it in below("px_cli", uses) if it not in built] == []
 
 
 def test_only_listed_functions_make_memory_otherwise():
