@@ -323,10 +323,10 @@ def test_the_promised_memory_is_that_of_the_definitions() -> None:
     (least,) = defined("px_iim", r"iim_request n = item_bytes \* \(n / (\d+)\) \+ counter_bytes")
     each, more = defined("px_engine", r"file_request n = (\d+) \* n \+ (\d+) \+ block_request n")
     block, rest = fields + marks * mark / part + item / least, counters + marks * mark * most // part + 1
-    for name in ("docs/PROOFS.md", "SECURITY.md"):
-        assert f"{block + each:.2f} bytes for each byte" in text_of(name), name
-        assert f"{rest + more:,} more" in text_of(name), name
-    assert f"{block:.2f} bytes for each" in text_of("docs/PROOFS.md")
+    promised = [(f"{block:.2f}", f"{rest:,}"), (f"{block + each:.2f}", f"{rest + more:,}")]
+    pattern = r"requests at most ([\d.]+) bytes for each .*? and ([\d,]+) more"
+    found = {name: re.findall(pattern, text_of(name)) for name in ("docs/PROOFS.md", "SECURITY.md")}
+    assert (set(found["docs/PROOFS.md"]), found["SECURITY.md"]) == (set(promised), [promised[1]])
 
 
 def test_the_toolchain_of_the_documents_has_the_logic_of_this_one() -> None:
