@@ -85,6 +85,13 @@ class Documents(WithPictures):
         page = read(os.path.join(TOP, "docs", "RECIPES.md")).decode()
         self.assertIn(f"these segments of a JPEG: {', '.join(words for _, _, words in NOT_COMPARED)}.\n", page)
 
+    def test_the_formats(self):
+        """The page has the table of the readers."""
+        from exifnorm_pictures.extract import readers
+
+        page = read(os.path.join(TOP, "docs", "RECIPES.md")).decode()
+        self.assertIn(f"\n\n{readers.table()}\n", page)
+
     def test_examples_in_the_modules(self):
         for it in pkgutil.walk_packages(exifnorm_pictures.__path__, "exifnorm_pictures."):
             if not it.name.endswith("__main__"):

@@ -20,7 +20,7 @@ from made_files import chunk, exif, page, png, tiff, title
 from studio import SMALL_JPEG, TOP, WithPictures, needs, read, tool, write
 
 from exifnorm_pictures.cli import main, mend as mend_cli, report as report_cli, same
-from exifnorm_pictures.extract import exiftool, extraction, judge, programs
+from exifnorm_pictures.extract import exiftool, extraction, judge, programs, readers
 from exifnorm_pictures.fields import labels, listing, names
 from exifnorm_pictures.refusals import explain, mend
 from exifnorm_pictures.report import contents, page as report
@@ -184,9 +184,9 @@ class Indexed(WithPictures):
 class Extracted(WithPictures):
     def test_raw_files_by_their_names(self):
         for name in (b"a.NEF", b"a.dng", b"A.Cr2", b"/x.y/a.ARW"):
-            self.assertIsNotNone(extraction._RAW_NAME.search(name), name)
+            self.assertIsNotNone(readers._RAW_NAME.search(name), name)
         for name in (b"a.tif", b"nef", b"a.nef.tif", b"a.nef\n", b"anef"):
-            self.assertIsNone(extraction._RAW_NAME.search(name), name)
+            self.assertIsNone(readers._RAW_NAME.search(name), name)
 
     def test_what_exiftool_does_not_extract_has_a_digest(self):
         """Up to a length, and with --whole at any length."""

@@ -10,7 +10,7 @@ from unittest import mock
 
 from studio import WithPictures, write
 
-from exifnorm_pictures.extract import exiftool, extraction, programs
+from exifnorm_pictures.extract import exiftool, extraction, programs, readers
 from exifnorm_pictures.extract.formats.found import PROBLEMS, Blocks, LeftToOthers, NotRead
 
 ASKED = ("-EXIF:Exif", "-IPTC:IPTC", "-XMP:XMP", "-FileType#", "-MIMEType#", "-Error#")
@@ -62,8 +62,8 @@ class Answers(unittest.TestCase):
         """In letters of either kind; files in the structure of TIFF with another name are read here."""
         for it in RAW[1:]:
             for name in (it, it.lower()):
-                self.assertIsNotNone(extraction._RAW_NAME.search(f"/a.b/c.{name}".encode()), name)
-                self.assertIsNone(extraction._RAW_NAME.search(f"/a.b/c.{name[:-1]}".encode()), name)
+                self.assertIsNotNone(readers._RAW_NAME.search(f"/a.b/c.{name}".encode()), name)
+                self.assertIsNone(readers._RAW_NAME.search(f"/a.b/c.{name[:-1]}".encode()), name)
         for name, head, is_left in (
             ("c.nef", b"II*\0", True),
             ("c.gif", b"GIF8", True),

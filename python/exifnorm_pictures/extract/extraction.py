@@ -4,16 +4,15 @@ from __future__ import annotations
 
 import errno
 import os
-import re
 
 from ..cli import signals
 from ..cli.output import described
 from ..files import opening
 from .budgets import Budget, TooMuch
 from .exiftool import add_trailers, by_others
-from .formats import jpeg, png, tiff, webp
 from .formats.found import PROBLEMS, Blocks, Broken, LeftToOthers
 from .formats.streams import File
+from .readers import HEAD, reader_of
 
 
 def blocks_of(path: bytes, whole: bool = False) -> Blocks:
@@ -59,20 +58,9 @@ def too_much(why: TooMuch) -> Blocks:
     return Blocks(problem="TooMuch", detail=str(why))
 
 
-_RAW_NAME = re.compile(rb"\.(dng|nef|nrw|cr2|arw|arq|sr2|srf|srw|orf|pef|rw2|rwl|3fr|iiq|erf|mef|mos|dcr|kdc|k25|gpr|fff|raw)\Z", re.I)
-
-
 def _read(stream: File, path: bytes, whole: bool) -> Blocks:
     """Reads a file by the reader of its format, which its first bytes show. Raises `Broken` and `LeftToOthers`."""
-    head = stream.read(12)
-    if head.startswith(jpeg.START):
-        return jpeg.read(stream, whole)
-    if head.startswith(png.START):
-        return png.read(stream, whole)
-    if webp.is_webp(head):
-        return webp.read(stream, whole)
-    if head[:4] in tiff.BIG_HEADS:
-        return tiff.read_big(stream, whole)
-    if head[:4] in tiff.HEADS and not _RAW_NAME.search(path):
-        return tiff.read(stream, whole)
-    raise LeftToOthers("")
+    read = reader_of(stream.read(HEAD), path)
+    if read is None:
+        raise LeftToOthers("")
+    return read(stream, whole)
