@@ -1,7 +1,7 @@
 """The lowered code (MIR) of functions, which a build leaves in out/proved beside each library.
 
-test_sources.py finds in it which functions only call their `_in` variant, which make memory, and which call what may
-allocate. Programs and static libraries are built without such a file.
+test_sources.py finds in it which functions only call their `_in` variant, which make memory or call what makes it, and which
+call what may allocate. Programs and static libraries are built without such a file.
 """
 
 from __future__ import annotations
@@ -144,6 +144,21 @@ def with_variant(found: dict[str, Function]) -> list[str]:
 def makers(found: dict[str, Function]) -> list[str]:
     """The functions that make memory. A closure belongs to its function."""
     return sorted({name.partition("::fn::")[0] for name, it in found.items() if any(callee(step) in MAKES for step in steps(it["body"]))})
+
+
+def callers(found: dict[str, Function], called: set[str]) -> dict[str, set[str]]:
+    """Which of some functions each function calls. A closure belongs to its function.
+
+    >>> call = lambda name: {"Call": [{"Fn": [name, {}]}, [], {"local": 0, "steps": []}]}
+    >>> found = {"a::read_in": {"body": [call("b::Record::push"), "Return"]}, "a::b": {"body": [call("b::Record::push_in"), "Return"]}}
+    >>> callers({**found, "a::c::fn::all": {"body": [[call("b::read")]]}}, {"b::Record::push", "b::read"})
+    {'a::read_in': {'b::Record::push'}, 'a::c': {'b::read'}}
+    """
+    calls: dict[str, set[str]] = {}
+    for name, function in found.items():
+        for it in called & {callee(step) for step in steps(function["body"])}:
+            calls.setdefault(name.partition("::fn::")[0], set()).add(it)
+    return calls
 
 
 def allocating(found: dict[str, Function]) -> dict[str, set[str]]:

@@ -100,8 +100,8 @@ MAKERS = {
 
 # A text that calls what allocates, other than a call of `Memory`.
 ALLOCATES = re.compile(
-    r"\b(?:Arc|Arg|BTreeMap|Box|Command|Rc|String|Vec)::|\b(?:format|vec)!|\.(?:clone|collect|to_owned|to_string|to_vec)\(|"
-    r"\.(?:subcommand\(\w|try_get_matches_from\()|"
+    r"\b(?:Arc|Arg|BinaryHeap|BTreeMap|BTreeSet|Box|Command|HashMap|HashSet|Rc|String|Vec|VecDeque)::|\b(?:format|vec)!|"
+    r"\.(?:append|clone|collect|extend|into|to_owned|to_string|to_vec)\(|\.(?:subcommand\(\w|try_get_matches_from\()|"
     r"(?<!\bmemory)\.(?:extend_from_slice|insert|push|push_str|reserve|reserve_exact|resize)\((?!memory\b)"
 )
 
@@ -208,6 +208,22 @@ def test_only_listed_functions_make_memory_otherwise():
                 if MAKES.search(body) and not is_one_line(name.removeprefix("exifnorm_"), names_of(parameters), body)
             }
     assert makers == MAKERS
+
+
+def test_no_function_calls_one_with_memory_of_its_own():
+    """What that call requests would be counted in no memory of the caller, and so in no clause. In the program and the C library it is
+    found by the name of the call, unless it is a method's."""
+    libraries = {crate: lowered.functions(crate) for crate, _ in crates()}
+    with_own = {it for compiled in libraries.values() if compiled for it in lowered.with_variant(compiled)}
+    plain = sorted(it.rpartition("::")[2] for it in with_own if not re.search(r"::[A-Z]", it))
+    named = re.compile(rf"(?<![.\w])(?:{'|'.join(plain)})\(")
+    found = {}
+    for crate, functions_of in crates():
+        if libraries[crate]:
+            found.update(lowered.callers(libraries[crate], with_own))
+        elif crate != "px_calls" and with_own:
+            found.update({f"{path}: {name}": call for path, name, _, _, body in functions_of if (call := named.findall(body))})
+    assert found == {}
 
 
 def growers():
