@@ -86,11 +86,12 @@ class Documents(WithPictures):
         self.assertIn(f"these segments of a JPEG: {', '.join(words for _, _, words in NOT_COMPARED)}.\n", page)
 
     def test_the_formats(self):
-        """The page has the table of the readers."""
+        """The page has the tables of the readers."""
         from exifnorm_pictures.extract import readers
 
         page = read(os.path.join(TOP, "docs", "RECIPES.md")).decode()
-        self.assertIn(f"\n\n{readers.table()}\n", page)
+        for it in (readers.table(), readers.table_of_parts()):
+            self.assertTrue(f"\n\n{it}\n" in page, f"RECIPES has another table than\n{it}")
 
     def test_examples_in_the_modules(self):
         for it in pkgutil.walk_packages(exifnorm_pictures.__path__, "exifnorm_pictures."):

@@ -1,6 +1,6 @@
-"""The formats that are read here: how a file of each begins, its reader, and where its blocks are.
+"""The formats that are read here: how a file of each begins, its reader, where its blocks are, and what else it has.
 
-The table in docs/RECIPES.md is made of `FORMATS`.
+The tables in docs/RECIPES.md are made of `FORMATS`.
 """
 
 from __future__ import annotations
@@ -28,6 +28,9 @@ class Format(NamedTuple):
     exif: str  # where it has its blocks, for people
     iptc: str
     xmp: str
+    by_bytes: str = ""  # parts that are named, and compared by their bytes
+    not_read: str = ""  # parts with which a file is never the same as another
+    not_compared: str = ""  # parts without Exif, IPTC and XMP
 
 
 def _is_tiff(head: bytes, path: bytes) -> bool:
@@ -42,6 +45,9 @@ FORMATS: Tuple[Format, ...] = (
         "APP1, also split over segments; Photoshop resource 0422",
         "resource 0404 in all APP13 segments",
         "APP1, with extended XMP; resource 0424",
+        "trailers, other segments of applications, a second picture after the first, resource 0423",
+        "a part after the first scan that isn't followed",
+        "pixels, comments, other resources, the segments below",
     ),
     Format(
         "PNG",
@@ -50,6 +56,9 @@ FORMATS: Tuple[Format, ...] = (
         "eXIf; raw profiles `exif` and `APP1`",
         "raw profiles `iptc` and `8bim`",
         "iTXt; raw profiles `xmp` and `APP1`",
+        "trailers, zxIf, raw profiles of other kinds, texts that can't be inflated",
+        "",
+        "pixels, texts with other keywords, ICC profiles",
     ),
     Format(
         "WebP",
@@ -58,6 +67,9 @@ FORMATS: Tuple[Format, ...] = (
         "EXIF, with or without `Exif` before it",
         "",
         "XMP, also with a zero byte in its name",
+        "trailers, chunks of unknown kinds",
+        "",
+        "pixels, ICC profiles",
     ),
     Format(
         "TIFF",
@@ -66,6 +78,9 @@ FORMATS: Tuple[Format, ...] = (
         "each page and each SubIFD",
         "tag 83bb; resource 0404",
         "tag 02bc; resource 0424",
+        "trailers, Photoshop's layers, bytes that only a MakerNote can reach",
+        "directories of Kodak and Leaf, GlobalParametersIFD",
+        "pixels and where they are, other resources",
     ),
     Format("BigTIFF", lambda head, _: head[:4] in tiff.BIG_HEADS, tiff.read_big, "not read", "not read", "not read"),
 )
@@ -77,8 +92,23 @@ def reader_of(head: bytes, path: bytes) -> Optional[Read]:
     return next((it.read for it in FORMATS if it.is_of(head, path)), None)
 
 
+def _lines(*rows: Tuple[str, ...]) -> str:
+    lines = ("| " + " | ".join(it) + " |\n" for it in (rows[0], ("---",) * len(rows[0]), *rows[1:]))
+    return "".join(it.replace("|  |", "| |").replace("|  |", "| |") for it in lines).replace(
+        "| --- | --- | --- | --- |", "|---|---|---|---|"
+    )
+
+
 def table() -> str:
-    """The table for docs/RECIPES.md."""
-    rows = [("Format", "Exif", "IPTC", "XMP"), ("---",) * 4, *((it.name, it.exif, it.iptc, it.xmp) for it in FORMATS), _OTHERS]
-    lines = ("| " + " | ".join(it) + " |" for it in rows)
-    return "".join(line.replace("|  |", "| |") + "\n" for line in lines).replace("| --- | --- | --- | --- |", "|---|---|---|---|")
+    """The table of blocks for docs/RECIPES.md."""
+    return _lines(("Format", "Exif", "IPTC", "XMP"), *((it.name, it.exif, it.iptc, it.xmp) for it in FORMATS), _OTHERS)
+
+
+def table_of_parts() -> str:
+    """The table of other parts for docs/RECIPES.md."""
+    rows = ((it.name, it.by_bytes, it.not_read, it.not_compared) for it in FORMATS)
+    return _lines(("Format", "Compared by its bytes", "Not read, so never the same", "Not compared"), *(it for it in rows if any(it[1:])))
+
+
+if __name__ == "__main__":
+    print(table(), table_of_parts(), sep="\n", end="")
