@@ -20,7 +20,7 @@ from made_files import chunk, exif, page, png, tiff, title
 from studio import SMALL_JPEG, TOP, WithPictures, needs, read, tool, write
 
 from exifnorm_pictures.cli import main, mend as mend_cli, report as report_cli, same
-from exifnorm_pictures.extract import exiftool, extraction, judge, programs, readers
+from exifnorm_pictures.extract import exiftool, judge, programs, readers
 from exifnorm_pictures.fields import labels, listing, names
 from exifnorm_pictures.refusals import explain, mend
 from exifnorm_pictures.report import contents, page as report
