@@ -1,7 +1,7 @@
 """The catalogue: a SQLite file with the results for each picture.
 
-A catalogue is written in transactions of many pictures, with a write-ahead log: committed pictures stay if the program is
-killed. Any SQLite tool can read the tables. A file is only written to if its header is a catalogue's.
+A catalogue is written in transactions of many pictures, with a write-ahead log, or on a network share with a journal: committed pictures
+stay if the program is killed. Any SQLite tool can read the tables. A file is only written to if its header is a catalogue's.
 """
 
 from __future__ import annotations
@@ -19,7 +19,7 @@ from ..cli import signals
 from ..cli.signals import Failure
 from ..extract.budgets import ROW_BYTES, STEPS
 from ..extract.formats.found import NotRead
-from ..files import opening as files
+from ..files import mounts, opening as files
 from .records import Damaged, Picture, PictureRecord, Stamp, digests, has, not_read_of_row, picture_of_row
 
 APPLICATION = 0x45584E50  # 'EXNP', which distinguishes a catalogue from other SQLite files
@@ -283,7 +283,7 @@ class Catalogue:
                 self.base.execute(statement)
         check_schema(self.base, self.name)
         self.base.execute("COMMIT")
-        self.base.execute("PRAGMA journal_mode = WAL")
+        self.base.execute(f"PRAGMA journal_mode = {'DELETE' if mounts.is_on_network(self.name) else 'WAL'}")
         self.base.execute("PRAGMA synchronous = FULL")
         self.base.execute(f"PRAGMA cache_size = -{CACHE}")
 
