@@ -64,6 +64,11 @@ def app13(*resources):
     return segment(0xED, RESOURCES_HEAD + b"".join(resources))
 
 
+def with_record(octets):
+    """The segment with an IPTC record."""
+    return app13(resource(0x0404, octets))
+
+
 def extension(packet, size=100, name=None):
     """Extended XMP in pieces, and the name by which a main packet asks for it."""
     name = name or hashlib.md5(packet).hexdigest().upper().encode()
@@ -185,5 +190,9 @@ def turned(octets):
     return found + bytes(4)
 
 
-# What title("one") means, in other bytes
+# Two blocks of each kind that mean different things
+A, B = exif(b"Abc"), exif(b"Xyz")
+K, L = iim(b"one"), iim(b"two")
+T, U = title("one"), title("two")
+# What T means, in other bytes
 T_OTHERWISE = xmp("", "dc:format='one'", "x:xmptk='another toolkit'") + b" " * 50

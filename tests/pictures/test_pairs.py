@@ -12,28 +12,8 @@ import threading
 import zlib
 
 from made_blocks import ASCII, LONG, BLOCKS, block, entry, segment
-from made_files import (
-    T_OTHERWISE,
-    app1,
-    app1_xmp,
-    app13,
-    chunk,
-    exif,
-    extension,
-    iim,
-    jpeg,
-    mpf,
-    page,
-    png,
-    png_xmp,
-    profile,
-    resource,
-    tiff,
-    title,
-    turned,
-    webp,
-    xmp,
-)
+from made_files import A, B, K, L, T, T_OTHERWISE, U, iim, title, turned, xmp
+from made_files import app1, app13, app1_xmp, chunk, extension, jpeg, mpf, page, png, png_xmp, profile, resource, tiff, webp
 from studio import SMALL_JPEG, WithPictures, needs, run, tool, write
 
 _ASKED = threading.Lock()  # of one ExifTool in this process
@@ -49,11 +29,6 @@ def sides(path, whole=False):
     assert not blocks.problem, (blocks.problem, blocks.detail)
     judged = judge.judge_all(blocks)
     return {kind: verdicts.side(kind, judged) for kind in verdicts.NAMES}, blocks.not_read
-
-
-A, B = exif(b"Abc"), exif(b"Xyz")
-K, L = iim(b"one"), iim(b"two")
-T, U = title("one"), title("two")
 
 
 class Pairs(WithPictures):

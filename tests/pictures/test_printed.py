@@ -6,27 +6,22 @@ from unittest import mock
 
 from in_process import InProcess
 from made_blocks import BLOCKS
-from made_files import app1, app1_xmp, app13, exif, iim, jpeg, png, png_xmp, resource, title
+from made_files import A, B, K, L, T, app1, app1_xmp, jpeg, png, png_xmp, with_record
 from studio import SMALL_JPEG, write
 
 from exifnorm_pictures.extract import programs
 
-A, B, ONE, TWO = exif(b"Abc"), exif(b"Xyz"), iim(b"one"), iim(b"two")
 REST = b"rest"  # after the end of a picture
-PACKET, NO_RDF = title("one"), b"<x:xmpmeta xmlns:x='adobe:ns:meta/'/>"
+NO_RDF = b"<x:xmpmeta xmlns:x='adobe:ns:meta/'/>"
 QUIET = ("--catalogue", "@/c", "--jobs", "1", "--quiet")
-
-
-def with_record(octets):
-    return app13(resource(0x0404, octets))
 
 
 def make_folder(folder):
     for name, octets in (
-        ("a.jpg", jpeg(app1(A), with_record(ONE))),
-        ("b.jpg", jpeg(app1(A), with_record(ONE))),
-        ("c.jpg", jpeg(app1(BLOCKS["Doubled"]), with_record(TWO))),
-        ("d.png", png(png_xmp(PACKET))),
+        ("a.jpg", jpeg(app1(A), with_record(K))),
+        ("b.jpg", jpeg(app1(A), with_record(K))),
+        ("c.jpg", jpeg(app1(BLOCKS["Doubled"]), with_record(L))),
+        ("d.png", png(png_xmp(T))),
         ("e.jpg", SMALL_JPEG),
         ("f.jpg", SMALL_JPEG + REST),
         ("j\n.jpg", jpeg(app1_xmp(NO_RDF))),
@@ -73,9 +68,9 @@ class Commands(InProcess):
     def test_changed(self):
         shutil.copytree(self.path("p"), self.path("q"))
         for name in ("a.jpg", "b.jpg"):
-            write(self.path("q", name), jpeg(app1(B), with_record(ONE)))
-        write(self.path("q", "c.jpg"), jpeg(app1(BLOCKS["Overlap"]), with_record(TWO)))
-        write(self.path("q", "e.jpg"), jpeg(with_record(TWO)))
+            write(self.path("q", name), jpeg(app1(B), with_record(K)))
+        write(self.path("q", "c.jpg"), jpeg(app1(BLOCKS["Overlap"]), with_record(L)))
+        write(self.path("q", "e.jpg"), jpeg(with_record(L)))
         write(self.path("q", "s", "g.jpg"), jpeg(app1(A)) + b"other")
         os.remove(self.path("q", "f.jpg"))
         write(self.path("q", "new.jpg"), SMALL_JPEG)
@@ -92,7 +87,7 @@ class Commands(InProcess):
 
     def test_show(self):
         names = self.named("a.jpg", "c.jpg", "d.png", "e.jpg", "f.jpg", "j\n.jpg", "nothing.jpg", "a.jpg")
-        write(self.path("block"), ONE)
+        write(self.path("block"), K)
         self.golden(
             "show.txt",
             self.transcript(
@@ -107,7 +102,7 @@ class Commands(InProcess):
         """A caption can't control a terminal; what is guessed says so."""
         write(
             self.path("p", "a.jpg"),
-            jpeg(app1(A), with_record(ONE + b"\x1c\2\x78\0\5a\x1bb\xfc\n" + b"\x1c\2\x50\0\2\xc3\xbc"), app1_xmp(PACKET)),
+            jpeg(app1(A), with_record(K + b"\x1c\2\x78\0\5a\x1bb\xfc\n" + b"\x1c\2\x50\0\2\xc3\xbc"), app1_xmp(T)),
         )
         self.golden(
             "captions.txt",

@@ -15,29 +15,8 @@ from unittest import mock
 import exifnorm
 from in_process import InProcess
 from made_blocks import ASCII, BLOCKS, LONG, UNDEFINED, block, entry, segment, table
-from made_files import (
-    T_OTHERWISE,
-    XMP_HEAD,
-    app1,
-    app1_xmp,
-    app13,
-    chunk,
-    exif,
-    extension,
-    iim,
-    jpeg,
-    mpf,
-    page,
-    png,
-    png_xmp,
-    profile,
-    resource,
-    tiff,
-    title,
-    turned,
-    webp,
-    xmp,
-)
+from made_files import A, B, K, L, T, T_OTHERWISE, U, XMP_HEAD, turned, xmp
+from made_files import app1, app13, app1_xmp, chunk, extension, jpeg, mpf, page, png, png_xmp, profile, resource, tiff, webp, with_record
 from studio import SMALL_JPEG, needs, read, run, write
 
 from exifnorm_pictures.cli import changed as states, mend as mend_cli
@@ -45,8 +24,6 @@ from exifnorm_pictures.refusals import mend
 from exifnorm_pictures.scan import batches, index
 from exifnorm_pictures.extract.formats import jpeg_tail
 
-A, B, ONE, TWO = exif(b"Abc"), exif(b"Xyz"), iim(b"one"), iim(b"two")
-T, U = title("one"), title("two")
 DOUBLED = BLOCKS["Doubled"]
 OUTSIDE = re.compile(r"<script|<link|(?:src|href)=.(?!data:)")  # what a page runs, or loads from elsewhere
 MANY = b"\x11" * 100_000  # picture data that is longer than the tail
@@ -54,10 +31,6 @@ MANY = b"\x11" * 100_000  # picture data that is longer than the tail
 
 def sha256(octets):
     return hashlib.sha256(octets).hexdigest()
-
-
-def with_record(octets):
-    return app13(resource(0x0404, octets))
 
 
 def with_packet(octets):
@@ -117,10 +90,10 @@ class WhatIsCompared(Promises):
         self.assertEqual(self.result(jpeg(app1(A)), jpeg(app1(A), base=other_pixels)), "same")
 
     def test_each_kind_by_itself(self):
-        both = jpeg(app1(A), with_record(ONE))
-        self.assertEqual(self.kinds(both, jpeg(app1(B), with_record(ONE)), 1), "different same absent")
-        self.assertEqual(self.kinds(both, jpeg(app1(DOUBLED), with_record(ONE), app1_xmp(b"<x")), 2), "refused same unreadable")
-        hidden = self.compared(*(jpeg(app1(DOUBLED), with_record(it)) for it in (ONE, TWO)), status=1)
+        both = jpeg(app1(A), with_record(K))
+        self.assertEqual(self.kinds(both, jpeg(app1(B), with_record(K)), 1), "different same absent")
+        self.assertEqual(self.kinds(both, jpeg(app1(DOUBLED), with_record(K), app1_xmp(b"<x")), 2), "refused same unreadable")
+        hidden = self.compared(*(jpeg(app1(DOUBLED), with_record(it)) for it in (K, L)), status=1)
         self.assertEqual((hidden["result"], hidden["kinds"]["iptc"]), ("different", "different"))
 
     def test_parts_that_are_not_read(self):
@@ -194,7 +167,7 @@ class WhatIsCompared(Promises):
                 lambda it: tiff(page((0x014A, LONG, page((0x010F, ASCII, it[-8:-4]))))),
             ],
             "iptc": [
-                lambda it: jpeg(with_record(ONE), app1(A), with_record(it)),
+                lambda it: jpeg(with_record(K), app1(A), with_record(it)),
                 lambda it: png(profile(b"iptc", it)),
                 lambda it: png(profile(b"8bim", resource(0x0404, it))),
                 lambda it: tiff(page((0x83BB, UNDEFINED, it))),
@@ -213,7 +186,7 @@ class WhatIsCompared(Promises):
                 lambda it: tiff(page((0x8649, UNDEFINED, resource(0x0424, it)))),
             ],
         }
-        for kind, pair in (("exif", (A, B)), ("iptc", (ONE, TWO)), ("xmp", (T, U))):
+        for kind, pair in (("exif", (A, B)), ("iptc", (K, L)), ("xmp", (T, U))):
             for number, make in enumerate(places[kind]):
                 found = self.compared(*map(make, pair), status=1)["kinds"]
                 self.assertEqual([name for name, it in found.items() if it == "different"], [kind], number)
@@ -338,7 +311,7 @@ class Catalogues(Promises):
         self.assertEqual((counts, sorted(seen)), ([1, 2, 1, 1], ["c", "c-shm", "c-wal", "p"]))
 
     def test_same(self):
-        record = with_record(ONE)
+        record = with_record(K)
         self.files(
             "p",
             a=jpeg(app1(A), record),
@@ -404,7 +377,7 @@ class Catalogues(Promises):
 
 class Pictures(Promises):
     def test_show_and_captions(self):
-        captions = ONE + b"\x1c\2\x78\0\4Vase" + b"\x1c\2\x50\0\3Lee" + b"\x1c\2\x74\0\4Mine"
+        captions = K + b"\x1c\2\x78\0\4Vase" + b"\x1c\2\x50\0\3Lee" + b"\x1c\2\x74\0\4Mine"
         self.files("p", a=jpeg(app1(block([entry(0x013B, ASCII, 4, b"Ann\0")])), with_record(captions)))
         fields = [field["name"] for it in self.objects("show", "@/p/a.jpg") for field in it["fields"]]
         self.assertEqual(fields, ["main:Artist", "iptc:Keywords", "iptc:By-line", "iptc:CopyrightNotice", "iptc:CaptionAbstract"])
@@ -429,7 +402,7 @@ class Pictures(Promises):
     @needs("exiftool")
     def test_a_plain_copy(self):
         """Of an accepted picture `mend` makes one, with its mode and times."""
-        self.files("p", a=jpeg(with_record(ONE)))
+        self.files("p", a=jpeg(with_record(K)))
         os.chmod(self.path("p", "a.jpg"), 0o640)
         os.utime(self.path("p", "a.jpg"), ns=(10**18, 10**18))
         self.printed("mend", "@/p/a.jpg", "@/copy.jpg")
@@ -454,7 +427,7 @@ class Pictures(Promises):
 
     def test_names_for_changed(self):
         """Paths below the folder, or whole ones; from standard input, too."""
-        for folder, octets in (("p", ONE), ("q", TWO)):
+        for folder, octets in (("p", K), ("q", L)):
             self.files(folder, a=jpeg(with_record(octets)), b=jpeg(with_record(octets)))
         for name in ("a.jpg", self.path("p", "a.jpg")):
             lines = self.asked("changed", "p", "q", "--files-from", "-", "--json", given=os.fsencode(f"{name}\n"), status=1)
@@ -522,12 +495,12 @@ class Pictures(Promises):
     def test_no_picture_is_modified(self):
         self.files(
             "p",
-            a=jpeg(app1(A), with_record(ONE), app1_xmp(T)),
-            b=jpeg(app1(turned(A)), with_record(ONE + b"\0"), app1_xmp(T_OTHERWISE)),
+            a=jpeg(app1(A), with_record(K), app1_xmp(T)),
+            b=jpeg(app1(turned(A)), with_record(K + b"\0"), app1_xmp(T_OTHERWISE)),
             c=jpeg(app1(DOUBLED)),
         )
         shutil.copytree(self.path("p"), self.path("later"))
-        write(self.path("later", "a.jpg"), jpeg(app1(B), with_record(ONE), app1_xmp(T)))
+        write(self.path("later", "a.jpg"), jpeg(app1(B), with_record(K), app1_xmp(T)))
         before = self.marks("p")
         self.index("@/p")
         (group,) = self.objects("same", "--catalogue", "@/c")

@@ -8,45 +8,17 @@ import unittest
 import zlib
 from unittest import mock
 
+from in_memory import found_in
 from made_blocks import ASCII, LONG, SHORT, segment
-from made_files import (
-    EXTENSION_HEAD,
-    app1,
-    app1_xmp,
-    app13,
-    chunk,
-    exif,
-    extension,
-    iim,
-    jpeg,
-    mpf,
-    page,
-    png,
-    png_xmp,
-    profile,
-    resource,
-    tiff,
-    title,
-    webp,
-)
+from made_files import A, B, EXTENSION_HEAD, K, L, T, U
+from made_files import app1, app13, app1_xmp, chunk, extension, jpeg, mpf, page, png, png_xmp, profile, resource, tiff, webp
 from studio import SMALL_JPEG
 
 from exifnorm_pictures.extract import budgets
-from exifnorm_pictures.extract.formats import jpeg as jpeg_, mpf as mpf_, png as png_, tiff as tiff_, webp as webp_
+from exifnorm_pictures.extract.formats import jpeg as jpeg_, mpf as mpf_, tiff as tiff_
 from exifnorm_pictures.extract.formats.found import PROBLEMS, Blocks, Broken, LeftToOthers, ordinal
 
-A, B, K, L, T, U = exif(b"Abc"), exif(b"Xyz"), iim(b"one"), iim(b"two"), title("one"), title("two")
 MIN = b"\xff\xd8\xff\xda\0\2\xff\xd9"  # a JPEG of one scan without data
-
-
-def found_in(octets, whole=False):
-    if octets[:2] == b"\xff\xd8":
-        reader = jpeg_
-    elif octets[:4] == b"\x89PNG":
-        reader = png_
-    else:
-        reader = webp_ if octets[:4] == b"RIFF" else tiff_
-    return reader.read(io.BytesIO(octets), whole)
 
 
 def left(*parts):
