@@ -1,5 +1,5 @@
-"""Every command in docs/RECIPES.md and docs/REFUSALS.md is run, and the examples of README.md and of the manual pages. The page of refusals
-is that of the program's own texts, and the manual page has each option."""
+"""The examples of the manual pages of the commands, with what they print, and those in the modules. The page of refusals is that of the
+program's own texts, and the manual page has each option and status."""
 
 import doctest
 import hashlib
@@ -15,56 +15,10 @@ from exifnorm_pictures.cli import parser
 from exifnorm_pictures.refusals import causes
 from made_blocks import BLOCKS
 from made_files import app1, exif, jpeg, turned
-from studio import MODULES, PROGRAMS, SMALL_JPEG, TOP, Studio, WithPictures, collection, interpreter_with, needs, read, run, tool, write
-
-# What a section needs besides ExifTool and the folder of pictures.
-WORDS = {"exiv2": "exiv2", "parallel": "parallel", "sqlite3": "sqlite3", "perl": "perl", "dask_scheduler": "distributed"}
-
-
-def sections(name):
-    """The fenced blocks of commands of each section."""
-    text = read(os.path.join(TOP, "docs", name)).decode()
-    for part in re.split(r"(?m)^## ", text)[1:]:
-        blocks = re.findall(r"(?ms)^```sh\n(.*?)^```$", part)
-        if blocks:
-            yield part.split("\n", 1)[0], blocks
+from studio import SMALL_JPEG, TOP, Studio, WithPictures, needs, read, run, tool, write
 
 
 class Documents(WithPictures):
-    def run_page(self, name):
-        lacking = []
-        for title, blocks in sections(name):
-            text = "\n".join(blocks)
-            needed = [it for word, it in WORDS.items() if re.search(rf"\b{re.escape(word)}\b", text)]
-            missing = [it for it in needed if not (interpreter_with(it) if it in MODULES else shutil.which(it))]
-            if missing:
-                packages = ", ".join({**PROGRAMS, **MODULES}[it] for it in missing)
-                lacking.append(f"section '{title}' (packages {packages})")
-                continue
-            with self.subTest(title):
-                self.run_section(blocks)
-        if lacking:
-            self.skipTest("not installed: " + "; ".join(lacking))
-
-    def run_section(self, blocks):
-        folder = os.path.join(self.folder, "section")
-        shutil.copytree(collection(), folder)
-        try:
-            for text in blocks:
-                words = ["bash", "-e", "-u", "-o", "pipefail", "-c", text]
-                done = subprocess.run(words, cwd=folder, capture_output=True, env=Studio.environment(HOME=self.folder), timeout=600)
-                self.assertEqual(done.returncode, 0, f"{text}\n{done.stdout.decode()}\n{done.stderr.decode()}")
-        finally:
-            shutil.rmtree(folder)
-
-    @needs("exiftool")
-    def test_recipes(self):
-        self.run_page("RECIPES.md")
-
-    @needs("exiftool")
-    def test_refusals(self):
-        self.run_page("REFUSALS.md")
-
     def make_two_folders(self, before, after):
         """Three pictures with an Exif block, and copies of them, of which one is edited."""
         os.mkdir(os.path.join(self.folder, before))

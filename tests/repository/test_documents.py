@@ -1,13 +1,12 @@
 """Runs the examples of the documents and manual pages, and compares their lists with the programs and the sources.
 
-A section is run in a folder with pictures and blocks, and with the built commands on the PATH. Its fenced blocks are run in their order:
+A section is run in a folder with pictures, and with the built commands on the PATH. Its fenced blocks are run in their order:
 `sh` as a script, which succeeds; of `console` each line `$ COMMAND`, which prints the lines below it; `c` is compiled and run, and `python`
 is run. A block of `text` that follows is the end of what was printed.
 """
 
 from __future__ import annotations
 
-import json
 import os
 import re
 import shutil
@@ -19,7 +18,6 @@ from typing import Iterator, NamedTuple
 import exifnorm
 import header
 import pytest
-from blocks import Blocks
 from made_blocks import BLOCKS, with_exif
 
 TOP = Path(__file__).resolve().parent.parent.parent
@@ -27,15 +25,6 @@ DOCUMENTS = sorted([*TOP.glob("*.md"), *TOP.glob("docs/*.md"), *TOP.glob("*/READ
 WHOLE = ("README.md", "docs/TUTORIAL.md")  # whose sections build on one another
 BY_SECTION = ("docs/RECIPES.md", "docs/REFUSALS.md")
 HEADER = "crates/px_c/include/exifnorm.h"
-# the blocks of the examples, by their names in tests/program/cases/blocks.json
-EXAMPLES = {
-    "one.exif": "ASCII before its directory",
-    "other.exif": "ASCII at an even offset, least first",
-    "before": "ASCII before its directory",
-    "after.exif": "ASCII at an even offset, least first",
-    "caption.iim": "five labelled DataSets",
-    "broken.exif": "one SHORT that leads on to itself",
-}
 TOOLS = ("exiftool", "exiv2", "convert", "parallel", "sqlite3", "perl")
 STRICT = ("-std=c99", "-Wall", "-Wextra", "-pedantic", "-Werror")
 COMPARES = re.compile(r"\bexifnorm(?:-pictures)? (?:changed|compare)\b[^|&]*\Z")  # a last command that may end with status 1
@@ -66,14 +55,6 @@ def sections() -> Iterator[object]:
             for part in parts:
                 if blocks := list(fenced(part)):
                     yield pytest.param(name, blocks, id=f"{name}: {part.partition(chr(10))[0]}")
-
-
-def of_manual(name: str) -> list[Block]:
-    """The examples of a manual page."""
-    text = text_of(name).partition(".SH EXAMPLES\n")[2].partition("\n.SH ")[0]
-    kind = "c" if name.endswith(".3") else "sh"
-    found = re.findall(r"(?ms)^\.nf\n(.*?)^\.fi$", text)
-    return [Block(kind, it.replace("\\-", "-").replace("\\e", "\\"), "") for it in found]
 
 
 # ---- the folder in which they are run
@@ -133,11 +114,8 @@ def pictures(session_folder: Path, environment: dict[str, str]) -> Path:
 
 @pytest.fixture
 def place(folder: Path, pictures: Path, environment: dict[str, str]) -> Path:
-    """A folder with the pictures and the blocks of the examples, and the commands of a clone."""
+    """A folder with the pictures and the samples, and the commands of a clone."""
     shutil.copytree(pictures, folder, dirs_exist_ok=True)
-    cases = Blocks(json.loads(text_of("tests/program/cases/blocks.json"))["blocks"])
-    for name, block in EXAMPLES.items():
-        (folder / name).write_bytes(cases.named(block))
     for name in ("exifnorm", "exifnorm-pictures"):
         command(folder / name, f'exec {name} "$@"')
     command(folder / "test", "true")
@@ -187,32 +165,17 @@ class Runner:
 
 @pytest.mark.parametrize("name, blocks", sections())
 def test_examples_of_a_document(name: str, blocks: list[Block], place: Path, environment: dict[str, str], library: Path) -> None:
-    if name in WHOLE:
-        two_folders(place, environment)
     runner = Runner(place, environment, library)
     for block in blocks:
         runner.run(block)
 
 
-def two_folders(folder: Path, environment: dict[str, str]) -> None:
-    """Three pictures, and copies of them, of which one is edited."""
-    shutil.rmtree(folder / "pictures")
-    (folder / "pictures").mkdir()
-    for name in ("first.jpg", "second.jpg", "third.jpg"):
-        run(folder, environment, "convert", "-size", "96x72", "plasma:tomato-steelblue", "-strip", f"pictures/{name}")
-        run(folder, environment, "exiftool", "-q", "-overwrite_original", "-Artist=Someone", f"pictures/{name}")
-    shutil.copytree(folder / "pictures", folder / "after")
-    run(folder, environment, "exiftool", "-q", "-overwrite_original", "-Copyright=The Museum", "after/first.jpg")
-
-
-@pytest.mark.parametrize("name", ["docs/exifnorm.1", "docs/exifnorm.3", "docs/exifnorm-pictures.1"])
-def test_examples_of_a_manual_page(name: str, place: Path, environment: dict[str, str], library: Path) -> None:
-    shutil.copytree(place / "pictures", place / "archive", ignore=shutil.ignore_patterns("refused.jpg"))
-    shutil.copy(place / "after.exif", place / "after")
-    blocks = of_manual(name)
-    assert blocks
-    for block in blocks:
-        Runner(place, environment, library).run(block._replace(text=block.text.replace("/archive", str(place / "archive"))))
+def test_the_example_of_the_manual_page_in_c(folder: Path, environment: dict[str, str], library: Path) -> None:
+    text = text_of("docs/exifnorm.3").partition(".SH EXAMPLES\n")[2].partition("\n.SH ")[0]
+    examples = re.findall(r"(?ms)^\.nf\n(.*?)^\.fi$", text)
+    assert examples
+    for it in examples:
+        Runner(folder, environment, library).run_c(it.replace("\\-", "-").replace("\\e", "\\"))
 
 
 # ---- lists that must agree
@@ -225,11 +188,6 @@ def causes() -> list[str]:
 
 def help_of(environment: dict[str, str], *words: str) -> str:
     return run(TOP, {**environment, "COLUMNS": "500"}, *words, "--help")
-
-
-def statuses_of_page(name: str) -> list[str]:
-    page = text_of(name).partition(".SH EXIT STATUS\n")[2].partition("\n.SH ")[0]
-    return re.findall(r"(?m)^\.TP\n\.B (\d+)$", page)
 
 
 def plain(page: str) -> str:
@@ -274,21 +232,13 @@ def test_commands_of_the_program_are_those_of_the_format_and_the_page(environmen
         assert re.search(rf"(?m)^\| `{name} ", text_of("docs/FORMAT.md")), name
 
 
-def test_statuses_are_those_of_the_format_and_the_pages(environment: dict[str, str]) -> None:
-    for name in ("exifnorm", "exifnorm-pictures"):
-        shown = help_of(environment, name).partition("Statuses:\n")[2].partition("\n\n")[0]
-        statuses = re.findall(r"(?m)^  (\d+) ", shown)
-        assert statuses and statuses_of_page(f"docs/{name}.1") == statuses
+def test_statuses_are_those_of_the_format_and_the_page(environment: dict[str, str]) -> None:
+    shown = help_of(environment, "exifnorm").partition("Statuses:\n")[2].partition("\n\n")[0]
+    statuses = re.findall(r"(?m)^  (\d+) ", shown)
+    page = text_of("docs/exifnorm.1").partition(".SH EXIT STATUS\n")[2].partition("\n.SH ")[0]
+    assert statuses and re.findall(r"(?m)^\.TP\n\.B (\d+)$", page) == statuses
     listed = text_of("docs/FORMAT.md").split("\n## 8.")[1].split("\n## 9.")[0]
-    assert sorted(set(re.findall(r"(?m)^\| (\d+) \|", listed))) == statuses_of_page("docs/exifnorm.1")
-
-
-def test_each_option_of_the_pictures_is_in_the_page(environment: dict[str, str]) -> None:
-    page = plain(text_of("docs/exifnorm-pictures.1"))
-    commands = re.findall(r"(?m)^    (\w+)  +\w", help_of(environment, "exifnorm-pictures"))
-    assert commands
-    options = {it for name in commands for it in re.findall(r"(?<![\w-])--[a-z][a-z-]+", help_of(environment, "exifnorm-pictures", name))}
-    assert [it for it in sorted(options) if not re.search(rf"{it}(?![\w-])", page)] == []
+    assert sorted(set(re.findall(r"(?m)^\| (\d+) \|", listed))) == statuses
 
 
 def test_lines_of_the_program_are_those_of_the_page(environment: dict[str, str], folder: Path) -> None:
