@@ -68,7 +68,7 @@ def test_all_is_well(gate):
     "command, script",
     [
         ("rt", "echo 'rt: px_cli proved'; echo '16 passed, 0 failed'; exit 1"),
-        ("rt", "echo '15 passed, 1 failed'; exit 1"),
+        ("rt", "echo 'rt: px_cli NOT PROVED'; echo '15 passed, 1 failed'; exit 1"),
         ("make", "exit 2"),
         ("make", "printf '#!/bin/sh\\necho exifnorm 1.0.0-unproved\\n' >out/exifnorm; chmod +x out/exifnorm"),
         ("make", "printf '#!/bin/sh\\nexit 70\\n' >out/exifnorm; chmod +x out/exifnorm"),
@@ -89,12 +89,19 @@ def test_a_failed_test(gate):
     assert (ran.returncode, last_line(ran)) == (1, "4 passed, 1 failed"), ran
 
 
-def test_a_program_that_rt_ci_has_not_proved_is_not_taken(gate):
-    """The build then proves it, and doesn't take what is there."""
+@pytest.mark.parametrize("line", ["", "rt: px_cli NOT PROVED", "rt: px_cli proved, but for run", "rt: px_cli2 proved", "rt: px_c proved"])
+def test_a_program_that_rt_ci_has_not_proved_is_not_taken(gate, line):
+    """Even if `rt ci` ends well. The build then proves the program, and doesn't take the one that is there."""
     (gate / "out").mkdir()
     (gate / "out" / "proved-since").write_text("of an earlier run", encoding="ascii")
-    put(gate, rt="echo '16 passed, 0 failed'")
+    put(gate, rt=f"echo '{line}'; echo '16 passed, 0 failed'")
     assert "out/proved-since" not in call(gate).stdout.splitlines()
+
+
+@pytest.mark.parametrize("line", ["rt: px_cli proved", "rt: px_cli is kept: its sources are the same"])
+def test_a_program_that_rt_ci_has_proved_is_taken(gate, line):
+    put(gate, rt=f"echo '{line}'; echo '16 passed, 0 failed'")
+    assert "out/proved-since" in call(gate).stdout.splitlines()
 
 
 def test_a_choice_proves_nothing(gate):
