@@ -7,6 +7,7 @@ from __future__ import annotations
 
 import dataclasses
 import doctest
+import email
 import re
 from pathlib import Path
 
@@ -71,6 +72,13 @@ class TestDebianLists:
         found = re.findall(r"^ (\S+)@EXIFNORM_1 (\S+)$", text_of("debian", "libexifnorm1.symbols"), re.MULTILINE)
         assert sorted(name for name, _ in found) == ["EXIFNORM_1", *CALLS]
         assert {version for _, version in found} <= set(re.findall(r"^## (\S+)$", text_of("CHANGELOG.md"), re.MULTILINE))
+
+    def test_the_packages_of_the_library(self) -> None:
+        """They can be installed for several architectures, and what is built with the one for programmers depends on the other."""
+        packages = {it["Package"]: it for it in map(email.message_from_string, text_of("debian", "control").split("\n\n"))}
+        assert [name for name, it in packages.items() if it["Multi-Arch"] == "same"] == ["libexifnorm1", "libexifnorm-dev"]
+        named = re.findall(r"^\* Build-Depends-Package: (.*)$", text_of("debian", "libexifnorm1.symbols"), re.MULTILINE)
+        assert named == self.owners("usr/lib/MACHINE/libexifnorm.so")
 
     def test_the_copyright_file_has_the_licence_and_the_foreign_crates(self) -> None:
         copyright_file = text_of("debian", "copyright")
