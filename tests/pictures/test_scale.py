@@ -123,10 +123,12 @@ class Scale(WithPictures):
         self.grows_little(few, many)
 
     def test_memory_of_same_in_one_group(self):
-        few = self.counted("same", "--no-look", "--json", "--catalogue", self.catalogue("few", 20000, "1"))
-        many = self.counted("same", "--no-look", "--json", "--catalogue", self.catalogue("many", 200000, "1"))
-        self.assertEqual([json.loads(it)["count"] for it in self.said.splitlines()], [200000])
-        self.grows_little(few, many, 180_000 * 2000 / (1 << 20))  # the pictures of one group are in memory, with at most 2,000 bytes each
+        """The pictures of a group are in memory, with at most 700 bytes each."""
+        few, many = self.catalogue("few", 20000, "1"), self.catalogue("many", 120000, "1")
+        for words in ((), ("--json",)):
+            less, more = (self.counted("same", "--no-look", *words, "--catalogue", it) for it in (few, many))
+            self.grows_little(less, more, 100_000 * 700 / (1 << 20))
+        self.assertEqual([json.loads(it)["count"] for it in self.said.splitlines()], [120000])
 
     def test_memory_of_changed_where_all_moved(self):
         costs = []

@@ -66,7 +66,7 @@ def _print_lines(it: groups.Group) -> None:
 
 
 def _print_group(it: groups.Group) -> None:
-    """One object."""
+    """One object. Its pictures come last, and one by one: they may be all of an archive."""
     digests = {WORDS[kind]: digest for kind, digest in it.digests.items()}
     known = {
         "count": it.count,
@@ -75,14 +75,16 @@ def _print_group(it: groups.Group) -> None:
         "digests": digests,
         "same_bytes": it.same_bytes,
         "wholly_read": not it.not_read and it.basis == groups.MEANING,
-        "pictures": [_picture_members(it, one) for one in it.members],
     }
     if it.links:
         known["links"] = [{**path_members(one.path), "of": path_members(one.of), "how": one.how} for one in it.links]
     for name, paths in (("gone", it.gone), ("changed", it.changed)):
         if paths:
             known[name] = [path_members(one) for one in paths]
-    print(json.dumps(known))
+    print(json.dumps(known)[:-1], end=', "pictures": [')
+    for number, one in enumerate(it.members):
+        print(", " * (number > 0) + json.dumps(_picture_members(it, one)), end="")
+    print("]}")
 
 
 def _picture_members(group: groups.Group, it: Picture) -> Members:

@@ -9,7 +9,7 @@ from __future__ import annotations
 
 import os
 from dataclasses import dataclass, field
-from typing import Dict, Iterator, List, NamedTuple, Optional, Sequence, Tuple
+from typing import Dict, Iterable, Iterator, List, NamedTuple, Optional, Sequence, Tuple
 
 from ..catalogue.records import KINDS, NOT_THERE, WORDS, Picture, Stamp, has, is_marked_as, picture_of_row
 from ..catalogue.store import PICTURE_COLUMNS, Catalogue
@@ -71,7 +71,8 @@ class Group:
     def same_bytes(self) -> bool:
         """Whether their blocks are the same byte for byte."""
         at = [KINDS.index(it) for it in self.kinds]
-        return len({tuple(it.octets[number] for number in at) for it in self.members}) == 1
+        first = self.members[0].octets
+        return all(it.octets[number] == first[number] for it in self.members for number in at)
 
     def pictures(self, most: int = -1) -> Iterator[bytes]:
         """Each picture of the group, or the first ones, by path."""
@@ -143,7 +144,7 @@ def groups(
         ids = f"SELECT id FROM pictures WHERE {query.where} AND {terms}"
         rows = f"SELECT {PICTURE_COLUMNS}, device FROM pictures WHERE id IN ({ids}) AND {own} ORDER BY +path"
         for row in catalogue.rows(heads, (), _key):
-            found = list(catalogue.rows(rows, (*row, *row), lambda *it: (picture_of_row(it[0][:-1]), it[0][-1])))
+            found = catalogue.rows(rows, (*row, *row), lambda *it: (picture_of_row(it[0][:-1]), it[0][-1]))
             for group in _groups_of(catalogue, _there(query.basis, tuple(kinds), found, look), look):
                 yield group
                 count += 1
@@ -157,21 +158,41 @@ def _key(row: Tuple[str, ...]) -> Tuple[str, ...]:
     return row
 
 
-def _there(basis: str, kinds: Tuple[str, ...], found: List[Tuple[Picture, int]], look: bool) -> Group:
+def _there(basis: str, kinds: Tuple[str, ...], found: Iterable[Tuple[Picture, int]], look: bool) -> Group:
     """The different files of some pictures that are there; the further names of each, and those that are gone or have changed."""
     group = Group(basis, kinds, [])
-    names: Dict[Tuple[object, ...], List[Picture]] = {}
+    places: Dict[object, Dict[object, int]] = {}  # of each file among the members, by device and inode
+    further: Dict[int, List[Picture]] = {}
     for it, device in found:
-        state, file = _state(it) if look else ("", (device, it.marks[3]))
+        state, (device, inode) = _state(it) if look else ("", (device, it.marks[3]))
         if state:
             (group.gone if state == "gone" else group.changed).append(it.path)
             continue
-        names.setdefault(file if file[1] else (it.path,), []).append(it)
-    for same in names.values():
-        first = _real(same) if look and len(same) > 1 else same[0]
-        group.members.append(first)
-        group.links += [Link.to(it.path, first.path) if look else Link(it.path, first.path) for it in same if it is not first]
+        of_device = places.setdefault(device if inode else None, {})
+        at = of_device.setdefault(inode or it.path, len(group.members))
+        if at < len(group.members):
+            further.setdefault(at, []).append(it)
+        else:
+            _shrink(it, group.members[-1:])
+            group.members.append(it)
+    for at in sorted(further):
+        names = [group.members[at], *further[at]]
+        first = group.members[at] = _real(names) if look else names[0]
+        group.links += [Link.to(it.path, first.path) if look else Link(it.path, first.path) for it in names if it is not first]
     return group
+
+
+_SHARED = ("root", "type", "extractor", "detail", "unread", "said", "octets", "repaired", "maker_notes")
+
+
+def _shrink(it: Picture, before: Sequence[Picture]) -> None:
+    """Drops the marks, which were needed to look at the file, and takes what is equal in the picture before it from there: a group may have
+    all pictures of an archive, and is in memory."""
+    it.marks = ()
+    for other in before:
+        for name in _SHARED:
+            if getattr(it, name) == getattr(other, name):
+                setattr(it, name, getattr(other, name))
 
 
 def _real(names: List[Picture]) -> Picture:
@@ -179,14 +200,14 @@ def _real(names: List[Picture]) -> Picture:
     return next((it for it in names if os.path.realpath(it.path) == it.path), names[0])
 
 
-def _state(it: Picture) -> Tuple[str, Tuple[object, ...]]:
-    """`gone`, `changed`, or nothing for a file that is as it was; and what identifies the file."""
+def _state(it: Picture) -> Tuple[str, Tuple[int, int]]:
+    """`gone`, `changed`, or nothing for a file that is as it was; and the device and inode of the file."""
     try:
         now = os.stat(it.path)
     except (OSError, ValueError):  # a name that has a NUL
-        return "gone", ()
+        return "gone", (0, 0)
     if not is_marked_as(Stamp.of(now), it.marks):
-        return "changed", ()
+        return "changed", (0, 0)
     return "", (now.st_dev, now.st_ino)
 
 
@@ -200,8 +221,10 @@ def _groups_of(catalogue: Catalogue, found: Group, look: bool) -> Iterator[Group
         first = group.members[0]
         if first.unread != "" and group.basis != MAKER_NOTE:
             group.not_read = ", ".join(it.what for it in catalogue.not_read_of(first))
+        texts: Dict[str, str] = {}
         for it in group.members if group.basis in (BYTES, REPAIR) else ():
-            group.reasons[it.id] = _reason(catalogue, it, group.basis)
+            reason = _reason(catalogue, it, group.basis)
+            group.reasons[it.id] = texts.setdefault(reason, reason)
         yield group
 
 
