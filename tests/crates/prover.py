@@ -4,20 +4,18 @@ from __future__ import annotations
 
 import fcntl
 import os
-import re
 import shutil
 import tempfile
+from dataclasses import replace
 from pathlib import Path
 from typing import Iterable, Sequence
 
-from bodies import Body, Passed, Verdict
+from bodies import Body, Passed, Table, Verdict
 from compiler import Compiler
 from crates import below
 from store import Store
 
 PARTS = ("src", "specs", "proofs")
-# In these crates a check of the changed functions alone costs less than a proof of the whole crate that the checks can begin from.
-WITHOUT_SEED = {"px_c", "px_words"}
 
 
 def link(seed: Path, folder: Path) -> None:
@@ -29,15 +27,19 @@ def link(seed: Path, folder: Path) -> None:
     shutil.copytree(seed, folder, copy_function=copy)
 
 
+def planted(group: Sequence[Body], controls: bool) -> list[Body]:
+    """The wrong bodies of a group, or the harmless ones in their place."""
+    return [it.harmless() for it in group if it.control] if controls else [replace(it, control=()) for it in group]
+
+
 class Prover:
     """Checks copies of crates with wrong bodies. The folder belongs to all processes of a run."""
 
     def __init__(self, store: Store, compiler: Compiler, passed: Passed, folder: Path) -> None:
         self.store, self.crates, self.compiler, self.passed, self.folder = store, store.crates, compiler, passed, folder
 
-    def check(self, crate: str, bodies: Iterable[Body], kept: Path, only: Sequence[str] = ()) -> str:
-        """What the compiler prints about a copy of a crate with these bodies: about all functions, or about some and those that they call."""
-        words = [*self.compiler.check(crate, kept), *(word for function in only for word in ("--only", function))]
+    def check(self, crate: str, bodies: Iterable[Body], kept: Path) -> str:
+        """What the compiler prints about a copy of a crate with these bodies. It takes what an earlier check has kept."""
         with tempfile.TemporaryDirectory(dir=self.folder) as name:
             folder = Path(name)
             for part in PARTS:
@@ -46,42 +48,41 @@ class Prover:
             for it in bodies:
                 it.plant(folder)
             with open(folder / "log", "w", encoding="utf-8") as log:
-                self.compiler.call(words, folder, log)
-            return (folder / "log").read_text(encoding="utf-8", errors="replace")
+                self.compiler.call(self.compiler.check(crate, kept), folder, log)
+            text = (folder / "log").read_text(encoding="utf-8", errors="replace")
+        assert text.rstrip("\n").rpartition("\n")[2].startswith(("logic=proved ", "logic=not-proved")), text[-1500:]
+        return text
 
-    def seed(self, crate: str) -> Path:
-        """What a check of the unchanged crate has kept. It is checked once in a run; other processes wait for it."""
-        seed, note = self.folder / crate, self.folder / f"{crate}.said"
+    def first(self, crate: str, beside: Sequence[Body]) -> tuple[str, Path]:
+        """What the compiler prints about a crate with the bodies that stand beside its functions, and the folder of what it has kept. Nothing
+        calls these bodies, so all else of the crate is proved. It is checked once in a run; other processes wait for it."""
+        kept, note = self.folder / crate, self.folder / f"{crate}.said"
         with open(self.folder / f"{crate}.lock", "w", encoding="ascii") as lock:
             fcntl.flock(lock, fcntl.LOCK_EX)
             if not note.exists():
-                seed.mkdir()
-                note.write_text(self.check(crate, (), seed)[-1500:], encoding="utf-8")
-        text = note.read_text(encoding="utf-8")
-        assert text.rstrip("\n").rpartition("\n")[2].startswith("logic=proved "), f"{crate} is not proved as it is: {text}"
-        return seed
+                old = [it for it in below(crate, self.crates.uses) if not self.store.is_built(it)]
+                assert not old, f"out/proved has no library of the current sources of {', '.join(old)}: `make` proves it"
+                kept.mkdir(exist_ok=True)
+                note.write_text(self.check(crate, beside, kept), encoding="utf-8")
+        return note.read_text(encoding="utf-8"), kept
 
-    def verdict(self, crate: str, group: Sequence[Body]) -> Verdict:
-        """What a check finds of a crate with a group of wrong bodies."""
-        old = [it for it in below(crate, self.crates.uses) if not self.store.is_built(it)]
-        assert not old, f"out/proved has no library of the current sources of {', '.join(old)}: `make` proves it"
+    def verdict(self, crate: str, table: Table, number: int, controls: bool) -> Verdict:
+        """What a check finds of a group of a crate's table, or of its controls."""
+        text, first = self.first(crate, table[0])
+        if number == 0 and not controls:
+            return Verdict.read(text)
         with tempfile.TemporaryDirectory(dir=self.folder) as folder:
             kept = Path(folder) / "kept"
-            if crate in WITHOUT_SEED:
-                kept.mkdir()
-                text, end = self.check(crate, group, kept, [it.function for it in group]), r"only=\d+ proved=\d+"
-            else:
-                link(self.seed(crate), kept)
-                text, end = self.check(crate, group, kept), "logic=not-proved"
-        assert re.fullmatch(end, text.rstrip("\n").rpartition("\n")[2]), text[-1500:]
-        return Verdict.read(text)
+            link(first, kept)
+            return Verdict.read(self.check(crate, planted(table[number], controls), kept))
 
-    def try_group(self, name: str, crate: str, group: Sequence[Body], again: bool) -> Verdict | None:
-        """The verdict on a group; None if it has passed with the same sum."""
-        found = self.passed.sum(crate, group)
+    def try_group(self, crate: str, table: Table, number: int, controls: bool, again: bool) -> Verdict | None:
+        """The verdict on a group or on its controls; None if it has passed with the same sum."""
+        group = planted(table[number], controls)
+        name, found = f"{crate}-{number}" + "-controls" * controls, self.passed.sum(crate, group)
         if not again and self.passed.has(name, found):
             return None
-        verdict = self.verdict(crate, group)
-        if verdict.is_right(group) and found == self.passed.sum(crate, group):
+        verdict = self.verdict(crate, table, number, controls)
+        if verdict.is_right(group, controls) and found == self.passed.sum(crate, group):
             self.passed.add(name, found)
         return verdict

@@ -1,18 +1,21 @@
-"""What a check of wrong bodies finds, and when a group is checked again. No proof is made here."""
+"""How wrong bodies are planted, what a check finds of them, and when a group is checked again. No proof is made here."""
 
 from __future__ import annotations
 
+import doctest
+import json
 from dataclasses import replace
 from pathlib import Path
-from typing import Sequence
 
+import planting
 import pytest
-from bodies import Body, Misspelled, Passed, Verdict
+from bodies import Body, Passed, Table, Verdict, read_table
 from crates import Crates
+from planting import Misspelled
 from prover import Prover
 from store import Store
 
-BODY = Body("it adds too little", "src/lib.rt", [["+ 2", "+ 1"]], "sums::add", ["returns"])
+BODY = Body("it adds too little", "src/lib.rt", "sums::add", ["returns"], [["+ 2", "+ 1"]])
 OUTPUT = """./proofs/sums/add/Answers.antt:3:9: error: `returns`: the types differ
 fn px::sums::add: not proved
 fn px::sums::twice: no proof: it calls `px::sums::add`, which is not proved
@@ -27,7 +30,7 @@ class FakeProver(Prover):
     output = OUTPUT
     checks = 0
 
-    def verdict(self, crate: str, group: Sequence[Body]) -> Verdict:
+    def verdict(self, crate: str, table: Table, number: int, controls: bool) -> Verdict:
         self.checks += 1
         return Verdict.read(self.output)
 
@@ -48,30 +51,34 @@ def prover(crates: Crates, version: str = "1") -> FakeProver:
     return FakeProver(Store(crates, version, crates.top / "out" / "proved"), None, passed, crates.top)
 
 
+def tried(prover: FakeProver, body: Body = BODY, controls: bool = False, again: bool = False) -> Verdict | None:
+    return prover.try_group("high", [[], [body]], 1, controls, again)
+
+
 def test_a_group_that_passed_is_not_checked_again(crates):
-    prover(crates).try_group("high-0", "high", [BODY], again=False)
+    tried(prover(crates))
     second = prover(crates)
-    assert second.try_group("high-0", "high", [BODY], again=False) is None
+    assert tried(second) is None
     assert second.checks == 0
-    assert second.try_group("high-0", "high", [BODY], again=True) is not None
+    assert tried(second, again=True) is not None
 
 
 @pytest.mark.parametrize("crate", ["low", "high"])
 def test_a_changed_crate_is_checked_again(crates, crate):
-    prover(crates).try_group("high-0", "high", [BODY], again=False)
+    tried(prover(crates))
     (crates.folder(crate) / "src" / "more.rt").write_text("", encoding="ascii")
-    assert prover(crates).try_group("high-0", "high", [BODY], again=False)
+    assert tried(prover(crates))
 
 
 @pytest.mark.parametrize("change", [{"goals": ["returns", "loop-1"]}, {"changes": [["+ 2", "+ 3"]]}, {"function": "sums::twice"}], ids=str)
 def test_a_changed_table_is_checked_again(crates, change):
-    prover(crates).try_group("high-0", "high", [BODY], again=False)
-    assert prover(crates).try_group("high-0", "high", [replace(BODY, **change)], again=False)
+    tried(prover(crates))
+    assert tried(prover(crates), replace(BODY, **change))
 
 
 def test_another_toolchain_checks_again(crates):
-    prover(crates).try_group("high-0", "high", [BODY], again=False)
-    assert prover(crates, "2").try_group("high-0", "high", [BODY], again=False)
+    tried(prover(crates))
+    assert tried(prover(crates, "2"))
 
 
 @pytest.mark.parametrize(
@@ -80,6 +87,8 @@ def test_another_toolchain_checks_again(crates):
         (OUTPUT.replace("fn px::sums::add: not proved", "fn px::sums::add: proved"), "sums::add is not refused"),
         (OUTPUT.replace("`returns`", "`loop-1`"), "the goals of sums::add that are not proved are ['loop-1']"),
         (OUTPUT.replace("error: `returns`", "note: `returns`"), "the goals of sums::add that are not proved are []"),
+        # the proof by hand names what only the old body had: the goal itself was not tried
+        (OUTPUT.replace("the types differ", "record `Rt.Then1` has no field `count`"), "the goals of sums::add that are not proved are []"),
         (
             OUTPUT.replace("sums::add: not proved", "sums::add: no proof: it calls `px::sums::zero`, which is not proved"),
             "sums::add calls a function that is refused too: move it to another group",
@@ -90,10 +99,10 @@ def test_another_toolchain_checks_again(crates):
 def test_a_wrong_verdict_is_a_fault_and_is_not_kept(crates, output, why):
     first = prover(crates)
     first.output = output
-    verdict = first.try_group("high-0", "high", [BODY], again=False)
+    verdict = tried(first)
     assert verdict.fault(BODY) == why
     assert why or verdict.strays([BODY]) == ["sums::zero"]
-    assert prover(crates).try_group("high-0", "high", [BODY], again=False), "it was kept"
+    assert tried(prover(crates)), "it was kept"
 
 
 def test_goals_that_the_search_does_not_prove():
@@ -105,3 +114,57 @@ def test_goals_that_the_search_does_not_prove():
 def test_a_text_to_be_replaced_is_there_once(crates, old, new):
     with pytest.raises(Misspelled):
         replace(BODY, changes=[[old, new]]).plant(crates.folder("high"))
+
+
+def test_a_control_is_proved_or_fails_at_other_goals():
+    verdict = Verdict.read(OUTPUT)
+    assert verdict.control_fault(replace(BODY, function="sums::zero")) == ""
+    assert verdict.control_fault(BODY) == "the control of sums::add is not proved: ['returns']"
+    assert verdict.control_fault(replace(BODY, goals=["loop-1"])) == ""
+    assert verdict.control_fault(replace(BODY, function="sums::twice")) == "the control of sums::twice is not proved: []"
+    assert verdict.control_fault(replace(BODY, function="sums::mine")) == "the control of sums::mine is not proved: []"
+
+
+def test_a_control_beside_a_function_is_proved():
+    text = OUTPUT.replace("add", "add_3")
+    body = replace(BODY, number=3, goals=["loop-1"])
+    assert Verdict.read(text).control_fault(body) == "the control of sums::add_3 is not proved: ['returns']"
+
+
+def test_controls_have_notes_of_their_own(crates):
+    body = replace(BODY, control=[["+ 2", "+ 1 + 1"]])
+    first = prover(crates)
+    first.output = OUTPUT.replace("add: not proved", "add: proved")
+    assert tried(first, body, controls=True) is not None
+    assert tried(prover(crates), body, controls=True) is None
+    assert tried(prover(crates), body) is not None
+    assert tried(prover(crates), replace(body, control=[["+ 2", "+ 2 + 0"]])) is None, "a wrong body is tried again for its control"
+
+
+@pytest.mark.parametrize(
+    "change, why",
+    [
+        ({"goals": []}, "none of them empty"),
+        ({"more": "x"}, "must have the members"),
+        ({"body": "a + 1"}, "must have the members"),
+        ({"function": "sums::twice"}, "needs a control"),
+    ],
+    ids=str,
+)
+def test_a_wrong_row_of_a_table(tmp_path, change, why):
+    (tmp_path / "proofs" / "sums" / "twice").mkdir(parents=True)
+    row = {"why": "it adds too little", "file": "src/lib.rt", "changes": [["+ 2", "+ 1"]], "function": "sums::add", "goals": ["returns"]}
+    (tmp_path / "px.json").write_text(json.dumps({"beside": [row], "in place": [[row]]}), encoding="utf-8")
+    assert [[it.planted for it in group] for group in read_table(tmp_path / "px.json", tmp_path / "proofs")] == [
+        ["sums::add_1"],
+        ["sums::add"],
+    ]
+    for table in ({"beside": [{**row, **change}], "in place": []}, {"beside": [row], "in place": [[{**row, **change}]]}):
+        (tmp_path / "px.json").write_text(json.dumps(table), encoding="utf-8")
+        with pytest.raises(Misspelled, match=why):
+            read_table(tmp_path / "px.json", tmp_path / "proofs")
+
+
+def test_examples_of_planting():
+    found = doctest.testmod(planting)
+    assert found.attempted and not found.failed

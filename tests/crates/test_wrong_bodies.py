@@ -2,7 +2,7 @@
 
 README.md describes the tables. The libraries must be in out/proved, as `make` puts them there. A group of bodies is planted in a copy of
 its crate, which is then checked. A group that has passed with the same sources, table and toolchain isn't checked again; the option
---proof-again checks all of them.
+--proof-again checks all of them. Controls are tried with the option --controls.
 """
 
 from __future__ import annotations
@@ -25,7 +25,7 @@ from store import Store
 
 TOP = HERE.parent.parent
 MEMORY = 6 << 30  # of the machine, for each process that checks; a check takes up to 4 GB
-TABLES = {path.stem: read_table(path) for path in HERE.glob("px_*.json")}
+TABLES = {path.stem: read_table(path, TOP / "crates" / path.stem / "proofs") for path in HERE.glob("px_*.json")}
 pytestmark = [pytest.mark.proof, pytest.mark.timeout(3600)]
 
 
@@ -57,32 +57,57 @@ def prover(run_folder: Path) -> Iterator[Prover]:
 
 
 @functools.lru_cache(maxsize=None)
-def outcome(prover: Prover, crate: str, number: int, again: bool) -> Verdict | Exception | None:
+def outcome(prover: Prover, crate: str, number: int, controls: bool, again: bool) -> Verdict | Exception | None:
     """What a group's check came to. It is checked once for all of its bodies, also if the check fails."""
     try:
-        return prover.try_group(f"{crate}-{number}", crate, TABLES[crate][number], again)
+        return prover.try_group(crate, TABLES[crate], number, controls, again)
     except Exception as why:
         return why
 
 
-def all_bodies() -> Iterator:
-    """Each body with its crate and the number of its group. As many processes try them as this machine has memory for, each a part of the
-    groups of each crate: first one group of each crate, the largest crate first, so that each process proves other crates as they are."""
-    processes = max(1, min(3, os.sysconf("SC_PHYS_PAGES") * os.sysconf("SC_PAGE_SIZE") // MEMORY))
-    crates = Crates.read(TOP)
-    sizes = {crate: sum(it.stat().st_size for it in crates.sources(crate)) for crate in TABLES}
-    for number in range(max(map(len, TABLES.values()))):
-        for at, crate in enumerate(sorted(TABLES, key=lambda it: -sizes[it])):
-            process = pytest.mark.xdist_group(f"bodies-{(number + at) % processes + 1}")
-            for body in TABLES[crate][number] if number < len(TABLES[crate]) else ():
-                yield pytest.param(crate, number, body, id=f"{crate}: {body.why}", marks=process)
-
-
-@pytest.mark.parametrize("crate, number, body", all_bodies())
-def test_is_refused(prover: Prover, pytestconfig: pytest.Config, crate: str, number: int, body: Body) -> None:
-    found = outcome(prover, crate, number, pytestconfig.getoption("--proof-again"))
+def verdict(prover: Prover, config: pytest.Config, crate: str, number: int, controls: bool) -> Verdict | None:
+    found = outcome(prover, crate, number, controls, config.getoption("--proof-again"))
     if isinstance(found, Exception):
         raise found
+    return found
+
+
+def processes() -> dict[str, int]:
+    """The process that tries each crate's bodies: as many as this machine has memory for, each with about as much to prove."""
+    crates = Crates.read(TOP)
+    sizes = {crate: sum(it.stat().st_size for it in crates.sources(crate)) for crate in TABLES}
+    loads = [0] * max(1, min(3, os.sysconf("SC_PHYS_PAGES") * os.sysconf("SC_PAGE_SIZE") // MEMORY))
+    found = {}
+    for crate in sorted(TABLES, key=lambda it: -sizes[it]):
+        found[crate] = loads.index(min(loads))
+        loads[found[crate]] += sizes[crate]
+    return found
+
+
+def all_bodies(controls: bool) -> Iterator:
+    """Each body, or each one with a control, with its crate and the number of its group. A crate's bodies are tried by one process, first
+    those beside its functions."""
+    for crate, process in processes().items():
+        for number, group in enumerate(TABLES[crate]):
+            for body in group:
+                if body.control or not controls:
+                    yield pytest.param(
+                        crate, number, body, id=f"{crate}: {body.why}", marks=pytest.mark.xdist_group(f"bodies-{process + 1}")
+                    )
+
+
+@pytest.mark.parametrize("crate, number, body", all_bodies(controls=False))
+def test_is_refused(prover: Prover, pytestconfig: pytest.Config, crate: str, number: int, body: Body) -> None:
+    found = verdict(prover, pytestconfig, crate, number, controls=False)
     if found:
         assert found.fault(body) == ""
         assert found.strays(TABLES[crate][number]) == [], "functions without a wrong body are refused"
+
+
+@pytest.mark.control
+@pytest.mark.parametrize("crate, number, body", all_bodies(controls=True))
+def test_control_is_told_apart(prover: Prover, pytestconfig: pytest.Config, crate: str, number: int, body: Body) -> None:
+    """Tried with --controls: a table's controls need it only when the table changes."""
+    found = verdict(prover, pytestconfig, crate, number, controls=True)
+    if found:
+        assert found.control_fault(body) == ""
