@@ -3,7 +3,6 @@
 The bytes are made here by the formats' rules, so what differs is known without a reader of ours.
 """
 
-import json
 import struct
 from typing import NamedTuple
 
@@ -21,21 +20,6 @@ class Pair(NamedTuple):
     before: bytes
     after: bytes
     status: int
-
-
-@pytest.fixture
-def compared(folder, capsys):
-    """Compares two pictures as two folders, without ExifTool: the status, and the object of the picture."""
-    from exifnorm_pictures.cli import main
-
-    def call(before, after, name="picture"):
-        for side, octets in (("before", before), ("after", after)):
-            (folder / side).mkdir()
-            (folder / side / name).write_bytes(octets)
-        status = main._run(["changed", str(folder / "before"), str(folder / "after"), "--all", "--json", "--no-exiftool"])
-        return status, [json.loads(it) for it in capsys.readouterr().out.splitlines()]
-
-    return call
 
 
 def of_pairs(*makers):

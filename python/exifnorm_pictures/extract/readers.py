@@ -8,7 +8,7 @@ from __future__ import annotations
 import re
 from typing import Callable, NamedTuple, Optional, Tuple
 
-from .formats import jpeg, png, tiff, webp
+from .formats import heif, jpeg, png, tiff, webp
 from .formats.found import Blocks
 from .formats.streams import Stream
 
@@ -81,6 +81,17 @@ FORMATS: Tuple[Format, ...] = (
         "trailers, Photoshop's layers, bytes that only a MakerNote can reach",
         "directories of Kodak and Leaf, GlobalParametersIFD",
         "pixels and where they are, other resources",
+    ),
+    Format(
+        "HEIC, HEIF, AVIF",
+        lambda head, _: heif.is_heif(head),
+        heif.read,
+        "Exif items of each picture",
+        "",
+        "items of each picture with the type `application/rdf+xml`; box uuid",
+        "other items, such as compressed XMP; unknown boxes; names of pictures (`udes`); `moov` of sequences; trailers",
+        "items that are protected, in another file, or made of other items",
+        "pixels, size, rotation, ICC profiles; bytes that no item has",
     ),
     Format("BigTIFF", lambda head, _: head[:4] in tiff.BIG_HEADS, tiff.read_big, "not read", "not read", "not read"),
 )

@@ -130,9 +130,13 @@ class Blocks:
 
     def leave(self, what: str, data: bytes) -> None:
         """Adds a part that is not read, whose bytes are in memory. Raises `TooMuch`."""
+        self.name(NotRead.of(what, data))
+
+    def name(self, part: NotRead) -> None:
+        """Adds a part that is not read. Raises `TooMuch`."""
         if len(self.not_read) >= FEW:
             self.budget.spend(NOT_READ)
-        self.not_read.append(NotRead.of(what, data))
+        self.not_read.append(part)
 
     def of_kind(self, kind: str) -> List[FoundBlock]:
         """The blocks of one kind.

@@ -5,11 +5,11 @@ from __future__ import annotations
 
 import hashlib
 import os
-from typing import Iterator, Optional, Protocol
+from typing import Iterable, Iterator, Optional, Protocol, Tuple
 
 from ...files import opening
 from ..budgets import BYTES_READ, Budget, budget_of
-from .found import Broken
+from .found import Blocks, Broken, NotRead, length_of
 
 CHUNK = 1 << 18
 PIECE = 1 << 13  # bytes that are read at once where the parts are small
@@ -132,3 +132,30 @@ def digest_of_rest(stream: Stream, start: int, end: int) -> Optional[str]:
         found.update(it)
         blank = blank and not it.strip(b"\0")
     return None if blank else found.hexdigest()
+
+
+def digest_of_parts(stream: Stream, parts: Iterable[Tuple[int, int]]) -> str:
+    """SHA-256 of some parts of a file, joined, which may share bytes; empty if they are more than may be read. Raises `TooMuch`."""
+    budget, found, length = budget_of(stream), hashlib.sha256(), 0
+    for start, end in parts:
+        length += end - start
+        if not budget.may_digest(length):
+            return ""
+        budget.spend(BYTES_READ, end - start)
+        for it in pieces(stream, start, end):
+            found.update(it)
+    return found.hexdigest()
+
+
+def leave(blocks: Blocks, what: str, stream: Stream, start: int, end: int) -> None:
+    """Names a part of a file that is not read, with its digest. A part of zeros is none. Raises `TooMuch`."""
+    digest = digest_of_rest(stream, start, end)
+    if digest is not None:
+        blocks.name(NotRead(what, digest))
+
+
+def leave_rest(blocks: Blocks, stream: Stream, end: int) -> None:
+    """Names the bytes after the end of a picture, if there are any."""
+    size = size_of(stream)
+    if end < size:
+        leave(blocks, f"trailer of {length_of(size - end)}", stream, end, size)

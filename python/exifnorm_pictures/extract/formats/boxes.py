@@ -1,0 +1,117 @@
+"""Boxes of ISO base media files (ISO/IEC 14496-12, 4.2), which JPEG 2000 (ISO/IEC 15444-1, Annex I) and JPEG XL (ISO/IEC 18181-2) have too.
+
+A box is a length of four bytes, a kind of four, then a length of eight if the first is 1, a UUID if the kind is uuid, and the content. The
+last box of a file may have the length 0. No reader follows boxes in boxes of unknown kinds, so each has its own greatest depth.
+"""
+
+from __future__ import annotations
+
+from typing import Callable, Iterator, List, NamedTuple, Set
+
+from ..budgets import BOX_BYTES, BOXES, budget_of
+from .found import XMP, Blocks, Broken
+from .streams import Stream, leave_rest, read_at, size_of
+
+_LONGEST_HEAD = 32
+XMP_UUID = bytes.fromhex("be7acfcb97a942e89c71999491e3afac")  # XMP part 3, 1.1.4
+
+
+class Box(NamedTuple):
+    """A box: its offset, its kind, and the range of its content, after the UUID if it has one."""
+
+    at: int
+    kind: bytes
+    start: int
+    end: int
+    uuid: bytes = b""
+
+    @property
+    def name(self) -> str:
+        """Its kind and its UUID for people.
+
+        >>> Box(0, b"xml ", 8, 9).name, Box(0, b"\\xa9day", 8, 9).name
+        ('xml box', 'a9646179 box')
+        """
+        word = self.kind.decode("latin-1").strip()
+        word = word if word.isascii() and word.isalnum() else self.kind.hex()
+        return f"{word} box {self.uuid.hex()}" if self.uuid else f"{word} box"
+
+
+def boxes(stream: Stream, start: int, end: int, is_file: bool = False) -> Iterator[Box]:
+    """The boxes of a range, one directly after another up to its end. Raises `Broken` and `TooMuch`."""
+    budget, at = budget_of(stream), start
+    while at < end:
+        budget.spend(BOXES)
+        if end - at < 8:
+            raise Broken(f"no box at {at}")
+        head = read_at(stream, at, min(_LONGEST_HEAD, end - at))
+        length, kind, begin = int.from_bytes(head[:4], "big"), head[4:8], 8
+        if length == 1:
+            length, begin = int.from_bytes(head[8:16], "big"), 16
+        elif length == 0 and is_file:
+            length = end - at
+        uuid = head[begin : begin + 16] if kind == b"uuid" else b""
+        begin += 16 if kind == b"uuid" else 0
+        if not begin <= length <= end - at:
+            raise Broken(f"the box at {at} has a wrong length")
+        yield Box(at, kind, at + begin, at + length, uuid)
+        at += length
+
+
+def boxes_of_file(blocks: Blocks, stream: Stream, is_whole: Callable[[Set[bytes]], bool]) -> List[Box]:
+    """The boxes of a file. `is_whole` says of the kinds of some boxes whether they are a whole picture, after which anything may follow.
+
+    Raises `Broken` and `TooMuch`.
+    """
+    found: List[Box] = []
+    try:
+        for it in boxes(stream, 0, size_of(stream), is_file=True):
+            found.append(it)
+    except Broken:
+        if not is_whole({it.kind for it in found}):
+            raise
+        leave_rest(blocks, stream, found[-1].end)
+    if not is_whole({it.kind for it in found}):
+        raise Broken("the file has no picture")
+    return found
+
+
+def content(stream: Stream, it: Box) -> bytes:
+    """The content of a box, which is kept. Raises `Broken` and `TooMuch`."""
+    budget_of(stream).spend(BOX_BYTES, it.end - it.start)
+    return read_at(stream, it.start, it.end - it.start)
+
+
+def add_xmp(blocks: Blocks, stream: Stream, it: Box) -> None:
+    """Adds the packet of a box, in which cameras keep room for one. Raises `Broken` and `TooMuch`."""
+    data = content(stream, it)
+    if data.strip(b"\0"):
+        blocks.add(XMP, data, f"{it.kind.decode('ascii').strip()} box at {it.at}")
+
+
+class Fields:
+    """The numbers and texts of a content in memory, one after another. Raises `Broken` if it ends before."""
+
+    def __init__(self, data: bytes, name: str) -> None:
+        self.data, self.name, self.at = data, name, 0
+
+    def number(self, length: int) -> int:
+        """The next number, of so many bytes; 0 for none.
+
+        >>> some = Fields(b"\\1\\0", "pitm box"); some.number(2), some.number(0)
+        (256, 0)
+        """
+        end = self.at + length
+        if end > len(self.data):
+            raise Broken(f"the {self.name} is cut")
+        found = int.from_bytes(self.data[self.at : end], "big")
+        self.at = end
+        return found
+
+    def text(self) -> bytes:
+        """The next text, up to a zero byte."""
+        end = self.data.find(b"\0", self.at)
+        if end < 0:
+            raise Broken(f"the {self.name} has a text without end")
+        found, self.at = self.data[self.at : end], end + 1
+        return found

@@ -1,0 +1,33 @@
+"""Canon's box uuid in CR3 and HEIF files: the main directory, Exif, MakerNote and GPS, each a TIFF structure in a box of its own."""
+
+from __future__ import annotations
+
+from typing import Dict
+
+from .boxes import Box, boxes
+from .found import Blocks, Broken
+from .streams import Stream, leave
+
+UUID = bytes.fromhex("85c0b687820f11e08111f4ce462b6a48")
+VERSION, MAIN, EXIF, MAKER_NOTE, GPS = b"CNCV", b"CMT1", b"CMT2", b"CMT3", b"CMT4"
+_WITHOUT = frozenset((b"CCTP", b"CTBO", b"THMB", b"free"))  # kinds and places of tracks, thumbnail
+
+
+def parts(blocks: Blocks, stream: Stream, it: Box) -> Dict[bytes, Box]:
+    """The version and the structures of the box. Other boxes in it are named. Raises `Broken`."""
+    found: Dict[bytes, Box] = {}
+    for one in boxes(stream, it.start, it.end):
+        if one.kind in (VERSION, MAIN, EXIF, MAKER_NOTE, GPS):
+            if one.kind in found:
+                raise Broken(f"a second {one.name}")
+            found[one.kind] = one
+        elif one.kind not in _WITHOUT:
+            leave(blocks, f"{one.name} of Canon", stream, one.start, one.end)
+    return found
+
+
+def leave_all(blocks: Blocks, stream: Stream, it: Box) -> None:
+    """Names the structures, in a picture whose Exif is elsewhere. Raises `Broken`."""
+    for one in parts(blocks, stream, it).values():
+        if one.kind != VERSION:
+            leave(blocks, f"{one.name} of Canon", stream, one.start, one.end)

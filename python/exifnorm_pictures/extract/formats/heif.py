@@ -1,0 +1,139 @@
+"""HEIF, HEIC and AVIF: the Exif and XMP items of each picture (ISO/IEC 23008-12, Annex A; XMP part 3), and XMP in a box uuid.
+
+Not compared, because they contain no Exif, IPTC or XMP: coded pictures, properties such as size and rotation, and bytes of mdat and idat
+that no item has.
+"""
+
+from __future__ import annotations
+
+from typing import Dict, List, Optional, Set, Tuple
+
+from ..budgets import BOX_BYTES, budget_of
+from . import canon, item_exif
+from .boxes import XMP_UUID, Box, add_xmp, boxes, boxes_of_file
+from .found import EXIF, XMP, Blocks, Broken, NotRead
+from .heif_items import PICTURES, READERS, Item, Items
+from .streams import Stream, digest_of_parts, leave, read_at, size_of
+
+BRANDS = frozenset(
+    b"heic heix heim heis hevc hevx hevm hevs mif1 mif2 mif3 msf1 miaf avif avis avci avcs jpeg jpgs j2ki j2is vvic vvis evbi evbs".split()
+)
+_TYPE_OF_XMP = b"application/rdf+xml"
+_WITHOUT = frozenset((b"mdat", b"free", b"skip", b"wide"))
+_WITHOUT_IN_META = frozenset((b"dinf", b"grpl", b"free", b"skip"))
+# Properties without texts (ISO/IEC 23008-12, 6.5; ISO/IEC 23000-22; AV1 image file format)
+_PROPERTIES = frozenset(
+    b"ispe pixi pasp colr auxC irot imir clap rloc lsel hvcC av1C avcC j2kH jpgC vvcC evcC a1op a1lx clli mdcv cclv amve iscl oinf tols lhvC"
+    b" cmpd uncC ster cmex cmin reve ndwt prdi free skip".split()
+)
+
+
+def is_heif(head: bytes) -> bool:
+    """Whether a file with these first twelve bytes is a HEIF.
+
+    >>> is_heif(b"\\0\\0\\0\\x18ftypheic"), is_heif(b"\\0\\0\\0\\x18ftypmp42")
+    (True, False)
+    """
+    return head[4:8] == b"ftyp" and head[8:12] in BRANDS
+
+
+def read(stream: Stream, whole: bool = False) -> Blocks:
+    """The blocks of a HEIF, which is always read to its last box. Raises `Broken`."""
+    blocks = Blocks(type="AVIF" if read_at(stream, 8, 3) == b"avi" else "HEIC", budget=budget_of(stream))
+    meta = None
+    for it in boxes_of_file(blocks, stream, _is_whole):
+        if it.kind == b"meta":
+            if meta is not None:
+                raise Broken("the file has two meta boxes")
+            meta = it
+            _Reader(stream, blocks).read(it)
+        elif it.uuid == XMP_UUID:
+            add_xmp(blocks, stream, it)
+        elif it.kind not in _WITHOUT and it.at:  # the first one is ftyp
+            leave(blocks, it.name, stream, it.start, it.end)
+    return blocks
+
+
+def _is_whole(kinds: Set[bytes]) -> bool:
+    return b"mdat" in kinds and (b"meta" in kinds or b"moov" in kinds)
+
+
+class _Reader:
+    """The meta box of one file."""
+
+    def __init__(self, stream: Stream, blocks: Blocks) -> None:
+        self.stream = stream
+        self.blocks = blocks
+        self.items = Items(stream)
+
+    def read(self, meta: Box) -> None:
+        """Adds the blocks of all items."""
+        known: Set[bytes] = set()
+        for it in boxes(self.stream, meta.start + 4, meta.end):
+            if it.kind in READERS or it.kind == b"iprp":
+                if it.kind in known:
+                    raise Broken(f"a second {it.name} at {it.at}")
+                known.add(it.kind)
+            if it.kind in READERS:
+                self.items.read(it)
+            elif it.kind == b"iprp":
+                self._properties(it)
+            elif it.uuid == canon.UUID:
+                canon.leave_all(self.blocks, self.stream, it)
+            elif it.kind not in _WITHOUT_IN_META:
+                self._leave(f"{it.name} in meta", it)
+        self.items.check()
+        names = self.items.pictures()
+        for item in self.items.items:
+            if item.kind not in PICTURES:
+                self._take(item, names)
+
+    def _leave(self, what: str, it: Box) -> None:
+        leave(self.blocks, what, self.stream, it.start, it.end)
+
+    def _properties(self, iprp: Box) -> None:
+        for it in boxes(self.stream, iprp.start, iprp.end):
+            if it.kind == b"ipco":
+                for one in boxes(self.stream, it.start, it.end):
+                    if one.kind not in _PROPERTIES:
+                        self._leave(one.name.replace(" box", " property"), one)
+            elif it.kind != b"ipma":
+                self._leave(f"{it.name} in iprp", it)
+
+    def _take(self, item: Item, names: Dict[int, str]) -> None:
+        """Adds the block of an item, or names it."""
+        part = self.items.part_of(item, names)
+        what = item.words + (f" of {part}" if part else "")
+        ranges = self._ranges(item)
+        if ranges is None or item.is_protected:
+            self.blocks.name(NotRead(f"{what}, protected or kept elsewhere", ""))
+        elif not any(end > start for start, end in ranges):
+            return  # ExifTool deletes an item so
+        elif item.kind == b"Exif":
+            block = item_exif.block_of(self._data(ranges))
+            if block is None:
+                self.blocks.name(NotRead(f"{what} without a header", digest_of_parts(self.stream, ranges)))
+            else:
+                self.blocks.add(EXIF, block, f"Exif item at {ranges[0][0]}", part)
+        elif item.type == _TYPE_OF_XMP and not item.encoding:
+            self.blocks.add(XMP, self._data(ranges), f"XMP item at {ranges[0][0]}", part)
+        else:
+            self.blocks.name(NotRead(what, digest_of_parts(self.stream, ranges)))
+
+    def _ranges(self, item: Item) -> Optional[List[Tuple[int, int]]]:
+        """The parts of the file that an item has; None if it is elsewhere, or consists of other items."""
+        place = self.items.places.get(item.number)
+        idat = self.items.idat
+        if place is None or place.is_elsewhere or place.method > 1 or (place.method == 1 and idat is None):
+            return None
+        start, end = (idat.start, idat.end) if place.method == 1 and idat is not None else (0, size_of(self.stream))
+        if not place.has_lengths or (place.method == 1 and any(not length for _, length in place.extents)):
+            return None  # all of the file or of idat
+        found = [(start + offset, start + offset + length) for offset, length in place.extents]
+        if any(stop > end for _, stop in found):
+            raise Broken(f"item {item.number} isn't in the file")
+        return found
+
+    def _data(self, ranges: List[Tuple[int, int]]) -> bytes:
+        self.blocks.budget.spend(BOX_BYTES, sum(end - start for start, end in ranges))
+        return b"".join(read_at(self.stream, start, end - start) for start, end in ranges)

@@ -1,0 +1,191 @@
+"""The items of a HEIF file: what the box meta says of each picture and of each block (ISO/IEC 14496-12, 8.11; ISO/IEC 23008-12)."""
+
+from __future__ import annotations
+
+from typing import Callable, Dict, List, NamedTuple, Optional, Set
+
+from ..budgets import EXTENTS, ITEMS, budget_of
+from .boxes import Box, Fields, boxes, content
+from .found import Broken
+from .streams import Stream
+
+# Coded and derived pictures: their items have no metadata
+PICTURES = frozenset(
+    b"hvc1 hvt1 lhv1 av01 avc1 svc1 mvc1 jpeg j2k1 vvc1 vvcN evc1 unci mski grid iovl iden tmap tild".split(),
+)
+MOST_DESCRIBED = 8  # pictures that one block describes, besides the main one
+
+_METHODS = 3  # how an item is found: in the file, in the box idat, or in other items
+
+
+class Item(NamedTuple):
+    """An item: its number, its kind, and of a mime item the type and the encoding of what it contains."""
+
+    number: int
+    kind: bytes
+    is_protected: bool
+    type: bytes = b""
+    encoding: bytes = b""
+
+    @property
+    def words(self) -> str:
+        """Its kind for people.
+
+        >>> Item(1, b"mime", False, b"text/plain").words
+        'mime item text/plain'
+        """
+        return " ".join(it for it in (_word(self.kind), "item", _word(self.type)) if it)
+
+
+def _word(data: bytes) -> str:
+    return "".join(chr(it) if 32 < it < 127 else "?" for it in data[:60].strip())
+
+
+class Place(NamedTuple):
+    """Where the bytes of an item are."""
+
+    method: int  # 0: in the file, 1: in the box idat, 2: in other items
+    is_elsewhere: bool  # in another file
+    has_lengths: bool
+    extents: List["tuple[int, int]"]  # offset and length of each part
+
+
+class Items:
+    """The items of one file."""
+
+    def __init__(self, stream: Stream) -> None:
+        self.stream = stream
+        self.budget = budget_of(stream)
+        self.items: List[Item] = []
+        self.places: Dict[int, Place] = {}
+        self.idat: Optional[Box] = None
+        self.primary: Optional[int] = None
+        self._described: Dict[int, List[int]] = {}  # the pictures that an item describes
+        self._tiles: Set[int] = set()
+        self._auxiliary: List[int] = []
+        self._thumbnails: List[int] = []
+
+    def read(self, it: Box) -> None:
+        """Reads a box of `READERS`. Raises `Broken` and `TooMuch`."""
+        READERS[it.kind](self, it)
+
+    def _full(self, it: Box) -> "tuple[int, Fields]":
+        """The version and the fields of a box."""
+        fields = Fields(content(self.stream, it), it.name)
+        version = fields.number(1)
+        fields.number(3)
+        return version, fields
+
+    def _hdlr(self, it: Box) -> None:
+        _, fields = self._full(it)
+        fields.number(4)
+        if fields.number(4) != int.from_bytes(b"pict", "big"):
+            raise Broken("the meta box is of no picture")
+
+    def _pitm(self, it: Box) -> None:
+        version, fields = self._full(it)
+        self.primary = fields.number(4 if version else 2)
+
+    def _idat(self, it: Box) -> None:
+        self.idat = it
+
+    def _iinf(self, it: Box) -> None:
+        version, fields = self._full(it)
+        count = fields.number(4 if version else 2)
+        self.items = [self._infe(box) for box in boxes(self.stream, it.start + fields.at, it.end) if box.kind == b"infe"]
+        if not count == len(self.items) == len({item.number for item in self.items}):
+            raise Broken("the list of items is wrong")
+
+    def _infe(self, it: Box) -> Item:
+        self.budget.spend(ITEMS)
+        version, fields = self._full(it)
+        if version not in (2, 3):
+            raise Broken(f"an item of version {version} at {it.at}")
+        number = fields.number(2 if version == 2 else 4)
+        is_protected = fields.number(2) != 0
+        kind = fields.number(4).to_bytes(4, "big")
+        if kind != b"mime":
+            return Item(number, kind, is_protected)
+        fields.text()  # its name
+        type_ = fields.text()
+        return Item(number, kind, is_protected, type_, fields.text() if fields.at < len(fields.data) else b"")
+
+    def _iloc(self, it: Box) -> None:
+        version, fields = self._full(it)
+        sizes = fields.number(2)
+        offset, length, base, index = sizes >> 12, sizes >> 8 & 15, sizes >> 4 & 15, sizes & 15 if version else 0
+        if version > 2 or not {offset, length, base, index} <= {0, 4, 8}:
+            raise Broken("the iloc box has another form")
+        for _ in range(fields.number(4 if version == 2 else 2)):
+            self.budget.spend(EXTENTS)
+            number = fields.number(4 if version == 2 else 2)
+            method = fields.number(2) & 15 if version else 0
+            is_elsewhere = fields.number(2) != 0
+            start = fields.number(base)
+            extents = [self._extent(fields, start, (index, offset, length)) for _ in range(self._counted(fields.number(2)))]
+            if number in self.places or method >= _METHODS:
+                raise Broken(f"item {number} has no certain place")
+            self.places[number] = Place(method, is_elsewhere, length > 0, extents)
+
+    def _extent(self, fields: Fields, start: int, sizes: "tuple[int, int, int]") -> "tuple[int, int]":
+        index, offset, length = sizes
+        fields.number(index)
+        return start + fields.number(offset), fields.number(length)
+
+    def _counted(self, count: int) -> int:
+        self.budget.spend(EXTENTS, count)
+        return count
+
+    def _iref(self, it: Box) -> None:
+        version, fields = self._full(it)
+        if version > 1:
+            raise Broken("the iref box has another form")
+        size = 4 if version else 2
+        for box in boxes(self.stream, it.start + fields.at, it.end):
+            numbers = Fields(content(self.stream, box), box.name)
+            item = numbers.number(size)
+            others = [numbers.number(size) for _ in range(self._counted(numbers.number(2)))]
+            if box.kind == b"cdsc":
+                self._described.setdefault(item, []).extend(others)
+            elif box.kind == b"dimg":
+                self._tiles.update(others)
+            elif box.kind == b"auxl":
+                self._auxiliary.append(item)
+            elif box.kind == b"thmb":
+                self._thumbnails.append(item)
+
+    def check(self) -> None:
+        """Raises `Broken` if the main picture is no item."""
+        if self.primary is not None and all(it.number != self.primary for it in self.items):
+            raise Broken("the main picture is no item")
+
+    def pictures(self) -> Dict[int, str]:
+        """The names of the pictures that are neither the main one nor parts of others, by their numbers."""
+        names = {}
+        for word, numbers in (("auxiliary picture", self._auxiliary), ("thumbnail", self._thumbnails)):
+            names.update({number: f"{word} {count}" for count, number in enumerate(dict.fromkeys(numbers), 1)})
+        count = 0
+        for it in self.items:
+            if it.kind in PICTURES and it.number not in names and (it.number == self.primary or it.number not in self._tiles):
+                count += 1
+                names[it.number] = f"picture {count}"
+        return names
+
+    def part_of(self, item: Item, names: Dict[int, str]) -> str:
+        """The name of the picture that an item describes: none for the main picture, and where no picture is named."""
+        described = list(dict.fromkeys(self._described.get(item.number, ())))
+        if not described or self.primary is None or self.primary in described:
+            return ""
+        if len(described) > MOST_DESCRIBED:
+            raise Broken(f"item {item.number} describes more than {MOST_DESCRIBED} pictures")
+        return " and ".join(names.get(it, f"item {it}") for it in described)
+
+
+READERS: Dict[bytes, Callable[[Items, Box], None]] = {
+    b"hdlr": Items._hdlr,
+    b"pitm": Items._pitm,
+    b"idat": Items._idat,
+    b"iinf": Items._iinf,
+    b"iloc": Items._iloc,
+    b"iref": Items._iref,
+}

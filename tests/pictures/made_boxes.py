@@ -1,0 +1,100 @@
+"""Picture files made of boxes, written by hand: HEIF, CR3, JPEG XL and JPEG 2000."""
+
+import struct
+from typing import NamedTuple, Tuple
+
+CANON = bytes.fromhex("85c0b687820f11e08111f4ce462b6a48")
+XMP_UUID = bytes.fromhex("be7acfcb97a942e89c71999491e3afac")
+RDF = b"application/rdf+xml\0"
+
+
+def box(kind, *parts):
+    data = b"".join(parts)
+    return struct.pack(">I4s", 8 + len(data), kind) + data
+
+
+def full(kind, version, *parts):
+    """A box with a version, and flags of 0."""
+    return box(kind, bytes((version, 0, 0, 0)), *parts)
+
+
+def wide(made):
+    """The same box with a length of eight bytes."""
+    return struct.pack(">I4sQ", 1, made[4:8], len(made) + 8) + made[8:]
+
+
+def item_exif(block, before=b"Exif\0\0"):
+    """An Exif block as an item, after so many bytes."""
+    return struct.pack(">I", len(before)) + before + block
+
+
+class Item(NamedTuple):
+    """An item of a HEIF. Its number is its position, from 1 on."""
+
+    kind: bytes
+    data: bytes
+    after_name: bytes = b""  # what follows the name: of a mime item its type and its encoding
+    describes: Tuple[int, ...] = ()
+    method: int = 0  # of construction
+    parts: int = 1  # extents
+    protected: int = 0
+    elsewhere: int = 0
+    references: Tuple[Tuple[bytes, Tuple[int, ...]], ...] = ()  # other references, each with its kind
+
+
+PICTURE = Item(b"hvc1", b"\x01" * 50)
+
+
+def mime(packet, describes=(), **more):
+    return Item(b"mime", packet, RDF, describes, **more)
+
+
+def heif(*items, primary=1, brand=b"heic", in_meta=b"", properties=b"", behind=b"", version=1, size=4, padding=b"", large=False):
+    """A HEIF with these items. `padding` separates their parts, `version` is that of iloc and `size` the bytes of its offsets."""
+    head = box(b"ftyp", brand + b"\0\0\0\0mif1" + brand)
+    number = "I" if version == 2 else "H"
+    idat = b"".join(it.data for it in items if it.method == 1)
+    split = [_split(it) for it in items]
+    media = b"".join(padding + part for parts, it in zip(split, items) if it.method != 1 for part in parts)
+
+    def meta(start):
+        places, at, inside = b"", start, 0
+        for count, (parts, it) in enumerate(zip(split, items), 1):
+            places += struct.pack(">" + number, count) + (struct.pack(">H", it.method) if version else b"")
+            places += struct.pack(">HH", it.elsewhere, len(parts))
+            for part in parts:
+                at += len(padding) if it.method != 1 else 0
+                places += (inside if it.method == 1 else at).to_bytes(size, "big") + len(part).to_bytes(size, "big")
+                inside, at = (inside + len(part), at) if it.method == 1 else (inside, at + len(part))
+        return full(
+            b"meta",
+            0,
+            full(b"hdlr", 0, bytes(4), b"pict", bytes(12), b"\0"),
+            full(b"pitm", 0, struct.pack(">H", primary)) if primary else b"",
+            full(b"iinf", 0, struct.pack(">H", len(items)), *(_infe(count, it) for count, it in enumerate(items, 1))),
+            full(b"iref", 0, *_references(items)),
+            box(b"iprp", box(b"ipco", full(b"ispe", 0, struct.pack(">II", 8, 8)), properties), full(b"ipma", 0, bytes(4))),
+            box(b"idat", idat),
+            full(b"iloc", version, bytes((size << 4 | size, 0)), struct.pack(">" + number, len(items)), places),
+            in_meta,
+        )
+
+    start = len(head) + len(meta(0)) + (16 if large else 8)
+    data = box(b"mdat", media)
+    return head + meta(start) + (wide(data) if large else data) + behind
+
+
+def _split(it):
+    """The data of an item in as many parts as it has."""
+    ends = [len(it.data) * number // it.parts for number in range(it.parts + 1)]
+    return [it.data[one:other] for one, other in zip(ends, ends[1:])]
+
+
+def _infe(number, it):
+    return full(b"infe", 2, struct.pack(">HH4s", number, it.protected, it.kind), b"\0", it.after_name)
+
+
+def _references(items):
+    for number, it in enumerate(items, 1):
+        for kind, others in (*((b"cdsc", it.describes),) * bool(it.describes), *it.references):
+            yield box(kind, struct.pack(f">HH{len(others)}H", number, len(others), *others))
