@@ -419,7 +419,7 @@ class Rights(WithPictures):
         self.assertEqual((done.returncode, done.stdout, done.stderr.decode().count(self.path("after", "closed"))), (4, b"", 1), done.stderr)
         os.chmod(self.path("after", "closed"), 0o755)
         done = self.as_nobody("changed", "before", "after")
-        self.assertEqual((done.returncode, done.stdout), (0, b"2 same\n"), done)
+        self.assertEqual((done.returncode, done.stdout), (0, b"2 pictures compared: none changed.\n\n2 same\n"), done)
 
     def test_a_folder_that_nothing_can_be_written_to(self):
         os.makedirs(self.path("shut"))
@@ -490,8 +490,8 @@ class Kinds(InFolder):
         for side, octets in (("before", with_exif(SMALL_JPEG, block([MAKE]))), ("after", with_exif(SMALL_JPEG, block([MODEL])))):
             os.mkdir(self.path(side))
             write(self.path(side, "a.jpg"), octets)
-        lines = self.asked("changed", "before", "after", status=1)
-        self.assertEqual(lines[1:3], ['  - main:Make: "Abc" -> -', '  + main:Model: - -> "Xyz"'])
+        lines = self.asked("changed", "before", "after", "--each", status=1)
+        self.assertEqual(lines[1:3], ['  - IFD0:Make: "Abc"', '  + IFD0:Model: "Xyz"'])
 
     def test_what_is_no_file_is_not_compared(self):
         """A pipe, and a link that leads to no file, on one side or on both."""
@@ -502,7 +502,7 @@ class Kinds(InFolder):
         os.mkfifo(self.path("before", "b.jpg"))
         os.symlink("nothing", self.path("after", "d.jpg"))
         write(self.path("after", "b.jpg"), ONE)
-        lines = self.asked("changed", "before", "after", status=1)
+        lines = self.asked("changed", "before", "after", "--each", status=1)
         self.assertEqual(lines, ["b.jpg: missing before", "1 same, 1 missing before"])
 
     def test_what_was_never_compared_is_the_same_by_its_bytes_alone(self):
@@ -522,9 +522,9 @@ class Kinds(InFolder):
             for number in range(12):
                 write(self.path(side, f"{number:02}.jpg"), with_exif(SMALL_JPEG, block([MAKE[:-4] + artist])))
             write(self.path(side, "other.jpg"), with_exif(SMALL_JPEG, block([MAKE, MODEL[:-4] + artist])))
-        lines = self.asked("changed", "before", "after", status=1)
+        lines = self.asked("changed", "before", "after", "--each", status=1)
         self.assertEqual(
-            lines[:2], ["12 pictures: different (Exif is different, no IPTC and no XMP)", '  ~ main:Make: "Old" -> "New" in 12 pictures']
+            lines[:2], ["12 pictures: different (Exif is different, no IPTC and no XMP)", '  ~ IFD0:Make: "Old" -> "New" in 12 pictures']
         )
         self.assertEqual([it.strip() for it in lines[2:14]], [f"{number:02}.jpg" for number in range(12)])
         self.assertEqual(lines[14].split(":")[0], "other.jpg")

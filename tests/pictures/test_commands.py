@@ -53,10 +53,10 @@ class Index(WithPictures):
         names = sorted(os.path.basename(it["path"]) for it in told if "path" in it and it.get("problem") != "NeedsExiv2")
         self.assertEqual(names, ["bare.jpg", "first.jpg", "new.jpg"])
         self.assertEqual(told[-1]["counts"]["Vanished"], 1)
-        changed = self.asked("changed", "old", "c", status=1)
+        changed = self.asked("changed", "old", "c", "--each", status=1)
         self.assertEqual(changed[0], "bare.jpg: missing after")
         self.assertEqual(
-            changed[1:3], ["first.jpg: different (IPTC is the same, Exif is different, no XMP)", '  ~ main:Artist: "Zürich" -> "Other"']
+            changed[1:3], ["first.jpg: different (IPTC is the same, Exif is different, no XMP)", '  ~ IFD0:Artist: "Zürich" -> "Other"']
         )
         self.assertEqual(changed[3], "new.jpg: missing before")
 

@@ -72,8 +72,8 @@ class Documents(WithPictures):
             )
             self.assertEqual(ran.returncode, 1 if "pictures changed" in line else 0, (line, ran.stderr))
             printed.append(ran.stdout.decode())
-        self.assertIn("main:Copyright", printed[2])
-        self.assertIn("main:Copyright", read(self.path("report.html")).decode())
+        self.assertIn("IFD0:Copyright", printed[2])
+        self.assertIn("IFD0:Copyright", read(self.path("report.html")).decode())
         self.assertEqual(printed[-1].count('"label"'), 4, "three artists and a copyright")
 
     @needs("exiftool")

@@ -454,7 +454,7 @@ class Outputs(WithPictures):
         self.asked("index", "p", "--catalogue", "c", "--quiet", "--keep-old", "d")
         self.asked("index", "p", "--catalogue", "c", "--quiet", "--keep-old", "new")
         self.assertEqual(read(self.path("new"))[18:20], b"\1\1", "no write-ahead log is needed to read it")
-        self.assertEqual(self.asked("changed", "d", "new"), ["1 same, 1 refused, the same bytes"])
+        self.assertEqual(self.asked("changed", "d", "new", "--each"), ["1 same, 1 refused, the same bytes"])
 
     def test_a_folder_that_is_missing(self):
         """The message has the name that was given, not that of the file that is renamed in the end."""
@@ -624,7 +624,7 @@ class Arguments(WithPictures):
                 write(self.path(side, name), with_exif(SMALL_JPEG, block([MAKE[:-4] + artist])))
             self.asked("index", side, "--catalogue", side + ".c", "--quiet")
         for listed in (os.fsencode(self.path("two", "a.jpg")), os.fsencode(self.path("one", "a.jpg")), b"a.jpg"):
-            lines = self.asked("changed", "one.c", "two.c", "--files-from", "-", given=listed, status=1)
+            lines = self.asked("changed", "one.c", "two.c", "--each", "--files-from", "-", given=listed, status=1)
             self.assertEqual(lines[-1], "1 different")
         given = os.fsencode(self.path("two", "a.jpg"))
         found = [

@@ -20,6 +20,7 @@ from made_files import chunk, exif, page, png, tiff, title
 from studio import SMALL_JPEG, TOP, WithPictures, needs, read, tool, write
 
 from exifnorm_pictures.cli import main, mend as mend_cli, report as report_cli, same
+from exifnorm_pictures.compare import differing
 from exifnorm_pictures.extract import exiftool, judge, programs, readers
 from exifnorm_pictures.fields import labels, listing, names
 from exifnorm_pictures.refusals import explain, mend
@@ -294,9 +295,9 @@ class Listed(unittest.TestCase):
             ("iptc", "2:5"),
             ("exif", "9003"),
         ]
-        found = listing.changes([], [Field(where, key, "SHORT", 1, "1") for where, key in names])
+        found = differing.differences([], [Field(where, key, "SHORT", 1, "1") for where, key in names])
         self.assertEqual(
-            [it.name for it in found],
+            [it.change_name for it in found],
             [
                 "main:Make",
                 "exif:DateTimeOriginal",

@@ -33,16 +33,22 @@ def problem(name, word, detail=""):
 
 CHANGED = [
     contents.EqualChanges(
-        "different", "Exif is different", [("main:Make", '"<a>"', '"b"'), ("main:Model", None, "x" * 301)], 1, [b"one.jpg"]
+        "different", "Exif is different", [("IFD0:Make", '"<a>"', '"b"', ""), ("IFD0:Model", None, "x" * 301, "")], 1, [b"one.jpg"]
     ),
-    contents.EqualChanges("different", "", [("exif:Flash", "1", None)], 1200, [b"x.jpg", b"y\n.jpg"]),
+    contents.EqualChanges(
+        "different",
+        "",
+        [("ExifIFD:Flash", "1", None, ""), ("ExifIFD:MakerNote", None, None, "reads <the> same")],
+        1200,
+        [b"x.jpg", b"y\n.jpg"],
+    ),
     contents.EqualChanges("moved", "to b&.jpg", [], 1, [b"a.jpg"]),
     contents.EqualChanges("missing after", "", [], 2, [b"m.jpg", b"n.jpg"]),
     contents.EqualChanges("refused", "Exif: Overlap", [], 1, [b"r.jpg"]),
     contents.EqualChanges("only MakerNote differs", "", [], 1, [b"k.jpg"]),
     contents.EqualChanges("not read", "", [], 1, [b"l.jpg"]),
-    contents.EqualChanges("different", "", [(f"iptc:{number}", "1", "2") for number in range(42)], 1, [b"8"]),
-    contents.EqualChanges("different", "", [("a", "1", "2")], 1, [b"9"]),
+    contents.EqualChanges("different", "", [(f"IPTC:{number}", "1", "2", "") for number in range(42)], 1, [b"8"]),
+    contents.EqualChanges("different", "", [("a", "1", "2", "")], 1, [b"9"]),
 ]
 
 

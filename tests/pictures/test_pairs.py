@@ -410,6 +410,6 @@ class Explained(WithPictures):
             write(self.path(side, "a.jpg"), jpeg(app1(A), app1_xmp(title(text))))
         lines = self.asked("show", "before/a.jpg")
         self.assertIn(["dc:format", "text", '"one"'], [it.split() for it in lines])
-        words = "\n".join(self.asked("changed", "before", "after", status=1))
-        self.assertIn('xmp:dc:format: "one" -> "two"', words)
+        words = "\n".join(self.asked("changed", "before", "after", "--each", status=1))
+        self.assertIn('XMP-dc:format: "one" -> "two"', words)
         self.assertIn("Exif is the same, XMP is different, no IPTC", words)

@@ -14,7 +14,7 @@ from studio import WithPictures, write
 from exifnorm_pictures import xmp
 from exifnorm_pictures.catalogue import records
 from exifnorm_pictures.cli import output
-from exifnorm_pictures.compare import moved, verdicts
+from exifnorm_pictures.compare import differing, moved, verdicts
 from exifnorm_pictures.extract import exiftool, programs
 from exifnorm_pictures.fields import listing
 from exifnorm_pictures.report import thumbnails
@@ -101,9 +101,11 @@ class Shown(unittest.TestCase):
             ([field("structure", 1, '{dc:a="1"}')], 'structure[1] {dc:a="1"}'),
             ([field("UNDEFINED", 99, f"0x00.. sha256:{digits(b'abc')}")], f"undefined[99] 0x00.. sha256:{digits(b'abc', 12)}"),
         ):
-            self.assertEqual([tuple(it)[:3] for it in listing.changes(fields, [])], [("xmp:dc:a", text, None)])
-            self.assertEqual([tuple(it)[:3] for it in listing.changes([], fields)], [("xmp:dc:a", None, text)])
-            self.assertEqual(listing.changes(fields, fields), [])
+            self.assertEqual(differing.bare(fields), text)
+            (came,), (went,) = differing.differences([], fields), differing.differences(fields, [])
+            self.assertEqual((came.name, came.before, list(came.after), came.sign), ("XMP-dc:a", (), fields, "+"))
+            self.assertEqual((went.name, list(went.before), went.after, went.sign), ("XMP-dc:a", fields, (), "-"))
+            self.assertEqual(differing.differences(fields, fields), [])
         other = [field("ASCII", 2, '"a"', "exif", "927c"), field("SHORT", 1, "1", "main", "0112")]
         self.assertEqual(
             [listing.only_maker_note(*it) for it in ((other, other[1:]), (other, other), (other, other[:1]))], [True, False, False]

@@ -75,15 +75,15 @@ class Commands(InProcess):
         os.remove(self.path("q", "f.jpg"))
         write(self.path("q", "new.jpg"), SMALL_JPEG)
         changed = ("changed", "@/p", "@/q")
-        text = self.transcript((2, *changed), (2, *changed, "--json"), (0, "changed", "@/q", "@/q"), (0, "changed", "@/p", "@/p", "--all"))
-        self.golden("changed.txt", text)
+        each = ((2, *changed, *words) for words in ((), ("--each",), ("--exact",), ("--json",)))
+        self.golden("changed.txt", self.transcript(*each, (0, "changed", "@/q", "@/q"), (0, "changed", "@/p", "@/p", "--all")))
 
     def test_changed_moves(self):
         self.indexed()
         os.rename(self.path("p", "d.png"), self.path("p", "s", "d\n.png"))
         self.printed("index", "@/p", "--keep-old", "@/old", *QUIET)
         changed = ("changed", "@/old", "@/c")
-        self.golden("changed-moved.txt", self.transcript((1, *changed), (1, *changed, "--json")))
+        self.golden("changed-moved.txt", self.transcript((1, *changed), (1, *changed, "--each"), (1, *changed, "--json")))
 
     def test_show(self):
         names = self.named("a.jpg", "c.jpg", "d.png", "e.jpg", "f.jpg", "j\n.jpg", "nothing.jpg", "a.jpg")

@@ -366,7 +366,7 @@ class Catalogues(Promises):
             ">Doubled</text>",
             "2 pictures <span",
             '<img src="data:image/',
-            "main:Make",
+            "IFD0:Make",
             "trailer of 4 bytes",
             "Remedy",
         ):

@@ -136,16 +136,17 @@ class Scale(WithPictures):
             before = self.catalogue(f"before{count}", count, "n")
             after = self.catalogue(f"after{count}", count, "n", folder="other")
             costs.append(self.counted("changed", before, after, status=1))
-            self.assertEqual(self.said.splitlines()[-1], f"{count} moved")
+            self.assertIn(f"{count:,} moved: ", self.said)
         self.grows_little(*costs, MORE_GROWTH)
 
     def test_memory_of_changed_where_all_differ(self):
         costs = []
         for count in (600, 6000):
             before, after = self.catalogue(f"before{count}", count, "n"), self.catalogue(f"after{count}", count, "n + 1000000", mark=1)
-            costs.append(self.counted("changed", before, after, status=1))
-            self.assertEqual(self.said.splitlines()[-1], f"{count} different")
-        self.grows_little(*costs)
+            costs.append([self.counted("changed", before, after, *words, status=1) for words in (["--each"], [])])
+            self.assertIn(f"{count:,} different: ", self.said)
+        for few, many in zip(*costs):
+            self.grows_little(few, many)
 
     def test_report_of_many_pictures(self):
         sizes = []
@@ -171,7 +172,7 @@ class Scale(WithPictures):
         for number, (what, (after, result, rows)) in enumerate(cases.items()):
             with self.subTest(what):
                 few, many = (self.compared(f"{number}-{count}", count, **after) for count in (400, 4000))
-                self.assertIn(f" {result}", self.said.splitlines()[-1])
+                self.assertIn(f" {result}", self.said)
                 self.assertLessEqual(many["rows"] - few["rows"], rows * 3600)
                 self.assertLess(many["steps"], 12 * few["steps"])
 

@@ -15,6 +15,7 @@ import kinds
 from studio import WithPictures
 
 from exifnorm_pictures.compare import changed, groups, pairs as pairing
+from exifnorm_pictures.compare.differing import bare
 from exifnorm_pictures.scan import workers
 from exifnorm_pictures.report import contents
 from exifnorm_pictures.catalogue import store
@@ -294,7 +295,7 @@ class Tables(WithPictures):
         self.assertEqual((dict(found.parts), found.unread), ({"trailer": 2, "other": 1}, 2))
         self.assertEqual(found.all_groups, (0, 0))
         self.assertEqual(dict(found.results), {"same": 1, "refused": 1, "different": 2, "missing before": 5})
-        self.assertEqual((dict(found.fields), found.all_changed), ({"main:Make": 2}, 4))
+        self.assertEqual((dict(found.fields), found.all_changed), ({"IFD0:Make": 2}, 4))
         chosen = contents.gather(contents.About(self.catalogue("d", *now), only={b"/a/b", b"/a/n"}, look=False))
         self.assertEqual((chosen.total, dict(chosen.causes)), (2, {"Overlap": 1, "DataSetCut": 1}))
 
@@ -327,7 +328,12 @@ class Details(WithPictures):
             by = "own" if isinstance(blocks, PictureRecord) or all(one.extractor == "own" for one in it.blocks) else "exiftool"
             sides.append(self.catalogue(f"{name}{number}", it._replace(extractor=by)))
         (found,) = changed.changed(*sides, Counter(), every=True)
-        return found.result, found.note, [tuple(it)[:3] for it in found.changes], [it.result for it in found.verdicts]
+        return (
+            found.result,
+            found.note,
+            [(it.change_name, bare(it.before), bare(it.after)) for it in found.changes],
+            [it.result for it in found.verdicts],
+        )
 
     def test_programs_that_extracted_blocks(self):
         one, two = with_fields(EXIF, "Exif", "a", [make("a")], "exiv2"), with_fields(IPTC, "IPTC", "b", [make("b")], "exiftool")

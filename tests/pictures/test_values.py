@@ -16,6 +16,7 @@ from studio import TESTS_PATH, WithPictures, interpreter_with, needs, run
 
 from exifnorm_pictures.cli import signals
 from exifnorm_pictures.compare import changed
+from exifnorm_pictures.compare.differing import bare
 from exifnorm_pictures.extract import judge
 from exifnorm_pictures.scan import batches, index
 from exifnorm_pictures.catalogue.records import Block, Damaged
@@ -88,7 +89,10 @@ class RowsOfCatalogues(WithPictures):
             for it, digest, value in zip(sides, "ab", good):
                 it.base.execute(f"UPDATE blocks SET status = 'accepted', cause = NULL, place = NULL, digest = '{digest}', fields = {value}")
                 it.base.execute(f"UPDATE pictures SET exif = '{digest}'")
-            found = [(it.result, [tuple(one)[:3] for one in it.changes]) for it in changed.changed(*sides, Counter())]
+            found = [
+                (it.result, [(one.change_name, bare(one.before), bare(one.after)) for one in it.changes])
+                for it in changed.changed(*sides, Counter())
+            ]
             self.assertEqual(found, [("different", [("main:Make", "abc", "xyz")])])
             sides[side].base.execute(f"UPDATE blocks SET fields = {fields}")
             with self.assertRaises(NoCatalogue, msg=(side, fields[:40])) as raised:

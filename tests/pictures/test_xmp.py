@@ -227,6 +227,7 @@ class Packets(unittest.TestCase):
         self.assertEqual(cause(asking, {name: more + b" "}), "ExtensionDamaged")
 
     def test_properties_are_named(self):
+        from exifnorm_pictures.compare.differing import bare, differences
         from exifnorm_pictures.fields import listing
         from exifnorm_pictures import xmp as reading
 
@@ -235,7 +236,8 @@ class Packets(unittest.TestCase):
 
         one = fields(xmp("<dc:format>one</dc:format><dc:subject><rdf:Bag><rdf:li>b</rdf:li><rdf:li>a</rdf:li></rdf:Bag></dc:subject>"))
         other = fields(xmp("<dc:format>two</dc:format><dc:subject><rdf:Bag><rdf:li>a</rdf:li><rdf:li>b</rdf:li></rdf:Bag></dc:subject>"))
-        self.assertEqual([tuple(it)[:3] for it in listing.changes(one, other)], [("xmp:dc:format", '"one"', '"two"')])
+        found = [(it.change_name, bare(it.before), bare(it.after)) for it in differences(one, other)]
+        self.assertEqual(found, [("xmp:dc:format", '"one"', '"two"')])
         self.assertEqual(one[1][1:], ("dc:subject", "Bag", 2, 'Bag["a", "b"]'))
         lines = list(listing.readable(one, "xmp"))
         self.assertEqual([it.split() for it in lines[1:3]], [["[xmp]"], ["dc:format", "text", '"one"']])

@@ -6,25 +6,31 @@ import argparse
 import contextlib
 import json
 import os
+import sys
 from collections import Counter
-from typing import List, Optional, Sequence
+from typing import Iterable, Iterator, List, Sequence
 
 from ..catalogue.records import WORDS
 from ..catalogue.store import Catalogue, NoCatalogue
 from ..compare import changed as changes
+from ..compare.differing import Difference, bare
+from ..compare.summary import Summary
+from ..compare.wording import NONE, line_of
 from ..extract import exiftool, programs
-from ..fields.listing import Change
+from ..fields.listing import MAKER_NOTE
+from ..fields.plain_names import group_name
 from ..files import tempdir
 from ..refusals.steps import Step
 from ..scan.batches import How
 from ..scan.index import IndexOptions, index
 from .exit_codes import DIFFERENCE, SUCCESS, UNKNOWN
 from .names import from_list, refuse_pictures
-from .output import Members, closed_folder, output, path_members, print_line, shown_path
+from .output import Members, closed_folder, path_members, print_line, shown_path
+from .summary import lines
 
 
 def run(arguments: argparse.Namespace) -> int:
-    """Lists the differences between two states."""
+    """Prints the differences between two states."""
     refuse_pictures(arguments.before, arguments.after)
     names = from_list(arguments)
     only = None if names is None else {*names, *(os.path.abspath(it) for it in names)}
@@ -35,19 +41,39 @@ def run(arguments: argparse.Namespace) -> int:
         programs.set_limit(arguments.limit)
         exiftool.begin(room)
         open_.callback(exiftool.finish)
-        equal = None if arguments.json else open_.enter_context(contextlib.closing(changes.Equal()))
-        for it in changes.changed(before, after, counts, only, arguments.all, arguments.each, not arguments.no_exiftool):
-            if it.result in changes.UNCHANGED and not arguments.all:
-                continue
-            if equal is None:
-                print(json.dumps(changed_members(it)))
-            else:
-                equal.add(json.dumps(_said(it)), it.name, it.moved_to is not None)
-        if equal is not None:
-            _print_equal(equal)
-    summary = ", ".join(f"{counts[it]} {it}" for it in changes.RESULTS if counts[it]) or "no picture"
-    output(arguments, [summary], {"counts": dict(counts)})
+        found = changes.changed(before, after, counts, only, arguments.all, not arguments.no_exiftool)
+        if arguments.json:
+            _print_objects(arguments, found, counts)
+        elif arguments.each or arguments.all or arguments.exact:
+            _print_each(arguments, found, counts)
+        else:
+            _print_summary(found, counts)
     return status_of(counts)
+
+
+def _print_objects(arguments: argparse.Namespace, found: Iterable[changes.Compared], counts: "Counter[str]") -> None:
+    for it in found:
+        if it.result not in changes.UNCHANGED or arguments.all:
+            print(json.dumps(changed_members(it)))
+    print(json.dumps({"counts": dict(counts)}))
+
+
+def _print_each(arguments: argparse.Namespace, found: Iterable[changes.Compared], counts: "Counter[str]") -> None:
+    """Each picture with its fields."""
+    with contextlib.closing(changes.Equal()) as equal:
+        for it in found:
+            if it.result not in changes.UNCHANGED or arguments.all:
+                equal.add(json.dumps(_said(it, arguments.exact)), it.name, it.moved_to is not None)
+        _print_equal(equal)
+    print_line(", ".join(f"{counts[it]} {it}" for it in changes.RESULTS if counts[it]) or "no picture")
+
+
+def _print_summary(found: Iterable[changes.Compared], counts: "Counter[str]") -> None:
+    counted = Summary()
+    for it in found:
+        counted.add(it)
+    for text in lines(counted, counts):
+        print_line(text)
 
 
 def status_of(counts: "Counter[str]") -> int:
@@ -65,7 +91,8 @@ def _side(name: str, arguments: argparse.Namespace, open_: contextlib.ExitStack)
     made = Catalogue(os.path.join(room, "catalogue"), make=True)
     try:
         closed: List[str] = []
-        index(IndexOptions([os.fsencode(name)], quiet=True, how=How.of(arguments, room, closed_folder), say=closed.append), made)
+        quiet = arguments.quiet or not sys.stderr.isatty()
+        index(IndexOptions([os.fsencode(name)], quiet=quiet, how=How.of(arguments, room, closed_folder), say=closed.append), made)
         if closed:  # its pictures would seem to be missing
             raise NoCatalogue("; ".join(closed))
     except BaseException:
@@ -74,19 +101,18 @@ def _side(name: str, arguments: argparse.Namespace, open_: contextlib.ExitStack)
     return made
 
 
-def _said(it: changes.Compared) -> List[object]:
+def _said(it: changes.Compared, exact: bool) -> List[object]:
     """The changes of a picture, without its name."""
     note = f" ({it.note})" if it.note else ""
     to = f" to {shown_path(it.moved_to)}" if it.moved_to is not None else ""
-    return [bool(it.changes), f"{it.result}{to}{note}", [change_line(*one) for one in it.changes]]
+    return [bool(it.changes), f"{it.result}{to}{note}", [*(line_of(one, exact) for one in it.changes), *_readings(it, exact)]]
 
 
-def change_line(name: str, before: Optional[str], after: Optional[str], said: str = "") -> str:
-    """A field that differs, in a line: `~ main:Artist: "A" -> "B"`."""
-    if said:
-        return f"~ {name}: {said}"
-    sign = "+" if before is None else "-" if after is None else "~"
-    return f"{sign} {name}: {before or '-'} -> {after or '-'}"
+def _readings(it: changes.Compared, exact: bool) -> Iterator[str]:
+    """Each value of a MakerNote that ExifTool reads otherwise."""
+    name = group_name(*MAKER_NOTE)
+    for one in it.maker_note or () if exact else ():
+        yield f"~ {name} {one.name}: {NONE if one.before is None else one.before} -> {NONE if one.after is None else one.after}"
 
 
 def _print_equal(equal: changes.Equal) -> None:
@@ -117,13 +143,13 @@ def changed_members(it: changes.Compared) -> Members:
         found["maker_note"] = {"reads": reads, "values": [list(one) for one in it.maker_note]}
     if it.repairs:
         found["repairs"] = [_repair_members(*one) for one in it.repairs]
-    fields = [one for one in it.changes if not one.name.startswith("exif:MakerNote ")]
-    return {**found, "fields": [_field_members(one) for one in fields]}
+    return {**found, "fields": [_field_members(one) for one in it.changes]}
 
 
 def _repair_members(name: str, before: Sequence[Step], after: Sequence[Step]) -> Members:
     return {"name": name, "before": [one._asdict() for one in before], "after": [one._asdict() for one in after]}
 
 
-def _field_members(it: Change) -> Members:
-    return {"name": it.name, "before": it.before, "after": it.after, **({"said": it.said} if it.said else {})}
+def _field_members(it: Difference) -> Members:
+    known: Members = {"name": it.change_name, "before": bare(it.before), "after": bare(it.after)}
+    return {**known, "said": it.note} if it.note else known

@@ -12,6 +12,7 @@ from ..catalogue.records import WORDS
 from ..compare import changed as changes
 from ..compare import verdicts
 from ..compare.two_pictures import Comparison, Row, compare, read, with_position
+from ..compare.wording import NONE, tag_of
 from ..extract import exiftool, programs
 from ..files import tempdir
 from ..scan.batches import How
@@ -22,7 +23,6 @@ from .names import refuse_folders
 from .output import Members, escaped, output, path_members, shown_path
 
 SCHEMA = 1
-NONE = "(none)"
 
 
 def run(arguments: argparse.Namespace) -> int:
@@ -127,14 +127,8 @@ def _table(heads: Sequence[str], rows: Sequence[Row], exact: bool) -> Iterator[s
 def _cells(it: Row, exact: bool) -> Sequence[str]:
     if it.note:
         return (it.name, escaped(it.note))
-    name = f"{it.name} {_tag(it)}".rstrip() if exact else it.name
+    name = f"{it.name} {tag_of(it.differences[0])}".rstrip() if exact and len(it.differences) == 1 else it.name
     return (name, *(NONE if text is None else escaped(text) if not exact else text for text in (it.exact if exact else it.plain)))
-
-
-def _tag(it: Row) -> str:
-    """The number of a field's tag, where it isn't its name."""
-    key = it.differences[0].key if len(it.differences) == 1 and it.differences[0].where != "xmp" else ""
-    return key if ":" in key else f"0x{key}" if len(key) == 4 and f"0x{key}" not in it.name else ""
 
 
 # --json

@@ -172,10 +172,16 @@ def _forget_arguments(it: argparse.ArgumentParser) -> None:
 
 
 def _changed_arguments(it: argparse.ArgumentParser) -> None:
+    _example(it, "changed last.catalogue archive.catalogue")
     it.add_argument("before", type=_name, metavar="BEFORE", help="a catalogue or a folder")
     it.add_argument("after", type=_name, metavar="AFTER", help="a catalogue or a folder")
-    it.add_argument("--all", action="store_true", help="also list pictures that mean the same, or are refused in the same bytes")
-    it.add_argument("--each", action="store_true", help="also list each value of a MakerNote that ExifTool reads otherwise")
+    it.add_argument("--each", action="store_true", help="list each picture with its fields, in place of the summary")
+    it.add_argument("--all", action="store_true", help="as --each, with unchanged pictures too")
+    it.add_argument(
+        "--exact",
+        action="store_true",
+        help="as --each, with the tag, the type and the exact value of each field, and each value of a MakerNote that ExifTool reads otherwise",
+    )
     it.add_argument(
         "--no-exiftool", action="store_true", help="don't ask ExifTool whether MakerNotes that differ or have moved read the same"
     )

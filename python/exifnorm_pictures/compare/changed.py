@@ -14,9 +14,10 @@ from typing import TYPE_CHECKING, Dict, Iterable, Iterator, List, Optional, Set,
 from ..catalogue.records import Block, Picture
 from ..catalogue.store import Catalogue
 from ..extract.formats.found import EXIF, NAMES, OWN, PROGRAMS
-from ..fields.listing import Change, changes, only_maker_note
+from ..fields.listing import MAKER_NOTE, only_maker_note
 from ..refusals import steps
 from ..refusals.steps import Step
+from .differing import Difference, differences
 from .pairs import AFTER, BEFORE, Pair, Pairs
 from .sides import Sides
 from .verdicts import (
@@ -41,7 +42,7 @@ from .verdicts import (
 ONLY_MAKER_NOTE = "only MakerNote differs"
 REFUSED_SAME, UNREADABLE_SAME = f"{REFUSED}, the same bytes", f"{UNREADABLE}, the same bytes"
 if TYPE_CHECKING:
-    from .maker_notes import Difference
+    from . import maker_notes
 
 MISSING_BEFORE, MISSING_AFTER, MOVED, NOT_READ = "missing before", "missing after", "moved", "not read"
 FILE_SAME, FILE_DIFFERENT = "not read, the same bytes", "not read, different bytes"
@@ -71,10 +72,10 @@ class Compared:
     name: bytes
     result: str
     note: str = ""  # the kinds that were compared, and the result
-    changes: List[Change] = field(default_factory=list)
+    changes: List[Difference] = field(default_factory=list)
     verdicts: List[Verdict] = field(default_factory=list)
     moved_to: Optional[bytes] = None
-    maker_note: Optional[List[Difference]] = None  # the values that ExifTool reads otherwise, if it was asked
+    maker_note: "Optional[List[maker_notes.Difference]]" = None  # the values that ExifTool reads otherwise, if it was asked
     repairs: List[Tuple[str, Tuple[Step, ...], Tuple[Step, ...]]] = field(default_factory=list)  # of each block, before and after
 
 
@@ -84,18 +85,17 @@ def changed(
     counts: "Counter[str]",
     only: Optional[Set[bytes]] = None,
     every: bool = False,
-    each: bool = False,
     ask: bool = True,
 ) -> Iterator[Compared]:
     """Compares each picture of two catalogues, in the order of their names, or only some pictures, by name or by path.
 
-    Those that are the same are only counted, unless `every` is set. With `each` the changes have each value of a MakerNote that reads
-    otherwise; `ask` asks ExifTool for them. In the end `counts` has the number of each result.
+    Those that are the same are only counted, unless `every` is set. `ask` asks ExifTool for the values of MakerNotes. In the end `counts`
+    has the number of each result.
     """
     with contextlib.closing(Pairs(before, after, only)) as pairs:
         there = 0
         came = (Compared(name, MISSING_BEFORE) for name in pairs.came())
-        for it in heapq.merge((compared(pair, pairs, each, ask) for pair in pairs.differing(every)), came, key=lambda one: one.name):
+        for it in heapq.merge((compared(pair, pairs, ask) for pair in pairs.differing(every)), came, key=lambda one: one.name):
             there += it.result != MISSING_BEFORE
             counts[it.result] += 1
             yield it
@@ -103,7 +103,7 @@ def changed(
             counts[SAME] += pairs.count() - there
 
 
-def compared(pair: Pair, pairs: Sides, each: bool, ask: bool) -> Compared:
+def compared(pair: Pair, pairs: Sides, ask: bool) -> Compared:
     """Compares one picture before and after."""
     name, one, other, place = pair
     if one is None or other is None:
@@ -121,7 +121,7 @@ def compared(pair: Pair, pairs: Sides, each: bool, ask: bool) -> Compared:
         it.note += _extracted(block for side in blocks for block, _ in side)
         if looked_at:
             _add_details(it, blocks, pairs)
-    parts = _judge_maker_notes(it, one, other, pairs, parts, each, ask)
+    parts = _judge_maker_notes(it, one, other, pairs, parts, ask)
     it.note = _sentence(tuple(it.verdicts), tuple(parts)) + it.note
     return it
 
@@ -138,9 +138,9 @@ def _unread(name: bytes, one: Picture, other: Picture) -> Compared:
     return Compared(name, NOT_READ, ", ".join(notes))
 
 
-def _judge_maker_notes(it: Compared, one: Picture, other: Picture, pairs: Sides, parts: List[str], each: bool, ask: bool) -> List[str]:
+def _judge_maker_notes(it: Compared, one: Picture, other: Picture, pairs: Sides, parts: List[str], ask: bool) -> List[str]:
     """Asks ExifTool where the bytes or the place of a MakerNote differ, or the bytes that only it can reach. Returns the parts that stay open."""
-    lines = [change for change in it.changes if change.name.endswith(_MAKER_NOTE) and change.before and change.after]
+    lines = [change for change in it.changes if change[:2] == MAKER_NOTE and change.before and change.after]
     both = bool(one.maker_notes and other.maker_notes)
     moved = both and one.maker_notes != other.maker_notes
     reached = [part for part in parts if part.endswith(REACHED)] if both else []
@@ -153,25 +153,25 @@ def _judge_maker_notes(it: Compared, one: Picture, other: Picture, pairs: Sides,
     if found is None:
         gone = [word for word, picture in (("earlier", one), ("later", other)) if ask and not maker_notes.is_there(picture)]
         if gone:
-            said = f"differs in bytes, the {' and the '.join(gone)} picture {'is' if len(gone) == 1 else 'are'} gone or changed"
-            it.changes = [change._replace(said=said) if change in lines else change for change in it.changes]
+            note = f"differs in bytes, the {' and the '.join(gone)} picture {'is' if len(gone) == 1 else 'are'} gone or changed"
+            it.changes = [change._replace(note=note) if change in lines else change for change in it.changes]
         if moved and not lines:
             parts = [*parts, "a MakerNote that has moved, for which ExifTool and both files are needed"]
             it.result = result(it.verdicts, parts)
         return parts
     it.maker_note = found
     if found:
-        _read_otherwise(it, lines, moved, each)
+        _read_otherwise(it, lines, moved)
         return parts
     if not moved:  # an edit in place: ExifTool may overlook it, since it corrects some MakerNotes before it reads them
         it.note += "; MakerNote reads the same (ExifTool)" if lines or reached else ""
         it.changes = [
-            change._replace(said="differs in bytes, reads the same (ExifTool)") if change in lines else change for change in it.changes
+            change._replace(note="differs in bytes, reads the same (ExifTool)") if change in lines else change for change in it.changes
         ]
         return parts
     it.note += "; MakerNote moved, reads the same (ExifTool)"
     it.changes = [change for change in it.changes if change not in lines]
-    if not any(change.name.rpartition(": ")[2].partition(":")[0] in _OF_EXIF for change in it.changes):
+    if not any(change.where in _OF_EXIF for change in it.changes):
         plain = [verdict.kind == EXIF and verdict.result in (SAME, DIFFERENT, DIFFERENT_REPAIRED) for verdict in it.verdicts]
         it.verdicts = [Verdict(EXIF, MOVED_NOTE) if is_exif else verdict for verdict, is_exif in zip(it.verdicts, plain)]
     parts = [part for part in parts if part not in reached]
@@ -179,22 +179,19 @@ def _judge_maker_notes(it: Compared, one: Picture, other: Picture, pairs: Sides,
     return parts
 
 
-def _read_otherwise(it: Compared, lines: List[Change], moved: bool, each: bool) -> None:
-    """One line for all values of MakerNotes that ExifTool reads otherwise; with `each` each value too."""
-    found = it.maker_note or []
-    said = f"{'has moved, and ' if moved else ''}now reads otherwise: {len(found)} value{'s' * (len(found) > 1)}"
-    change = lines[0] if lines else Change(_MAKER_NOTE, None, None)
+def _read_otherwise(it: Compared, lines: List[Difference], moved: bool) -> None:
+    """One change for all values of MakerNotes that ExifTool reads otherwise."""
+    count = len(it.maker_note or [])
+    note = f"{'has moved, and ' if moved else ''}now reads otherwise: {count} value{'s' * (count > 1)}"
+    change = lines[0] if lines else Difference(*MAKER_NOTE, (), ())
     at = it.changes.index(change) if lines else len(it.changes)
-    it.changes[at : at + bool(lines)] = [change._replace(said=said)]
-    if each:
-        it.changes += [Change(f"{_MAKER_NOTE} {value.name}", value.before, value.after) for value in found]
+    it.changes[at : at + bool(lines)] = [change._replace(note=note)]
     if not any(verdict.result in (DIFFERENT, DIFFERENT_REPAIRED) for verdict in it.verdicts):
         it.result = DIFFERENT
-    it.note += f"; MakerNote {said} (ExifTool)"
+    it.note += f"; MakerNote {note} (ExifTool)"
 
 
 _OF_EXIF = ("main", "exif", "interop", "gps", "thumb")
-_MAKER_NOTE = "exif:MakerNote"
 
 
 _sentence = functools.lru_cache(maxsize=1000)(sentence)  # an archive's pictures have few different ones
@@ -221,8 +218,8 @@ def _add_details(it: Compared, blocks: List[List[Packed]], pairs: Sides) -> None
                 continue
             fields = pairs.fields(BEFORE, mine), pairs.fields(AFTER, its)
             maker_note = maker_note and bool(one and other) and only_maker_note(*fields)
-            head = "" if key[1] == NAMES[key[0]] else f"{key[1]}: "
-            it.changes += [Change(head + change.name, change.before, change.after) for change in changes(*fields)]
+            found = differences(*fields, "" if key[1] == NAMES[key[0]] else key[1])
+            it.changes += found if one and other else [change._replace(part=key[1]) for change in found]
         if not any(block and block.repair for block in (one, other)):
             it.note += _report_of(key[1], one, other)
     if it.result == DIFFERENT and maker_note:

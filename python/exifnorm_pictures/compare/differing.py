@@ -3,13 +3,14 @@
 from __future__ import annotations
 
 from fractions import Fraction
-from typing import Dict, List, NamedTuple, Sequence, Tuple
+from typing import Dict, List, NamedTuple, Optional, Sequence, Tuple
 
-from ..fields.listing import Field, order_of
+from ..fields.listing import Field, order_of, shortened
 from ..fields.names import full_name
-from ..fields.plain_names import group_name
+from ..fields.plain_names import group_name, group_of
+from ..fields.plain_numbers import FRACTION
 
-_NUMBERS = ("BYTE", "SHORT", "LONG", "WHOLE", "SSHORT", "SLONG", "RATIONAL", "SRATIONAL")
+NUMBERS = ("BYTE", "SHORT", "LONG", "WHOLE", "SSHORT", "SLONG", "RATIONAL", "SRATIONAL")
 _OCTETS = ("BYTE", "UNDEFINED", "SBYTE", "ASCII", "UTF8", "octets")
 
 
@@ -21,10 +22,12 @@ class Difference(NamedTuple):
     before: Tuple[Field, ...]  # several of a repeated DataSet, none if there is no such field
     after: Tuple[Field, ...]
     block: str = ""  # of which block; empty for the first one of its kind
+    part: str = ""  # the whole block or directory, such as `IPTC`, that came or went with this field; empty if both pictures have it
+    note: str = ""  # what is printed in place of the values
 
     @property
     def change_name(self) -> str:
-        """The name in the changes of `changed`."""
+        """The name in JSON."""
         return (f"{self.block}: " if self.block else "") + full_name(self.where, self.key)
 
     @property
@@ -33,9 +36,31 @@ class Difference(NamedTuple):
         return group_name(self.where, self.key) + (f" ({self.block})" if self.block else "")
 
     @property
+    def sign(self) -> str:
+        """`+` for a field that came, `-` for one that went, and `~` for one that changed."""
+        return "~" if self.note or (self.before and self.after) else "+" if self.after else "-"
+
+    @property
     def is_equal_number(self) -> bool:
         """Whether both have equal numbers, or the same bytes with another type."""
-        return bool(self.before and self.after) and [_value(it) for it in self.before] == [_value(it) for it in self.after]
+        return bool(self.before and self.after and not self.note) and [_value(it) for it in self.before] == [
+            _value(it) for it in self.after
+        ]
+
+
+def exact(fields: Sequence[Field]) -> Optional[str]:
+    """The exact values of a field with their types; None without any.
+
+    >>> exact([Field("main", "013b", "ASCII", 5, '"Otto"')])
+    'ascii[5] "Otto"'
+    """
+    return ", ".join(f"{it.type.lower()}[{it.elements}] {shortened(it.shown)}" for it in fields) if fields else None
+
+
+def bare(fields: Sequence[Field]) -> Optional[str]:
+    """The exact values of a field, with their types unless they are texts; None without any."""
+    texts = ("ASCII", "octets", "text", "URI")
+    return ", ".join(shortened(it.shown) if it.type in texts else exact([it]) or "" for it in fields) if fields else None
 
 
 def _value(it: Field) -> Tuple[object, ...]:
@@ -48,16 +73,18 @@ def _value(it: Field) -> Tuple[object, ...]:
     """
     if it.type in _OCTETS:
         return ("octets", it.elements, it.shown)
-    if it.type not in _NUMBERS or "sha256:" in it.shown:
+    if it.type not in NUMBERS or "sha256:" in it.shown:
         return (it.type, it.elements, it.shown)
     return tuple(_number(word) for word in it.shown.split())
 
 
 def _number(word: str) -> object:
-    above, _, below = word.partition("/")
-    if below and not int(below):
-        return ("no number", (int(above) > 0) - (int(above) < 0))
-    return Fraction(int(above), int(below or "1"))
+    """A number by its value, and a fraction with the denominator 0 by its sign. What is no number, as in a damaged catalogue, stays as it is."""
+    match = FRACTION.fullmatch(word)
+    if match is None:
+        return word
+    above, below = int(match[1]), int(match[2] or "1")
+    return Fraction(above, below) if below else ("no number", (above > 0) - (above < 0))
 
 
 def differences(before: Sequence[Field], after: Sequence[Field], block: str = "") -> List[Difference]:
@@ -68,7 +95,16 @@ def differences(before: Sequence[Field], after: Sequence[Field], block: str = ""
     """
     first, second = _by_name(before), _by_name(after)
     differ = [key for key in first.keys() | second.keys() if first.get(key) != second.get(key)]
-    return [Difference(*key, tuple(first.get(key, ())), tuple(second.get(key, ())), block) for key in sorted(differ, key=order_of)]
+    directories = [{where for where, _ in side} for side in (first, second)]
+    return [
+        Difference(*key, tuple(first.get(key, ())), tuple(second.get(key, ())), block, _directory(key[0], directories))
+        for key in sorted(differ, key=order_of)
+    ]
+
+
+def _directory(where: str, there: Sequence["set[str]"]) -> str:
+    """The directory of a field, if only one of two blocks has it."""
+    return "" if all(where in it for it in there) else group_of(where)
 
 
 def _by_name(found: Sequence[Field]) -> Dict[Tuple[str, str], List[Field]]:

@@ -15,7 +15,7 @@ from ..catalogue.records import KINDS, Block, Picture, PictureRecord, Stamp, dig
 from ..extract import extraction, programs
 from ..extract.budgets import TooMuch
 from ..extract.formats.found import NAMES, PROBLEMS, XMP, NotRead
-from ..fields.listing import Change, Field, shortened, unpacked
+from ..fields.listing import MAKER_NOTE, Field, unpacked
 from ..fields.plain_names import group_name
 from ..fields.plain_values import POSITION, plain, position
 from ..refusals import repairs
@@ -24,9 +24,9 @@ from ..scan.walk import FoundFile
 from ..scan.workers import look
 from ..xmp.texts import texts
 from .changed import Compared, compared
-from .differing import Difference, differences
+from .differing import Difference, exact
 from .pairs import Pair
-from .verdicts import ABSENT, ACCEPTED, SAME
+from .verdicts import ABSENT, SAME
 
 Octets = Dict[Tuple[str, str], List[bytes]]  # the values of fields of bytes, by directory and key
 
@@ -110,12 +110,14 @@ def read(name: bytes, how: How) -> PictureRecord:
 
 
 def compare(one: PictureRecord, other: PictureRecord, each: bool, ask: bool, whole: bool) -> Comparison:
-    """Compares two pictures that were read. `each` has each value of a MakerNote that reads otherwise; `ask` asks ExifTool for them."""
+    """Compares two pictures that were read. `ask` asks ExifTool for the values of MakerNotes; `each` has a row for each that differs."""
     files = TwoFiles((one, other))
-    found = compared(Pair(os.path.basename(one.path), _picture(one), _picture(other), None), files, each, ask)
+    found = compared(Pair(os.path.basename(one.path), _picture(one), _picture(other), None), files, ask)
     result = Comparison((one, other), found, _is_identical(one.path, other.path))
     if not result.is_identical and found.changes:
-        result.rows = _rows(found.changes, _differences(one, other), [_Whole(it.path, whole) for it in files.records])
+        result.rows = _rows(found.changes, [_Whole(it.path, whole) for it in files.records])
+    if not result.is_identical and each:
+        result.rows += _note_rows(found)
     return result
 
 
@@ -131,19 +133,6 @@ def _picture(it: PictureRecord) -> Picture:
     size, *more = it.stamp[:4] if it.stamp else (None,) * 4
     known = (it.path, it.root, it.type, it.extractor, it.problem, it.detail, size, unread, (exif, iptc, packet), tuple(map(str, octets)))
     return Picture(0, *known, (size, *more), repaired, notes or "", it.file)
-
-
-def _differences(one: PictureRecord, other: PictureRecord) -> Dict[str, Difference]:
-    """All fields that differ, by their names in the changes of `changed`."""
-    first, second = ({(it.kind, it.name): it for it in record.blocks} for record in (one, other))
-    found = {}
-    for key in dict.fromkeys([*first, *second]):
-        both = [side.get(key) for side in (first, second)]
-        if all(it is None or it.status == ACCEPTED or it.repair for it in both):
-            before, after = (unpacked(it.kept) if it and it.kept else [] for it in both)
-            for it in differences(before, after, "" if key[1] == NAMES[key[0]] else key[1]):
-                found[it.change_name] = it
-    return found
 
 
 # The rows of the table
@@ -199,19 +188,18 @@ def _octets_of(kind: str, data: bytes) -> Octets:
     return found
 
 
-def _rows(changes: Sequence[Change], known: Dict[str, Difference], whole: Sequence[_Whole]) -> List[Row]:
+def _rows(changes: Sequence[Difference], whole: Sequence[_Whole]) -> List[Row]:
     """A row for each change; those of equal numbers at the end."""
-    rows = []
-    for change in changes:
-        it = known.get(change.name)
-        if it is None or change.said:
-            name = it.name if it else change.name.replace("exif:MakerNote", group_name("exif", "927c"))
-            values = (change.before, change.after)
-            rows.append(Row(name, values, values, (it,) if it else (), change.said))
-        else:
-            rows.append(_row(it, whole))
+    rows = [_row(it, whole) for it in changes]
     rows.sort(key=lambda row: (row.is_equal_number, _place(row)))
     return rows
+
+
+def _note_rows(found: Compared) -> List[Row]:
+    """A row for each value of a MakerNote that ExifTool reads otherwise."""
+    name = group_name(*MAKER_NOTE)
+    values = [(it.name, (it.before, it.after)) for it in found.maker_note or ()]
+    return [Row(f"{name} {word}", both, both) for word, both in values]
 
 
 def _place(it: Row) -> int:
@@ -220,15 +208,11 @@ def _place(it: Row) -> int:
 
 
 def _row(it: Difference, whole: Sequence[_Whole]) -> Row:
-    exact = [_exact(side) for side in (it.before, it.after)]
-    values = [_plain(side, it.block, files) for side, files in zip((it.before, it.after), whole)]
+    both = [exact(side) for side in (it.before, it.after)]
+    values = both if it.note else [_plain(side, it.block, files) for side, files in zip((it.before, it.after), whole)]
     if values[0] == values[1]:  # what people see is equal, and what is there isn't
-        values = exact
-    return Row(it.name, (values[0], values[1]), (exact[0], exact[1]), (it,))
-
-
-def _exact(fields: Sequence[Field]) -> Optional[str]:
-    return ", ".join(f"{it.type.lower()}[{it.elements}] {shortened(it.shown)}" for it in fields) if fields else None
+        values = both
+    return Row(it.name, (values[0], values[1]), (both[0], both[1]), (it,), it.note)
 
 
 def _plain(fields: Sequence[Field], block: str, whole: _Whole) -> Optional[str]:

@@ -6,7 +6,7 @@ import hashlib
 import json
 import re
 import zlib
-from typing import Callable, Dict, Iterator, List, NamedTuple, Optional, Tuple
+from typing import Callable, Iterator, List, NamedTuple, Optional, Tuple
 
 from ..catalogue.records import Damaged
 from ..cli.output import escaped
@@ -211,28 +211,7 @@ def unpacked(octets: bytes) -> List[Field]:
 _TYPES = [str, str, str, int, str]
 
 
-class Change(NamedTuple):
-    """A field that differs between two blocks; `before` or `after` is missing if the field is."""
-
-    name: str
-    before: Optional[str]
-    after: Optional[str]
-    said: str = ""  # what is said in place of the two
-
-
 MAKER_NOTE = ("exif", "927c")
-
-
-def changes(before: List[Field], after: List[Field]) -> List[Change]:
-    """The fields that differ, by directory and tag; values of a DataSet that is repeated are compared as one list.
-
-    >>> old, new = [Field("main", "010f", "ASCII", 4, '"abc"')], [Field("main", "010f", "ASCII", 4, '"xyz"')]
-    >>> changes(old, new)
-    [Change(name='main:Make', before='"abc"', after='"xyz"', said='')]
-    """
-    first, second = _by_name(before), _by_name(after)
-    differ = [key for key in first.keys() | second.keys() if first.get(key) != second.get(key)]
-    return [Change(full_name(*key), _one_line(first.get(key)), _one_line(second.get(key))) for key in sorted(differ, key=order_of)]
 
 
 def only_maker_note(before: List[Field], after: List[Field]) -> bool:
@@ -254,23 +233,3 @@ def order_of(key: Tuple[str, str]) -> Tuple[int, Tuple[int, ...], str]:
     else:
         number = (int(tag, 16),) if re.fullmatch("[0-9a-f]{4}", tag) else (1 << 16,)  # a thumbnail, after all tags
     return (_PLACES.index(where) if where in _PLACES else len(_PLACES), number, tag)
-
-
-_Value = Tuple[str, int, str]  # type, elements, as it is shown
-
-
-def _by_name(found: List[Field]) -> Dict[Tuple[str, str], List[_Value]]:
-    result: Dict[Tuple[str, str], List[_Value]] = {}
-    for it in found:
-        result.setdefault((it.where, it.key), []).append((it.type, it.elements, it.shown))
-    return result
-
-
-def _one_line(values: Optional[List[_Value]]) -> Optional[str]:
-    if values is None:
-        return None
-    return ", ".join(_with_type(*it) for it in values)
-
-
-def _with_type(kind: str, count: int, shown: str) -> str:
-    return shortened(shown) if kind in ("ASCII", "octets", "text", "URI") else f"{kind.lower()}[{count}] {shortened(shown)}"

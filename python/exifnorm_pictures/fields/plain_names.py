@@ -50,4 +50,9 @@ def group_name(where: str, key: str) -> str:
     """
     if where == "xmp":
         return f"XMP:{key}" if key.startswith("<") else f"XMP-{key}"
-    return f"{_GROUPS.get(where, where)}:{plain_name(where, key)}"
+    return f"{group_of(where)}:{plain_name(where, key)}"
+
+
+def group_of(where: str) -> str:
+    """The group of a directory's fields: `IFD0`, `GPS`, `IPTC`, `XMP`."""
+    return "XMP" if where == "xmp" else _GROUPS.get(where, where)

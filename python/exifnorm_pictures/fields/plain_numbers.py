@@ -14,6 +14,7 @@ from .plain_texts import octets_of, text_of
 Rule = Callable[[str], Optional[str]]
 
 UNKNOWN = "unknown"
+FRACTION = re.compile(r"(-?[0-9]{1,20})(?:/(-?[0-9]{1,20}))?")
 
 
 def fractions(shown: str) -> Optional[List[Optional[Fraction]]]:
@@ -24,7 +25,7 @@ def fractions(shown: str) -> Optional[List[Optional[Fraction]]]:
     """
     found: List[Optional[Fraction]] = []
     for word in shown.split():
-        match = re.fullmatch(r"(-?\d+)(?:/(-?\d+))?", word)
+        match = FRACTION.fullmatch(word)
         if match is None:
             return None
         below = int(match[2] or "1")

@@ -5,9 +5,10 @@ from __future__ import annotations
 import re
 from typing import List, Optional, Tuple
 
+from ..cli.output import escaped
 from .listing import shortened
 
-_ESCAPE = re.compile(r"\\(n|r|t|\\|\"|x[0-9a-f]{2}|u[0-9a-f]{4}|U[0-9a-f]{8})")
+_ESCAPE = re.compile(r"\\(n|r|t|\\|\"|x[0-9a-f]{2}|u[0-9a-f]{4}|U00(?:0[0-9a-f]|10)[0-9a-f]{4})")
 _SHORT = {"n": "\n", "r": "\r", "t": "\t", "\\": "\\", '"': '"'}
 EMPTY = "(empty)"
 
@@ -27,6 +28,15 @@ def text_of(shown: str) -> Optional[str]:
         if shown.startswith(mark + '"') and shown.endswith('"') and len(shown) > len(mark) + 1:
             return unescaped(shown[len(mark) + 1 : -1])
     return None
+
+
+def quoted(text: str) -> str:
+    r"""A text in quotes in one line.
+
+    >>> print(quoted('a "b"\n'))
+    "a \"b\"\n"
+    """
+    return '"' + escaped(text).replace('"', '\\"') + '"'
 
 
 def octets_of(shown: str) -> Optional[bytes]:
@@ -126,3 +136,16 @@ def plain_xmp(shown: str) -> str:
     if languages <= {"x-default"}:
         return "; ".join(text for text, _ in found)
     return "; ".join(f"{text} ({language})" if language else text for text, language in found)
+
+
+def quoted_xmp(shown: str) -> str:
+    """The texts of a property in one line, each in quotes and with its language unless x-default is the only one.
+
+    >>> quoted_xmp('Alt["Vase"@x-default, "Krug"@de]'), quoted_xmp('Bag["a", "b"]')
+    ('"Vase" (x-default), "Krug" (de)', '"a", "b"')
+    """
+    found = xmp_texts(shown)
+    if found is None:
+        return shortened(shown)
+    shows_language = not {language for _, language in found if language} <= {"x-default"}
+    return ", ".join(quoted(text) + (f" ({language})" if shows_language and language else "") for text, language in found) or EMPTY

@@ -5,12 +5,14 @@ A value is taken as a listing shows it, so a catalogue is enough. One without pl
 
 from __future__ import annotations
 
+import re
 from typing import Dict, Optional
 
+from ..cli.output import escaped
 from . import plain_numbers as numbers
 from .listing import Field, shortened
 from .plain_numbers import Rule, decimal, degrees, fractions, with_unit
-from .plain_texts import EMPTY, comment, guessed, octets_of, plain_xmp, shown_comment, text_of
+from .plain_texts import EMPTY, comment, guessed, octets_of, plain_xmp, quoted, quoted_xmp, shown_comment, text_of
 
 # Words for numbers: TIFF 6.0 and CIPA DC-008 (Exif 2.32), 4.6
 _WORDS: Dict[str, Dict[str, str]] = {}
@@ -56,7 +58,7 @@ _words("0213", "1 centred; 2 co-sited")
 
 def _flash(shown: str) -> Optional[str]:
     """Flash, bit by bit (CIPA DC-008, 4.6.5)."""
-    if not shown.isdigit():
+    if not re.fullmatch("[0-9]{1,9}", shown):
         return None
     bits = int(shown)
     if bits & 0x20:
@@ -111,6 +113,7 @@ _IIM: Dict[str, Rule] = {
     "1:90": _table({'"\\x1b%G"': "UTF-8", "0x1b2547": "UTF-8"}),
 }
 _RULES = {"main": _EXIF, "exif": _EXIF, "thumb": _EXIF, "gps": _GPS, "iptc": _IIM}
+_OCTETS = ("BYTE", "SBYTE", "UNDEFINED", "octets", "ASCII", "UTF8")
 _COMMENTS = {("exif", "9286"), ("main", "9286"), ("gps", "001b"), ("gps", "001c")}
 
 
@@ -122,32 +125,48 @@ def plain(it: Field, octets: Optional[bytes] = None) -> str:
     """
     if it.where == "xmp":
         return plain_xmp(it.shown) or EMPTY
+    return _in_words(it, octets) or _text(it, octets) or _without_words(it)
+
+
+def in_line(it: Field) -> str:
+    """The plain value in one line, in which a text is in quotes.
+
+    >>> in_line(Field("main", "013b", "ASCII", 5, '"Otto"')), in_line(Field("xmp", "dc:title", "Alt", 1, 'Alt["Vase"@x-default]'))
+    ('"Otto"', '"Vase"')
+    """
+    if it.where == "xmp":
+        return quoted_xmp(it.shown)
+    words = _in_words(it, None)
+    text = words if (it.where, it.key) in _COMMENTS else None if words else _text(it, None)
+    if text is None or text == EMPTY:
+        return escaped(words or text or _without_words(it))
+    return quoted(text)
+
+
+def _in_words(it: Field, octets: Optional[bytes]) -> Optional[str]:
+    """The value by the rule of its field, if there is one."""
     if (it.where, it.key) in _COMMENTS and octets is not None and (text := comment(octets)) is not None:
         return text or EMPTY
     rule = _RULES.get(it.where, {}).get(it.key)
-    found = rule(it.shown) if rule else None
-    if found is not None:
-        return found
+    return rule(it.shown) if rule else None
+
+
+def _text(it: Field, octets: Optional[bytes]) -> Optional[str]:
+    """A text, also one that isn't UTF-8 or is too long to be shown; None for a value that is no text."""
     text = text_of(it.shown)
     if text is not None:
         return text.rstrip("\0 ") or EMPTY
-    return _of_octets(it, octets) or _of_numbers(it)
-
-
-def _of_octets(it: Field, octets: Optional[bytes]) -> Optional[str]:
-    """A text that isn't UTF-8 or too long to be shown, or the number of some bytes; None for a value that isn't bytes."""
-    is_text = it.type in ("ASCII", "UTF8") or it.where == "iptc"
-    if not is_text and it.type not in ("BYTE", "SBYTE", "UNDEFINED", "octets"):
+    if it.type not in ("ASCII", "UTF8") and it.where != "iptc":
         return None
     known = octets if octets is not None else octets_of(it.shown)
-    if is_text and known is not None:
-        return guessed(known) or EMPTY
-    if "sha256:" not in it.shown:
-        return None
-    return f"{it.elements:,} bytes (SHA-256 {it.shown.rpartition('sha256:')[2][:8]}..)"
+    return None if known is None else guessed(known) or EMPTY
 
 
-def _of_numbers(it: Field) -> str:
+def _without_words(it: Field) -> str:
+    """Numbers as decimals, and the number of bytes that are too many to be shown."""
+    if it.type in _OCTETS:
+        digest = it.shown.rpartition("sha256:")[2][:8]
+        return f"{it.elements:,} bytes (SHA-256 {digest}..)" if "sha256:" in it.shown else shortened(it.shown)
     found = fractions(it.shown)
     if found and "/" in it.shown:
         return ", ".join(numbers.UNKNOWN if one is None else decimal(one) for one in found)

@@ -12,6 +12,8 @@ from ..catalogue.records import WORDS, Picture, has, kind_of
 from ..catalogue.store import Catalogue, Run
 from ..cli.output import Members, path_members, shown_path
 from ..compare import changed, groups
+from ..compare.differing import bare
+from ..compare.wording import sides
 
 # what a page has of each list
 MOST_GROUPS, MOST_OF_GROUP, MOST_CHANGES, MOST_REFUSED, MOST_NAMES = 40, 12, 300, 60, 60
@@ -55,7 +57,7 @@ class EqualChanges:
 
     result: str
     note: str
-    lines: List[Tuple[str, Optional[str], Optional[str]]]
+    lines: List[Tuple[str, Optional[str], Optional[str], str]]  # a field, its two values, and what is said in their place
     count: int
     names: List[bytes]
 
@@ -157,7 +159,7 @@ def _gather_changes(found: Gathered, about: About) -> None:
             continue
         found.fields.update({change.name for change in it.changes})
         to = f"to {shown_path(it.moved_to)}" if it.moved_to is not None else ""
-        said = [it.result, it.note or to, [(one.name, one.before, one.after) for one in it.changes]]
+        said = [it.result, it.note or to, [(one.name, *sides(one), one.note) for one in it.changes]]
         equal.add(json.dumps(said), it.name, it.moved_to is not None)
 
     def heads() -> Iterator[Tuple[int, int, int, EqualChanges]]:
@@ -205,8 +207,8 @@ def _changed_members(about: About) -> Iterator[Members]:
     for it in changed.changed(about.old, about.catalogue, results, about.only):
         if it.result in changed.UNCHANGED:
             continue
-        fields.update({change.name for change in it.changes})
-        changes = [{"name": change.name, "before": change.before, "after": change.after} for change in it.changes]
+        fields.update({change.change_name for change in it.changes})
+        changes = [{"name": one.change_name, "before": bare(one.before), "after": bare(one.after)} for one in it.changes]
         moved = {} if it.moved_to is None else {"moved_to": path_members(it.moved_to)}
         yield {"changed": path_members(it.name), "result": it.result, "note": it.note, **moved, "fields": changes}
     yield {"results": dict(results), "fields": dict(fields)}

@@ -160,12 +160,14 @@ def _equal(it: EqualChanges, opened: bool) -> str:
     return f"<details{' open' if opened and it.count == 1 else ''}><summary>{label}</summary>{fields}{inside}</details>"
 
 
-def _fields(lines: List[Tuple[str, Optional[str], Optional[str]]]) -> str:
-    rows = "".join(
-        f"<tr><th>{_text(name)}</th><td>{_value(before)}</td><td>{_value(after)}</td></tr>" for name, before, after in lines[:MOST_FIELDS]
-    )
+def _fields(lines: List[Tuple[str, Optional[str], Optional[str], str]]) -> str:
+    rows = "".join(f"<tr><th>{_text(name)}</th>{_cells(before, after, note)}</tr>" for name, before, after, note in lines[:MOST_FIELDS])
     more = _more(len(lines), MOST_FIELDS, "fields")
     return f'<table class="fields"><tr><th>Field</th><th>before</th><th>after</th></tr>{rows}</table>{more}'
+
+
+def _cells(before: Optional[str], after: Optional[str], note: str) -> str:
+    return f'<td colspan="2">{_text(note)}</td>' if note else f"<td>{_value(before)}</td><td>{_value(after)}</td>"
 
 
 def _value(value: Optional[str]) -> str:

@@ -1,0 +1,162 @@
+"""What changed in many pictures, counted by field and by value, in memory that doesn't grow with them."""
+
+from __future__ import annotations
+
+from collections import Counter
+from dataclasses import dataclass, field
+from typing import Dict, List, Sequence, Set, Tuple
+
+from ..fields.listing import Field
+from .changed import Compared
+from .differing import NUMBERS, Difference
+from .wording import What, cut, what
+
+VALUES = 50  # values of a field that are counted one by one
+FIELDS = 1000  # fields that are counted one by one
+PARTS = 200  # blocks and directories that are counted one by one
+NAMES = 3  # pictures of a result that are named
+FEW = 6  # fields of a block that came, which are counted like others
+LONGEST_NAME = 100  # characters of a field's name
+
+
+@dataclass
+class ValueCount:
+    """In how many pictures the same happened to a field."""
+
+    first: What
+    count: int = 0
+    came: int = 0  # in how many of them there was no such field before
+    is_one: bool = True  # the value that was replaced is the same in all
+
+
+@dataclass
+class FieldCount:
+    """In how many pictures what happened to a field."""
+
+    name: str
+    came: int = 0
+    changed: int = 0
+    went: int = 0
+    values: Dict[bytes, ValueCount] = field(default_factory=dict)
+    uncounted: int = 0  # pictures whose values aren't counted one by one
+    steps: "Counter[str]" = field(default_factory=Counter)  # how much later or earlier a date is
+
+    @property
+    def has_value(self) -> int:
+        """In how many pictures it has a new value."""
+        return self.came + self.changed
+
+    @property
+    def most(self) -> int:
+        """The number of pictures by which fields are ordered."""
+        return max(self.has_value, self.went)
+
+    def add(self, it: Difference) -> None:
+        """Counts one more picture."""
+        if it.sign == "-":
+            self.went += 1
+            return
+        self.came += it.sign == "+"
+        self.changed += it.sign == "~"
+        found = what(it)
+        if found.key not in self.values and len(self.values) == VALUES:
+            self.uncounted += 1
+        else:
+            value = self.values.setdefault(found.key, ValueCount(found))
+            value.count += 1
+            value.came += it.sign == "+"
+            value.is_one = value.is_one and value.first.before == found.before
+        if found.step and (found.step in self.steps or len(self.steps) < VALUES):
+            self.steps[found.step] += 1
+
+    def joined(self, other: FieldCount) -> FieldCount:
+        """Both counts together."""
+        whole = FieldCount(self.name, self.came + other.came, self.changed + other.changed, self.went + other.went)
+        whole.uncounted = self.uncounted + other.uncounted
+        whole.steps = self.steps + other.steps
+        for key, value in [*self.values.items(), *other.values.items()]:
+            known = whole.values.setdefault(key, ValueCount(value.first))
+            known.count += value.count
+            known.came += value.came
+            known.is_one = known.is_one and value.is_one and known.first.before == value.first.before
+        return whole
+
+
+@dataclass
+class PartCount:
+    """A block or a directory that came or went as a whole."""
+
+    sign: str  # + or -
+    name: str
+    pictures: int = 0
+    names: Set[str] = field(default_factory=set)  # of its fields, FIELDS at most
+    fields: Dict[str, FieldCount] = field(default_factory=dict)  # of one that came
+
+
+class Summary:
+    """Counts what `changed` finds."""
+
+    def __init__(self) -> None:
+        self.parts: Dict[Tuple[str, str], PartCount] = {}
+        self.pictures: Dict[str, List[Tuple[bytes, bytes]]] = {}  # the first ones of each result, and where they are now
+        self.equal_numbers: Set[str] = set()  # fields with equal numbers that are written otherwise
+        self.equal_example = ""
+        self.equal_pictures = 0
+        self.has_more = False  # whether some fields are beyond what is counted
+        self._fields: Dict[str, FieldCount] = {}
+        self._count = 0  # of all fields that are counted
+
+    def add(self, it: Compared) -> None:
+        """Counts a picture that was compared."""
+        names = self.pictures.setdefault(it.result, [])
+        if len(names) < NAMES:
+            names.append((it.name, it.moved_to or b""))
+        equal = [one for one in it.changes if one.is_equal_number]
+        self.equal_pictures += bool(equal)
+        for one in equal:
+            self._add_equal(one)
+        for part in {(one.sign, one.part) for one in it.changes if one.part}:
+            self._add_part(*part, [one for one in it.changes if (one.sign, one.part) == part])
+        for one in it.changes:
+            if not one.part and not one.is_equal_number:
+                self._add_field(self._fields, one)
+
+    def _add_equal(self, it: Difference) -> None:
+        self.equal_example = self.equal_example or " -> ".join(map(_number, (it.before[0], it.after[0])))
+        if len(self.equal_numbers) < FIELDS:
+            self.equal_numbers.add(cut(it.name, LONGEST_NAME))
+
+    def _add_part(self, sign: str, name: str, changes: Sequence[Difference]) -> None:
+        if len(self.parts) == PARTS and (sign, name) not in self.parts:
+            self.has_more = True
+            return
+        part = self.parts.setdefault((sign, name), PartCount(sign, name))
+        part.pictures += 1
+        for it in changes:
+            if len(part.names) < FIELDS:
+                part.names.add(cut(it.name, LONGEST_NAME))
+            if sign == "+":
+                self._add_field(part.fields, it)
+
+    def _add_field(self, counted: Dict[str, FieldCount], it: Difference) -> None:
+        name = cut(it.name, LONGEST_NAME)
+        if name not in counted and self._count == FIELDS:
+            self.has_more = True
+            return
+        self._count += name not in counted
+        counted.setdefault(name, FieldCount(name)).add(it)
+
+    def fields(self) -> List[FieldCount]:
+        """The fields that changed, those of the most pictures first. A block that came is counted by itself; of its fields only those are here
+        that are few, or that have one value in all pictures, as after a batch that writes the same into each."""
+        found = dict(self._fields)
+        for part in self.parts.values():
+            for it in part.fields.values():
+                is_batch = part.pictures > 1 and it.came == part.pictures and len(it.values) == 1
+                if len(part.names) <= FEW or is_batch:
+                    found[it.name] = found[it.name].joined(it) if it.name in found else it
+        return sorted(found.values(), key=lambda it: (-it.most, it.name))
+
+
+def _number(it: Field) -> str:
+    return it.shown if it.type in NUMBERS else it.type.lower()

@@ -1,0 +1,145 @@
+"""What happened to a field, in words: ` -> "Otto"`, `: added "vase"`, `: 1 h later`."""
+
+from __future__ import annotations
+
+import hashlib
+import re
+from collections import Counter
+from datetime import datetime, timedelta
+from typing import List, NamedTuple, Optional, Sequence, Tuple
+
+from ..fields.listing import MAKER_NOTE, Field
+from ..fields.plain_texts import quoted, text_of, xmp_texts
+from ..fields.plain_values import in_line
+from .differing import Difference, exact
+
+NONE = "(none)"  # in place of a value that isn't there
+WIDEST = 60  # characters of a value in a summary
+FEW = 3  # members of a list that are named
+# DataSets that IPTC-NAA IIM 4.2 allows to be repeated, and that are lists of texts
+_REPEATED = ("2:12", "2:20", "2:25", "2:26", "2:27", "2:80", "2:85", "2:118", "2:122")
+
+
+class What(NamedTuple):
+    """What happened to a field in one picture."""
+
+    key: bytes  # equal for all pictures with the same new value
+    text: str  # to be written after the field's name
+    before: str = ""  # the value that was replaced
+    step: str = ""  # how much later or earlier a date is
+
+
+def sides(it: Difference, exactly: bool = False) -> Tuple[Optional[str], Optional[str]]:
+    """Both values of a field in one line: plain, or exact if that is asked for or if both look alike. None where there is no such field.
+
+    >>> sides(Difference("main", "0112", (), (Field("main", "0112", "SHORT", 1, "6"),)))
+    (None, 'turn 90° clockwise to view')
+    """
+    plain = [", ".join(map(in_line, one)) if one else None for one in (it.before, it.after)]
+    if exactly or plain[0] == plain[1]:
+        return exact(it.before), exact(it.after)
+    return plain[0], plain[1]
+
+
+def line_of(it: Difference, exactly: bool = False) -> str:
+    """A field that differs, in a line: `~ IFD0:Artist: "A" -> "B"`, `+` for a field that came, and `-` for one that went."""
+    if it.note:
+        return f"~ {it.name}: {it.note}"
+    name = f"{it.name} {tag_of(it)}".rstrip() if exactly else it.name
+    return f"{it.sign} {name}: {' -> '.join(one for one in sides(it, exactly) if one is not None)}"
+
+
+def tag_of(it: Difference) -> str:
+    """The number of a field's tag or DataSet, where it isn't its name."""
+    if it.where == "xmp" or it.key in it.name:
+        return ""
+    return it.key if ":" in it.key else f"0x{it.key}" if len(it.key) == 4 else ""
+
+
+def what(it: Difference) -> What:
+    """What happened to a field that came or changed."""
+    if it.note:
+        note = it.note.partition(":")[0]  # without the number of values, which differs from picture to picture
+        return _what(f": {note}")
+    if it[:2] == MAKER_NOTE or (it.where == "thumb" and it.key in ("jpeg", "strip")):
+        return _what(": other bytes" if it.before else ": added")
+    listed = _of_list(it)
+    if listed:
+        return _what(listed)
+    before, after = sides(it)
+    key = hashlib.sha256(repr([tuple(one) for one in it.after]).encode("utf-8", "surrogatepass")).digest()
+    return What(key, f" -> {cut(after or '')}", cut(before or ""), step(it))
+
+
+def _what(text: str) -> What:
+    return What(text.encode("utf-8", "surrogatepass"), cut(text, 2 * WIDEST))
+
+
+def cut(text: str, widest: int = WIDEST) -> str:
+    """The beginning of a text that is too long for a line."""
+    return text if len(text) <= widest else text[: widest - 3] + " .."
+
+
+# Lists
+
+
+def _of_list(it: Difference) -> str:
+    """What a list has more and less, if that is little; empty for a field that is no list."""
+    before, after = _members(it.before), _members(it.after)
+    if before is None or after is None:
+        return ""
+    more, less = Counter(after) - Counter(before), Counter(before) - Counter(after)
+    if not more and not less:
+        return ": the same list in another order"
+    if sum(more.values()) + sum(less.values()) > FEW:
+        return ""
+    words = [f"{word} {', '.join(some.elements())}" for word, some in (("added", more), ("removed", less)) if some]
+    return ": " + ", ".join(words)
+
+
+def _members(fields: Sequence[Field]) -> Optional[List[str]]:
+    """The members of a list of texts, in quotes; None for a field that is none."""
+    if not fields:
+        return []
+    if fields[0].where == "iptc" and fields[0].key in _REPEATED:
+        return [in_line(it) for it in fields]
+    if len(fields) == 1 and fields[0].type in ("Bag", "Seq"):
+        texts = xmp_texts(fields[0].shown)
+        return None if texts is None else [quoted(text) for text, _ in texts]
+    return None
+
+
+# Dates
+
+_DATE = re.compile(r"(\d{4})[:-](\d\d)[:-](\d\d)[ T](\d\d):(\d\d)(?::(\d\d))?(.*)", re.S)
+
+
+def step(it: Difference) -> str:
+    """How much later or earlier a date is; empty for a field that is no date.
+
+    >>> one, other = (Field("main", "0132", "ASCII", 20, f'"2020:01:0{day} 10:00:00"') for day in (1, 2))
+    >>> step(Difference("main", "0132", (one,), (other,)))
+    '1 day later'
+    """
+    found = [_DATE.fullmatch(text_of(side[0].shown) or "") if len(side) == 1 else None for side in (it.before, it.after)]
+    if not found[0] or not found[1] or found[0][7] != found[1][7]:  # with another zone the difference isn't known
+        return ""
+    try:
+        first, second = (_time_of(one) for one in found if one)
+    except ValueError:
+        return ""
+    if first == second:
+        return ""
+    return f"{_duration(abs(second - first))} {'later' if second > first else 'earlier'}"
+
+
+def _time_of(found: "re.Match[str]") -> datetime:
+    """The time of a date. Raises `ValueError` for one that isn't in the calendar."""
+    year, month, day, hour, minute, second = (int(it or 0) for it in found.groups()[:6])
+    return datetime(year, month, day, hour, minute, second)
+
+
+def _duration(time: timedelta) -> str:
+    rest = time.seconds
+    parts = [(time.days, "day" if time.days == 1 else "days"), (rest // 3600, "h"), (rest // 60 % 60, "min"), (rest % 60, "s")]
+    return " ".join(f"{number:,} {word}" for number, word in parts if number)
