@@ -179,7 +179,8 @@ def test_keys_of_fields_that_are_damaged(tmp_path):
 def test_a_picture_at_which_we_fail(command, monkeypatch):
     """Others are looked at, the line has the place of the mistake, and the next run looks at it again."""
     with monkeypatch.context() as planted:
-        planted.setattr(png, "read", mistake)
+        reader_of = extraction.reader_of
+        planted.setattr(extraction, "reader_of", lambda head, path: mistake if head.startswith(png.START) else reader_of(head, path))
         lines = command("index", "p", "--catalogue", "c", "--quiet", status=2).out.splitlines()
         found = [json.loads(it) for it in command("show", "p/b.png", "p/a.jpg", "--json", status=2).out.splitlines()]
         explained = command("explain", "p/b.png", "--debug", status=2)
