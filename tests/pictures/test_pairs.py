@@ -14,7 +14,7 @@ import zlib
 from made_blocks import ASCII, LONG, BLOCKS, block, entry, segment
 from made_files import A, B, K, L, T, T_OTHERWISE, U, iim, title, turned, xmp
 from made_files import app1, app13, app1_xmp, chunk, extension, jpeg, mpf, page, png, png_xmp, profile, resource, tiff, webp
-from studio import SMALL_JPEG, WithPictures, needs, run, tool, write
+from studio import SMALL_JPEG, WithPictures, needs, read, run, tool, write
 
 _ASKED = threading.Lock()  # of one ExifTool in this process
 
@@ -297,42 +297,40 @@ class Tiff(Pairs):
 class Others(Pairs):
     """What ExifTool extracts is never wholly read, unless the files have the same bytes."""
 
-    def pair(self, name, *words):
+    def pair(self, word):
+        """Three of exiv2's own files: with one text in a tag, with another, and a copy."""
         for side, text in (("one", "One"), ("two", "Two")):
-            there = self.path(f"{side}.{name}")
-            tool(self.folder, "convert", "-size", "8x8", "xc:gray", there)
-            tool(self.folder, "exiftool", "-config", "", "-q", "-overwrite_original", *(f"{it}={text}" for it in words), there)
-        shutil.copy(self.path(f"one.{name}"), self.path(f"copy.{name}"))
-        return [open(self.path(f"{it}.{name}"), "rb").read() for it in ("one", "two", "copy")]
+            tool(self.folder, "exiftool", "-config", "", "-q", f"{word}={text}", "-o", f"{side}.exv")
+        shutil.copy(self.path("one.exv"), self.path("copy.exv"))
+        return [read(self.path(f"{it}.exv")) for it in ("one", "two", "copy")]
 
-    @needs("convert")
-    def test_gif_and_psd(self):
-        for name, words in (("gif", ["-XMP:Title"]), ("psd", ["-XMP:Title"]), ("psd", ["-IPTC:Keywords"]), ("psd", ["-IFD0:Artist"])):
-            one, two, copy = self.pair(name, *words)
-            self.not_same(one, two, name=name)
-            self.same(one, copy, name=name)
+    def test_blocks_of_exiftool(self):
+        for word in ("-XMP:Title", "-IPTC:Keywords", "-IFD0:Artist"):
+            one, two, copy = self.pair(word)
+            self.not_same(one, two, name="exv")
+            self.same(one, copy, name="exv")
+            for name in ("one", "two", "copy"):
+                os.unlink(self.path(f"{name}.exv"))
 
-    @needs("convert")
     def test_the_program_is_named(self):
         """If ExifTool extracted the blocks, the result names it, also for equal pictures. The result of the built-in readers names nothing."""
-        one, _, copy = self.pair("psd", "-IFD0:Artist")
+        one, _, copy = self.pair("-IFD0:Artist")
         for folder, octets in (("before", one), ("after", copy)):
             os.mkdir(self.path(folder))
-            write(self.path(folder, "a.psd"), octets)
+            write(self.path(folder, "a.exv"), octets)
             write(self.path(folder, "b.jpg"), jpeg(app1(A)))
         lines = run(["exifnorm-pictures", "changed", "before", "after", "--all", "--quiet"], self.folder).stdout.decode().splitlines()
-        said = [it for it in lines if it.startswith(("a.psd", "b.jpg"))]
+        said = [it for it in lines if it.startswith(("a.exv", "b.jpg"))]
         self.assertEqual(["extracted by ExifTool" in it for it in said], [True, False], lines)
-        for name, expected in (("a.psd", True), ("b.jpg", False)):
+        for name, expected in (("a.exv", True), ("b.jpg", False)):
             shown = run(["exifnorm-pictures", "show", os.path.join("before", name)], self.folder).stdout.decode()
             self.assertEqual(shown.startswith("Exif, extracted by ExifTool:"), expected, shown)
 
-    @needs("convert")
     def test_same_blocks_but_not_wholly_read(self):
-        one, _, _ = self.pair("gif", "-XMP:Title")
-        comment = one[:-1] + b"\x21\xfe\x03abc\0" + one[-1:]
-        words = self.not_same(one, comment, "not wholly read", name="gif")
-        self.assertIn("GIF", words)
+        one, _, _ = self.pair("-XMP:Title")
+        comment = one[:-2] + segment(0xFE, b"abc") + one[-2:]
+        words = self.not_same(one, comment, "not wholly read", name="exv")
+        self.assertIn("EXV", words)
 
     def test_broken_jpeg(self):
         base = jpeg(app1(A))

@@ -8,7 +8,7 @@ from __future__ import annotations
 import re
 from typing import Callable, NamedTuple, Optional, Tuple
 
-from .formats import heif, jpeg, png, tiff, webp
+from .formats import heif, jpeg, png, psd, tiff, webp
 from .formats.found import Blocks
 from .formats.streams import Stream
 
@@ -92,6 +92,17 @@ FORMATS: Tuple[Format, ...] = (
         "other items, such as compressed XMP; unknown boxes; names of pictures (`udes`); `moov` of sequences; trailers",
         "items that are protected, in another file, or made of other items",
         "pixels, size, rotation, ICC profiles; bytes that no item has",
+    ),
+    Format(
+        "PSD, PSB",
+        lambda head, _: head.startswith(psd.START),
+        psd.read,
+        "Photoshop resource 0422",
+        "resource 0404",
+        "resource 0424",
+        "layers as one part, resource 0423, trailers",
+        "a trailer that ExifTool knows after pixels compressed by ZIP",
+        "pixels, other resources, colour tables",
     ),
     Format("BigTIFF", lambda head, _: head[:4] in tiff.BIG_HEADS, tiff.read_big, "not read", "not read", "not read"),
 )

@@ -18,6 +18,7 @@ SIGNATURES = (b"8BIM", b"PHUT", b"AgHg", b"DCSR", b"MeSa")  # Photoshop, PhotoDe
 
 _KINDS = {0x0404: IPTC, 0x0422: EXIF, 0x0424: XMP}
 _MORE_EXIF = 0x0423
+KEPT = (*_KINDS, _MORE_EXIF)  # the resources that are looked at
 _SIX = b"Exif\0\0"
 
 
@@ -60,12 +61,13 @@ def add_resources(blocks: Blocks, runs: Sequence[Tuple[str, bytes]], part: str =
         if len(found) > FEW:
             blocks.budget.spend(RESOURCES, len(found))
         for it in found:
-            _add_one(blocks, it, where, part)
+            add_one(blocks, it, where, part)
         if rest:
             blocks.leave(f"bytes behind the Photoshop resources in the {where}", rest)
 
 
-def _add_one(blocks: Blocks, it: Resource, where: str, part: str) -> None:
+def add_one(blocks: Blocks, it: Resource, where: str, part: str = "") -> None:
+    """Adds the block of a resource, or names it. Other resources are passed over."""
     place = f"Photoshop resource {it.number:04x} in the {where}"
     kind = _KINDS.get(it.number)
     if kind is not None:

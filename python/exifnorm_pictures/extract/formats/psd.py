@@ -1,0 +1,112 @@
+"""Photoshop's PSD and PSB: the image resources 0404 (IPTC), 0422 (Exif) and 0424 (XMP) (Adobe Photoshop File Formats Specification).
+
+Layers can have texts, embedded files and metadata of their own. They are one part, which is compared by its bytes. Not compared, because
+they contain no Exif, IPTC or XMP: the merged picture, colour tables and other resources.
+"""
+
+from __future__ import annotations
+
+import struct
+from typing import Callable, Dict, NamedTuple, Optional
+
+from ..budgets import RESOURCE_BYTES, RESOURCES, STRIPS, budget_of
+from . import photoshop
+from .found import Blocks, Broken, NotRead, length_of
+from .streams import Stream, digest_of_rest, leave, pieces, read_at, size_of
+from .trailers import known_trailer
+
+START = b"8BPS"
+_BIG = 2  # the version of a PSB, some of whose numbers are wider
+_RAW, _PACKED = 0, 1  # compressions of the merged picture
+_LONGEST_HEAD = 4 + 2 + 256 + 4  # of a resource: signature, number, name, length
+
+
+class _Header(NamedTuple):
+    """The 26 bytes at the begin of a file."""
+
+    version: int
+    channels: int
+    height: int
+    width: int
+    depth: int
+
+
+def read(stream: Stream, whole: bool = False) -> Blocks:
+    """The blocks of a PSD or PSB. Raises `Broken`."""
+    head = read_at(stream, 0, 26)
+    it = _Header(*struct.unpack(">4xH6xHIIH2x", head))
+    if it.version not in (1, _BIG) or any(head[6:12]):
+        raise Broken("the file has another version than Photoshop's 1 and 2")
+    blocks = Blocks(type="PSB" if it.version == _BIG else "PSD", budget=budget_of(stream))
+    size, wide = size_of(stream), 8 if it.version == _BIG else 4
+    at = _end(stream, 26, 4, size, "colour table")
+    start, at = at + 4, _end(stream, at, 4, size, "image resources")
+    _add_resources(blocks, stream, start, at)
+    start, at = at + wide, _end(stream, at, wide, size, "layers")
+    leave(blocks, "Photoshop's layers", stream, start, at)
+    _leave_trailer(blocks, stream, _end_of_picture(it, stream, at, size), size)
+    return blocks
+
+
+def _end(stream: Stream, at: int, wide: int, size: int, what: str) -> int:
+    """The end of a part that begins with its length, of so many bytes."""
+    end = at + wide + int.from_bytes(read_at(stream, at, wide), "big")
+    if end > size:
+        raise Broken(f"the file ends inside its {what}")
+    return end
+
+
+def _add_resources(blocks: Blocks, stream: Stream, at: int, end: int) -> None:
+    """Adds the blocks of the resources, of which only those with blocks are read."""
+    while end - at >= 12:
+        head = read_at(stream, at, min(_LONGEST_HEAD, end - at))
+        after_name = 6 + (head[6] + 2) // 2 * 2
+        length = int.from_bytes(head[after_name : after_name + 4], "big")
+        start = at + after_name + 4
+        if head[:4] not in photoshop.SIGNATURES or start + length > end:
+            break
+        blocks.budget.spend(RESOURCES)
+        number = int.from_bytes(head[4:6], "big")
+        if number in photoshop.KEPT:
+            blocks.budget.spend(RESOURCE_BYTES, length)
+            photoshop.add_one(blocks, photoshop.Resource(number, read_at(stream, start, length)), "image resources")
+        at = start + length + length % 2
+    leave(blocks, "bytes behind the Photoshop resources in the image resources", stream, at, end)
+
+
+def _sum(data: bytes, wide: int, code: str) -> int:
+    """The sum of the numbers in a piece of a table."""
+    return sum(struct.unpack(f">{len(data) // wide}{code}", data[: len(data) // wide * wide]))
+
+
+_LENGTHS: Dict[int, Callable[[bytes], int]] = {2: lambda it: _sum(it, 2, "H"), 4: lambda it: _sum(it, 4, "I")}
+
+
+def _end_of_picture(it: _Header, stream: Stream, at: int, size: int) -> Optional[int]:
+    """The end of the merged picture, which is the last part of a file; None if it isn't known."""
+    compression = int.from_bytes(read_at(stream, at, 2), "big")
+    rows = it.channels * it.height
+    start = at + 2
+    if compression == _RAW:
+        end = start + rows * ((it.width * it.depth + 7) // 8)
+    elif compression == _PACKED and rows <= STRIPS:
+        wide = 4 if it.version == _BIG else 2
+        table = start + rows * wide  # of the lengths of the rows, which follow it
+        end = table + sum(map(_LENGTHS[wide], pieces(stream, start, table)))
+    else:
+        return None
+    return end if end <= size else None
+
+
+def _leave_trailer(blocks: Blocks, stream: Stream, start: Optional[int], end: int) -> None:
+    """Names what programs append to a picture, in which ExifTool may find blocks."""
+    trailer = known_trailer(stream, end)
+    if start is None:
+        if trailer is not None:
+            blocks.name(NotRead(f"{trailer.name} trailer", ""))
+            blocks.has_more = trailer.may_hold_blocks
+        return
+    digest = digest_of_rest(stream, start, end) if start < end else None
+    if digest is not None:
+        blocks.has_more = trailer is not None and trailer.may_hold_blocks
+        blocks.name(NotRead(f"{trailer.name if trailer else ''} trailer of {length_of(end - start)}".lstrip(), digest))
