@@ -120,7 +120,7 @@ def main() -> None:
     words.add_argument("library")
     words.add_argument("blocks", nargs="*")
     words.add_argument("--rounds", type=int, default=40)
-    words = words.parse_args()
+    words = words.parse_intermixed_args()
     library = os.path.abspath(words.library)
     os.environ.setdefault("EXIFNORM_LIBRARY", os.path.join(library, "libexifnorm.so.1"))
     blocks = {it: Path(it).read_bytes() for it in words.blocks} or {"a block as a camera writes it": camera()}

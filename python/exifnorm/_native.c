@@ -8,8 +8,12 @@
 #include <Python.h>
 
 #include <stdint.h>
+#include <string.h>
 
 #include "exifnorm.h"
+
+#define ROOM 16384 /* bytes of the longest output that is written to the stack */
+#define PREFIX "Exif\0\0"
 
 typedef uint32_t (*check_call)(const unsigned char *, size_t, uint32_t *, struct exifnorm_fault *);
 typedef uint32_t (*compare_call)(const unsigned char *, size_t, const unsigned char *, size_t, uint32_t *, struct exifnorm_fault *);
@@ -89,60 +93,105 @@ static PyObject *compare(PyObject *capsule, PyObject *arguments)
     return number_or_failure(status, same, &fault);
 }
 
-/* The output of a call. It usually fits into `times` as many bytes as the block has, and `more`; otherwise the call is made again, with as
- * many bytes as it asks for. The limited API can't shorten a bytes object, so the output is written to a buffer and copied. */
-static PyObject *text(text_call call, PyObject *argument, size_t times, size_t more)
+/* The output of a call, written to an object of `capacity` bytes. If it has fewer, it is copied to a shorter object, because the limited API
+ * can't shorten one; if it has more, the call is made again, with as many bytes as it asks for. */
+static PyObject *long_text(text_call call, const struct bytes *block, size_t capacity)
 {
     struct exifnorm_fault fault = {0, 0};
-    struct bytes block;
-    unsigned char *out;
-    size_t capacity, written = 0;
+    size_t written = 0;
     uint32_t status;
-    PyObject *made;
+    PyObject *object, *made;
 
-    if (get_bytes(argument, &block) < 0) {
-        return NULL;
-    }
-    capacity = times * (block.length < EXIFNORM_LIMIT ? block.length : EXIFNORM_LIMIT) + more;
     for (;;) {
-        out = PyMem_Malloc(capacity);
-        if (out == NULL) {
-            return PyErr_NoMemory();
+        unsigned char *out;
+
+        object = PyBytes_FromStringAndSize(NULL, (Py_ssize_t)capacity);
+        if (object == NULL) {
+            return NULL;
         }
+        out = (unsigned char *)PyBytes_AsString(object);
         Py_BEGIN_ALLOW_THREADS
-        status = call(block.start, block.length, out, capacity, &written, &fault);
+        status = call(block->start, block->length, out, capacity, &written, &fault);
         Py_END_ALLOW_THREADS
         if (status != EXIFNORM_TOO_LITTLE_ROOM || written <= capacity) {
             break;
         }
-        PyMem_Free(out);
+        Py_DECREF(object);
         capacity = written;
     }
-    made = status == EXIFNORM_DONE ? PyBytes_FromStringAndSize((const char *)out, (Py_ssize_t)written) : failure(status, &fault);
-    PyMem_Free(out);
+    if (status == EXIFNORM_DONE && written == capacity) {
+        return object;
+    }
+    made = status == EXIFNORM_DONE ? PyBytes_FromStringAndSize(PyBytes_AsString(object), (Py_ssize_t)written) : failure(status, &fault);
+    Py_DECREF(object);
     return made;
 }
 
-/* A form has at most twice as many bytes as its block. */
-static PyObject *normalise(PyObject *capsule, PyObject *block)
+/* The output of a call, which probably has at most `capacity` bytes. A short one is copied from the stack, and Python's lock is kept: to
+ * allocate more and to release the lock takes a tenth of the time of such a call. */
+static PyObject *text(text_call call, const struct bytes *block, size_t capacity)
 {
-    struct calls *calls = PyCapsule_GetPointer(capsule, NULL);
+    struct exifnorm_fault fault = {0, 0};
+    unsigned char room[ROOM];
+    size_t written = 0;
+    uint32_t status;
 
-    return calls == NULL ? NULL : text(calls->normalise, block, 2, 1);
+    if (capacity > ROOM) {
+        return long_text(call, block, capacity);
+    }
+    status = call(block->start, block->length, room, ROOM, &written, &fault);
+    if (status == EXIFNORM_TOO_LITTLE_ROOM && written > ROOM) {
+        return long_text(call, block, written);
+    }
+    return status == EXIFNORM_DONE ? PyBytes_FromStringAndSize((const char *)room, (Py_ssize_t)written) : failure(status, &fault);
 }
 
-static PyObject *show(PyObject *capsule, PyObject *block)
+/* The length of a block without the six bytes that may precede it, or the greatest length of one. */
+static size_t length_of(const struct bytes *block)
 {
-    struct calls *calls = PyCapsule_GetPointer(capsule, NULL);
+    size_t length = block->length;
 
-    return calls == NULL ? NULL : text(calls->show, block, 4, 1024);
+    if (length >= sizeof PREFIX - 1 && memcmp(block->start, PREFIX, sizeof PREFIX - 1) == 0) {
+        length -= sizeof PREFIX - 1;
+    }
+    return length < EXIFNORM_LIMIT ? length : EXIFNORM_LIMIT;
 }
 
-static PyObject *captions(PyObject *capsule, PyObject *block)
+/* A form has at most twice as many bytes as its block, and usually as many, or one more: that of an Exif block has an even number. To copy a
+ * form takes little of the time of a call for a short block, and half of it for a long one. */
+static PyObject *normalise(PyObject *capsule, PyObject *argument)
 {
     struct calls *calls = PyCapsule_GetPointer(capsule, NULL);
+    struct bytes block;
+    size_t length;
 
-    return calls == NULL ? NULL : text(calls->captions, block, 2, 1024);
+    if (calls == NULL || get_bytes(argument, &block) < 0) {
+        return NULL;
+    }
+    length = length_of(&block);
+    return text(calls->normalise, &block, 2 * length <= ROOM ? 2 * length : length + length % 2);
+}
+
+static PyObject *show(PyObject *capsule, PyObject *argument)
+{
+    struct calls *calls = PyCapsule_GetPointer(capsule, NULL);
+    struct bytes block;
+
+    if (calls == NULL || get_bytes(argument, &block) < 0) {
+        return NULL;
+    }
+    return text(calls->show, &block, 4 * length_of(&block) + 1024);
+}
+
+static PyObject *captions(PyObject *capsule, PyObject *argument)
+{
+    struct calls *calls = PyCapsule_GetPointer(capsule, NULL);
+    struct bytes block;
+
+    if (calls == NULL || get_bytes(argument, &block) < 0) {
+        return NULL;
+    }
+    return text(calls->captions, &block, 2 * length_of(&block) + 1024);
 }
 
 static PyMethodDef of_library[] = {

@@ -17,6 +17,7 @@ import pytest
 
 from compiling import HEADERS, TOP, need, run
 from peer_headers import PEER_HEADERS
+from small_blocks import ONE
 
 PEERS = TOP / "bench" / "peers"
 STRICT = ["-Wall", "-Wextra", "-Werror", "-fsyntax-only", "-I", HEADERS]
@@ -112,10 +113,12 @@ def test_least_time_of_all_rounds():
     assert [list(it) for it in left.values()] == [[]] * 4
 
 
-def test_python_package(library):
+def test_python_package(library, folder):
     if not Path(sysconfig.get_paths()["include"], "Python.h").is_file():
         pytest.skip("there is no Python.h (Debian's package python3-dev)")
-    printed = benchmark("python/run.py", library, "--rounds", "1")
+    (folder / "block").write_bytes(ONE)
+    printed = benchmark("python/run.py", library, "--rounds", "1", folder / "block")
+    assert f"\n{folder / 'block'}, 26 bytes\n" in printed
     timed = re.findall(r"^  ([^:]+(?:: \w+)?): [\d.,]+ microseconds$", printed, re.M)
     assert {"C: normalise", "exifnorm.normal", "normalise by ctypes", "normalise by the extension module"} <= {*timed}
     numbers_of(r"^  exifnorm.normal over C: normalise: ([\d.]+)$", printed)

@@ -22,7 +22,7 @@ import exifnorm
 import made_by_tools
 from exifnorm import Caption, Field, _calls, _library, _listings
 from kinds import small_kinds
-from meanings import LABELS, LIMIT, LONG, SHORT, Exif, Layout, Record, Value, laid
+from meanings import ASCII, LABELS, LIMIT, LONG, SHORT, Exif, Layout, Record, Value, laid
 from reading import said
 from small_blocks import CAPTION, LOOP, OF_BLOCK, ONE, long_form, outcome
 
@@ -336,12 +336,14 @@ def test_version():
 # ---- what the calls cost
 
 
+ODD = laid(Exif({0x9999: Value(7, bytes(99_999))}), Layout("<"))
 BY_CALL = {
     "kind": ({"check": 1}, exifnorm.kind, ONE),
     "kind of a refused block": ({"check": 1, "cause_name": 1}, exifnorm.kind, LOOP),
     "normal": ({"normalise": 1}, exifnorm.normal, ONE),
     "normal of a bytearray": ({"normalise": 1}, exifnorm.normal, bytearray(ONE)),
     "normal of a large block": ({"normalise": 1}, exifnorm.normal, laid(Exif({0x9999: Value(7, bytes(100_000))}), Layout("<"))),
+    "normal of a block with a byte less than its form": ({"normalise": 1}, exifnorm.normal, ODD),
     "normal of a refused block": ({"normalise": 1, "cause_name": 1}, exifnorm.normal, LOOP),
     "digest": ({"normalise": 1}, exifnorm.digest, ONE),
     "same": ({"compare": 1}, exifnorm.same, ONE, CAPTION),
@@ -362,9 +364,10 @@ def test_calls_of_the_library(watch, row):
     assert watch.of(call, *arguments) == expected
 
 
-def test_forms_of_twice_as_many_bytes_take_at_most_two_calls(watch, way):
-    block = laid(Exif({0x0116: Value(SHORT, [1] * 40_000)}), Layout("<"))
-    assert watch.of(exifnorm.normal, block) == {"normalise": 1 if way == "extension" else 2}
+@pytest.mark.parametrize("count, calls", [(500, 1), (40_000, 2)])
+def test_forms_of_twice_as_many_bytes_take_at_most_two_calls(watch, count, calls):
+    block = laid(Exif({0x0116: Value(SHORT, [1] * count)}), Layout("<"))
+    assert watch.of(exifnorm.normal, block) == {"normalise": calls}
 
 
 def test_fields_of_a_form_that_is_too_long_take_two_calls(watch):
@@ -399,13 +402,17 @@ def large():
     return laid(Exif({0x9999: Value(7, bytes(4_000_000))}), Layout("<"))
 
 
-@pytest.mark.parametrize("as_given, copies", [(bytes, 0), (bytearray, 1), (memoryview, 1)])
-def test_memory_of_a_large_block(large, as_given, copies):
-    """Bytes are not copied, and other objects once. A form needs a buffer of twice the block's size while it is made."""
+def with_six_bytes(block):
+    return b"Exif\0\0" + block
+
+
+@pytest.mark.parametrize("as_given, copies", [(bytes, 0), (bytearray, 1), (memoryview, 1), (with_six_bytes, 0)])
+def test_memory_of_a_large_block(large, way, as_given, copies):
+    """Bytes are not copied, and other objects once. The extension module writes a form into the object that is returned."""
     block, size = as_given(large), len(large)
     assert peak(exifnorm.kind, block) < copies * size + 10_000
     assert peak(exifnorm.same, block, block) < 2 * copies * size + 10_000
-    assert size < peak(exifnorm.normal, block) < (copies + 3) * size + 10_000
+    assert size < peak(exifnorm.normal, block) < (copies + (1 if way == "extension" else 2)) * size + 10_000
 
 
 def test_memory_of_what_is_too_long():
@@ -468,9 +475,10 @@ def test_sixteen_threads(monkeypatch):
 
 @pytest.mark.parametrize("call", [exifnorm.kind, exifnorm.normal, exifnorm.show, _calls.captions_text, lambda it: exifnorm.same(it, it)])
 def test_calls_at_once(watch, monkeypatch, call):
-    """A call doesn't block other threads: sixteen of them are inside the library at the same time."""
-    expected = call(ONE)
+    """A call for a long block doesn't block other threads: sixteen of them are inside the library at the same time."""
+    block = laid(Exif({0x010E: Value(ASCII, b"A" * 20_000)}), Layout("<"))
+    expected = call(block)
     monkeypatch.setenv("MEET", "16")
     with ThreadPoolExecutor(16) as pool:
-        assert list(pool.map(lambda _: call(ONE), range(16))) == [expected] * 16
+        assert list(pool.map(lambda _: call(block), range(16))) == [expected] * 16
     assert watch.inside.value == 16
