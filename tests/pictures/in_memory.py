@@ -2,7 +2,7 @@
 
 import io
 
-from exifnorm_pictures.extract.formats import jpeg, png, tiff, webp
+from exifnorm_pictures.extract.formats import jpeg, png, raf, tiff, webp
 
 
 def reader_of(octets):
@@ -11,6 +11,8 @@ def reader_of(octets):
         return jpeg.read
     if octets[:4] == b"\x89PNG":
         return png.read
+    if octets.startswith(raf.START[:4]):
+        return raf.read
     return webp.read if octets[:4] == b"RIFF" else tiff.read
 
 

@@ -128,9 +128,16 @@ def webp(*chunks, behind=b""):
 # TIFF
 
 
-def tiff(*pages, order=">", behind=b""):
-    """A TIFF: each page is a list of (tag, type, value), the value a number, bytes, or a further page as the SubIFD."""
-    made = bytearray((b"MM\0*" if order == ">" else b"II*\0") + bytes(4))
+class Placed(bytes):
+    """Bytes that an entry points to: its value is their offset, as a number of four bytes."""
+
+
+def tiff(*pages, order=">", behind=b"", head=b"", more=b""):
+    """A TIFF: each page is a list of (tag, type, value), the value a number, bytes, bytes that are placed, or a further page as the SubIFD.
+
+    `head` are the first four bytes if they are other ones, and `more` comes after the header.
+    """
+    made = bytearray((head or (b"MM\0*" if order == ">" else b"II*\0")) + bytes(4) + more)
     link = 4
     for page in pages:
         at = _directory(made, page, order)
@@ -145,7 +152,12 @@ def _directory(made, page, order):
         count = 1
         if isinstance(value, list):
             value = _directory(made, value, order)
-        if isinstance(value, bytes):
+        if isinstance(value, Placed):
+            made += bytes(len(made) % 2)
+            place, value = len(made), value
+            made += value
+            value, count = place, 4 if kind in (1, 7) else 1
+        elif isinstance(value, bytes):
             count = len(value)
             if count > 4:
                 made += bytes(len(made) % 2)
@@ -178,6 +190,26 @@ def page(*more, pixels=b"\x55"):
     ]
     tags = {it[0] for it in more}
     return [it for it in known if it[0] not in tags] + list(more)
+
+
+def small_tiff(*entries, order="<", head=b"", more=b""):
+    """A TIFF of one directory without pixels, such as a camera profile."""
+    return tiff(list(entries), order=order, head=head, more=more)
+
+
+def raf(picture, directory=b"", pixels=b"", several=0, gap=0):
+    """A RAF: its header, a JPEG, a directory of Fujifilm's and what is at the pixels, each behind a gap."""
+    places, parts, at = [], b"", 148
+    for it in (picture, directory, pixels):
+        places.append((at + gap, len(it)) if it else (0, 0))
+        parts += bytes(gap) + it
+        at += gap + len(it)
+    head = bytearray(b"FUJIFILMCCD-RAW 0201FF383501FinePix S5000".ljust(60, b"\0") + b"0100").ljust(148, b"\0")
+    for place, it in zip((0x54, 0x5C, 0x64), places):
+        struct.pack_into(">II", head, place, *it)
+    struct.pack_into(">I", head, 0x48, several)
+    struct.pack_into(">I", head, 0x4C, several)
+    return bytes(head) + parts
 
 
 def turned(octets):

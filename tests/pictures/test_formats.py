@@ -15,8 +15,9 @@ from hypothesis import given, settings
 from hypothesis import strategies as st
 from in_memory import Counting, found_in, reader_of
 from made_blocks import ASCII, LONG, segment
-from made_files import A, B, K, L, T, iim, xmp
+from made_files import A, B, K, L, T, Placed, iim, xmp
 from made_files import app1, app13, app1_xmp, chunk, extension, jpeg, mpf, page, png, png_xmp, profile, resource, tiff, webp
+from made_raw import arw, camera_profile, dng, rw2, sony, whole_raf
 from studio import SMALL_JPEG, WithPictures, interpreter_with, needs, read, run, tool, write
 
 from exifnorm_pictures.extract import budgets
@@ -192,15 +193,6 @@ class Found(unittest.TestCase):
         tags = [struct.unpack_from(">H", found.found[0].data, at)[0] for at in range(10, 10 + 12 * 8, 12)]
         self.assertEqual(tags, [0x100, 0x101, 0x102, 0x103, 0x106, 0x10F, 0x115, 0x116])
         self.assertIn(b"Maker one\0", found.found[0].data)
-
-    def test_raw_pictures_are_left_to_others(self):
-        from exifnorm_pictures.extract.formats.found import LeftToOthers
-
-        raw = bytearray(tiff(page((0x010F, ASCII, b"Maker one\0"))))
-        raw[8:8] = b"CR\2\0" + bytes(4)
-        for octets in (bytes(raw), tiff(page((0xC612, 1, b"\1\4\0\0"))), tiff(page((0x014A, LONG, page((0xC612, 1, b"\1\4\0\0")))))):
-            with self.assertRaises(LeftToOthers):
-                found_in(octets)
 
     def test_engine_refuses_in_the_page_what_it_refuses_in_the_file(self):
         from exifnorm_pictures.extract import judge
@@ -384,10 +376,22 @@ class Damaged(unittest.TestCase):
     def test_tiff(self):
         self.see_that_each_has_a_result(bases()[3])
 
-    def see_that_each_has_a_result(self, base):
+    def test_raw(self):
+        self.see_that_each_has_a_result(dng(b"Anna", (0xC6F5, LONG, Placed(camera_profile()))), 400)
+
+    def test_arw(self):
+        self.see_that_each_has_a_result(arw(private=sony((0x7310, 7, b"levels of A"))), 400)
+
+    def test_rw2(self):
+        self.see_that_each_has_a_result(rw2(b"Anna", (0x0120, 7, b"II*\0CameraIFD")), 400)
+
+    def test_raf(self):
+        self.see_that_each_has_a_result(whole_raf(), 400)
+
+    def see_that_each_has_a_result(self, base, number=1000):
         results = Counter()
 
-        @settings(max_examples=1000)
+        @settings(max_examples=number)
         @given(damaged(base), st.booleans())
         def look(octets, whole):
             stream = Counting(octets)
@@ -410,7 +414,7 @@ class Damaged(unittest.TestCase):
             data = it.data
             if data in octets:
                 continue
-            if found.type == "TIFF" and it.kind == "exif":
+            if found.type in ("TIFF", "DNG", "CR2", "ORF", "RW2", "RAF") and it.kind == "exif" and "segment" not in it.where:
                 self.check_page(octets, data)
                 continue
             sources = sources or with_what_is_packed(octets)

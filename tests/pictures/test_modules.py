@@ -21,7 +21,7 @@ from studio import SMALL_JPEG, TOP, WithPictures, needs, read, tool, write
 
 from exifnorm_pictures.cli import main, mend as mend_cli, report as report_cli, same
 from exifnorm_pictures.compare import differing
-from exifnorm_pictures.extract import exiftool, judge, programs, readers
+from exifnorm_pictures.extract import exiftool, judge, programs
 from exifnorm_pictures.fields import labels, listing, names
 from exifnorm_pictures.refusals import explain, mend
 from exifnorm_pictures.report import contents, page as report
@@ -183,12 +183,6 @@ class Indexed(WithPictures):
 
 
 class Extracted(WithPictures):
-    def test_raw_files_by_their_names(self):
-        for name in (b"a.NEF", b"a.dng", b"A.Cr2", b"/x.y/a.ARW"):
-            self.assertIsNotNone(readers._RAW_NAME.search(name), name)
-        for name in (b"a.tif", b"nef", b"a.nef.tif", b"a.nef\n", b"anef"):
-            self.assertIsNone(readers._RAW_NAME.search(name), name)
-
     def test_what_exiftool_does_not_extract_has_a_digest(self):
         """Up to a length, and with --whole at any length."""
         answer = {"SourceFile": "a", "A:FileType": "GIF", "A:MIMEType": "image/gif"}

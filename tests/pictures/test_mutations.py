@@ -13,6 +13,7 @@ import sys
 import pytest
 from made_blocks import ASCII, SHORT
 from made_files import app1, app1_xmp, app13, chunk, iim, jpeg, page, png, png_xmp, profile, resource, tiff, webp, xmp
+import made_raw
 from studio import Studio, needs, run, write
 
 from exifnorm_pictures.catalogue.store import Catalogue
@@ -47,6 +48,7 @@ MAKERS = {
         page((0x010F, ASCII, b"Maker\0"), (0x0131, ASCII, b"Program\0"), (0x02BC, 1, xmp), (0x83BB, 7, iptc)), behind=b""
     ),
 }
+RAW = {**made_raw.MAKERS, "xmp": lambda: XMP}
 MOST = 40  # pictures of one group that ExifTool compares
 
 
@@ -84,22 +86,9 @@ def mutations(kind, number):
 
 
 def tags_of(folder, names):
-    """What ExifTool shows of the Exif, IPTC and XMP tags of some files, each by group, family and name, with places in the file left out."""
-    options = [
-        "-json",
-        "-a",
-        "-G0:1:4",
-        "-n",
-        "-b",
-        "-x",
-        "ThumbnailOffset",
-        "-x",
-        "StripOffsets",
-        "-x",
-        "PreviewImageStart",
-        "-x",
-        "XMPToolkit",
-    ]
+    """What ExifTool shows of the Exif, IPTC and XMP tags of some files, each by group, family and name, with places in the file and pixels left out."""
+    places = ("ThumbnailOffset", "StripOffsets", "StripByteCounts", "PreviewImageStart", "PreviewImage", "RawDataOffset", "XMPToolkit")
+    options = ["-json", "-a", "-G0:1:4", "-n", "-b", *(word for it in places for word in ("-x", it))]
     done = run(
         ["exiftool", "-config", "", "-q", "-q", *options, *(f"-{it}:all" for it in ("EXIF", "IPTC", "XMP")), "-@", "-"],
         folder,
@@ -114,9 +103,17 @@ class TestSame:
 
     @pytest.mark.parametrize("kind", MAKERS)
     def test_it(self, kind, tmp_path):
+        self.see_that_same_is_the_same(tmp_path, kind, MAKERS[kind](EXIF, IPTC, XMP), mutations(kind, 300), 20)
+
+    @pytest.mark.parametrize("kind", RAW)
+    def test_raw(self, kind, tmp_path):
+        whole, chance = RAW[kind](), random.Random(kind)
+        self.see_that_same_is_the_same(tmp_path, kind, whole, (mutated(whole, chance) for _ in range(150)), 5)
+
+    def see_that_same_is_the_same(self, tmp_path, kind, whole, files, least):
         (tmp_path / "p").mkdir()
-        write(tmp_path / "p" / f"whole.{kind}", MAKERS[kind](EXIF, IPTC, XMP))
-        for number, octets in enumerate(mutations(kind, 300)):
+        write(tmp_path / "p" / f"whole.{kind}", whole)
+        for number, octets in enumerate(files):
             write(tmp_path / "p" / f"{number:03}.{kind}", octets)
         done = run(["exifnorm-pictures", "index", "p", "--catalogue", "c", "--quiet", "--jobs", "2"], tmp_path)
         assert done.returncode in (0, 2) and b"internal error" not in done.stderr + done.stdout, done
@@ -125,11 +122,11 @@ class TestSame:
             for it in groups.groups(catalogue):
                 if it.basis in (groups.MEANING, groups.REPAIR):
                     found.append([os.path.relpath(os.fsdecode(one.path), tmp_path) for one in it.members][:MOST])
-        assert sum(map(len, found)) >= 20, "too few pictures are the same to show anything"
+        assert sum(map(len, found)) >= least, "too few pictures are the same to show anything"
         tags = tags_of(tmp_path, [name for group in found for name in group])
         for group in found:
             first = tags[group[0]]
-            assert len(first) > 3, first
+            assert len(first) >= 3, first
             for name in group[1:]:
                 other = {key: (value, first.get(key)) for key, value in tags[name].items() if value != first.get(key)}
                 assert not other and tags[name].keys() == first.keys(), (group[0], name, other)

@@ -1,17 +1,17 @@
 """What is made of the output of ExifTool and exiv2, without running them."""
 
-import contextlib
 import hashlib
 import io
 import os
-import struct
 import unittest
 from unittest import mock
 
+from made_files import app1, app13
 from studio import WithPictures, write
 
-from exifnorm_pictures.extract import exiftool, extraction, programs, readers
-from exifnorm_pictures.extract.formats.found import PROBLEMS, Blocks, LeftToOthers, NotRead
+from exifnorm_pictures.extract import exiftool, programs, readers
+from exifnorm_pictures.extract.formats import tiff
+from exifnorm_pictures.extract.formats.found import PROBLEMS, Blocks, NotRead
 
 ASKED = ("-EXIF:Exif", "-IPTC:IPTC", "-XMP:XMP", "-FileType#", "-MIMEType#", "-Error#")
 # Files in the structure of TIFF, by ExifTool's list of file types
@@ -59,19 +59,15 @@ class Answers(unittest.TestCase):
         self.assertEqual((found.problem, len(found.found)), (None, 1))
 
     def test_names_of_raw_pictures(self):
-        """In letters of either kind; files in the structure of TIFF with another name are read here."""
+        """Those that only other programs read, in letters of either kind. Other files in the structure of TIFF are read here."""
         for it in RAW[1:]:
             for name in (it, it.lower()):
-                self.assertIsNotNone(readers._RAW_NAME.search(f"/a.b/c.{name}".encode()), name)
-                self.assertIsNone(readers._RAW_NAME.search(f"/a.b/c.{name[:-1]}".encode()), name)
-        for name, head, is_left in (
-            ("c.nef", b"II*\0", True),
-            ("c.gif", b"GIF8", True),
-            ("c.tif", b"II*\0", False),
-            ("c.nef", b"MM\0+", False),
-        ):
-            with self.subTest(name, head=head), self.assertRaises(LeftToOthers) if is_left else contextlib.nullcontext():
-                extraction._read(io.BytesIO(head + struct.pack("<IH", 8, 0) + bytes(8)), name.encode(), False)
+                is_left = it not in ("DNG", "NEF", "CR2", "ARW", "SRW", "ORF", "PEF", "RW2")
+                read = readers.reader_of(b"II*\0" + bytes(12), f"/a.b/c.{name}".encode())
+                self.assertEqual((read is None, read is tiff.read), (is_left, not is_left), name)
+                self.assertIs(readers.reader_of(b"II*\0" + bytes(12), f"/a.b/c.{name[:-1]}".encode()), tiff.read)
+        for name, head, expected in ((b"c.nef", b"GIF8", None), (b"c.rwl", b"IIU\0", tiff.read), (b"c.nef", b"MM\0+", tiff.read_big)):
+            self.assertIs(readers.reader_of(head + bytes(12), name), expected, name)
 
 
 class Files(WithPictures):
@@ -112,22 +108,22 @@ class Files(WithPictures):
         self.assertEqual(exiftool.WHOLE_FILE, 16 << 20)
 
     def test_raw_pictures(self):
-        """exiv2 extracts their Exif block into a file, from which ExifTool takes it."""
+        """exiv2 extracts their Exif block into a file of its own form."""
         calls = []
 
         def run(words, folder):
             calls.append((words, folder, os.readlink(words[-1]), os.listdir(folder)))
-            write(os.path.join(folder, "picture.exv"), b"")
+            write(os.path.join(folder, "picture.exv"), b"\xff\1Exiv2" + app1(b"MM*") + app13(b"other") + b"\xff\xd9")
 
         folder = self.path("room", "exiv2")
         for kind in RAW:
             calls.clear()
             link = os.path.join(folder, f"picture.{kind.lower()}")
-            found = self.read([{"FileType": kind, "MIMEType": "image/x"}, {"EXIF": "MM*", "Copy1:EXIF": "other"}], run=run)
+            found = self.read([{"FileType": kind, "MIMEType": "image/x"}], run=run)
             self.assertEqual(
                 calls, [(["/bin/exiv2", "-q", "-ee", "-l", folder, link], folder, os.path.abspath("a.x"), [os.path.basename(link)])]
             )
-            self.assertEqual(self.asked, [(b"a.x", ASKED), (os.fsencode(os.path.join(folder, "picture.exv")), ("-EXIF:Exif",))])
+            self.assertEqual(self.asked, [(b"a.x", ASKED)])
             self.assertEqual(seen(found), [("exif", "Exif", b"MM*", f"{kind} file", "exiv2")])
             self.assertEqual((found.extractor, found.problem, len(found.not_read)), ("exiftool", None, 1))
         self.assertEqual(exiftool._TIFF_TYPES, set(RAW))
@@ -139,8 +135,9 @@ class Files(WithPictures):
         failed = ("ToolFailed", "exiv2 extracted no Exif block from this file", [])
         found = self.read([answer], run=lambda *_: None)
         self.assertEqual((found.problem, found.detail, found.found), failed)
-        found = self.read([answer, {"SourceFile": "x"}], run=lambda words, folder: write(os.path.join(folder, "picture.exv"), b""))
-        self.assertEqual((found.problem, found.detail, found.found), failed)
+        for octets in (b"", b"\xff\1Exiv2", b"\xff\1Exiv2" + app13(b"other") + b"\xff\xd9", b"\xff\1Exiv2\xff\xe1\xff\xffExif\0\0MM"):
+            found = self.read([answer], run=lambda words, folder: write(os.path.join(folder, "picture.exv"), octets))
+            self.assertEqual((found.problem, found.detail, found.found), failed, octets)
         found = self.read([answer], has_exiv2=False)
         self.assertEqual((found.problem, found.detail, found.found), ("NeedsExiv2", PROBLEMS["NeedsExiv2"], []))
 

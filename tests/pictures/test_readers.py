@@ -16,7 +16,7 @@ from studio import SMALL_JPEG
 
 from exifnorm_pictures.extract import budgets
 from exifnorm_pictures.extract.formats import jpeg as jpeg_, mpf as mpf_, tiff as tiff_
-from exifnorm_pictures.extract.formats.found import PROBLEMS, Blocks, Broken, LeftToOthers, ordinal
+from exifnorm_pictures.extract.formats.found import PROBLEMS, Blocks, Broken, ordinal
 
 MIN = b"\xff\xd8\xff\xda\0\2\xff\xd9"  # a JPEG of one scan without data
 
@@ -568,11 +568,7 @@ class Readers(unittest.TestCase):
         with mock.patch.object(tiff_, "LIMIT", 34):
             self.assertEqual(len(found_in(tiff([(0x010F, ASCII, b"12345678")])).found), 1)
 
-    def test_tiffs_for_others(self):
-        for octets, why in ((b"II*\0\x10\0\0\0CR\2\0", "a raw picture of Canon"), (tiff(page((0xC612, 1, b"\1\4\0\0"))), "a DNG")):
-            with self.assertRaises(LeftToOthers) as caught:
-                found_in(octets)
-            self.assertEqual(str(caught.exception), why)
+    def test_big_tiff(self):
         big = tiff_.read_big(io.BytesIO(b""))
         self.assertEqual((big.type, big.problem, big.detail), ("BTF", "BigTIFF", PROBLEMS["BigTIFF"]))
 

@@ -21,12 +21,14 @@ from typing import Dict, List, Optional, Sequence
 
 from ..files import tempdir
 from . import programs
-from .budgets import WHOLE_FILE, budget_of
-from .formats.found import EXIF, EXIFTOOL, EXIV2, IPTC, PROBLEMS, UNREAD_TRAILER, XMP, Blocks, NotRead
+from .budgets import WHOLE_FILE, Budget, budget_of
+from .formats.found import EXIF, EXIFTOOL, EXIV2, IPTC, PROBLEMS, UNREAD_TRAILER, XMP, Blocks, Broken, NotRead
+from .formats.jpeg_segments import APP1, segments
 from .formats.streams import Stream, digest_of, size_of
 from .programs import Failed
 
 _WORDS = ("-EXIF:Exif", "-IPTC:IPTC", "-XMP:XMP", "-FileType#", "-MIMEType#", "-Error#")
+_SIX = b"Exif\0\0"
 _TAGS = {"EXIF": EXIF, "IPTC": IPTC, "XMP": XMP}
 _SEVERAL = ("CR3", "CRX", "CRM")  # Canon's, by ExifTool's names
 
@@ -235,11 +237,20 @@ def _add_by_exiv2(blocks: Blocks, path: bytes) -> None:
     os.symlink(os.path.abspath(path), os.fsencode(link))
     programs.run([programs.needed("exiv2"), "-q", "-ee", "-l", folder, link], folder)
     made = os.path.join(folder, "picture.exv")
-    found = values(ask(os.fsencode(made), ("-EXIF:Exif",)), "EXIF") if os.path.exists(made) else []
+    found = _exif_of_exiv2(made) if os.path.exists(made) else b""
     if found:
-        blocks.add(EXIF, octets(found[0]), f"{blocks.type} file", extractor=EXIV2)
+        blocks.add(EXIF, found, f"{blocks.type} file", extractor=EXIV2)
     else:
         blocks.problem, blocks.detail = "ToolFailed", "exiv2 extracted no Exif block from this file"
+
+
+def _exif_of_exiv2(path: str) -> bytes:
+    """The Exif block of a file in exiv2's own form: two bytes, five letters, and segments as in a JPEG. No bytes if it has none."""
+    with open(path, "rb") as file, contextlib.suppress(Broken):
+        for marker, _, _, data, _ in segments(file, 5, Budget()):
+            if marker == APP1 and data.startswith(_SIX):
+                return data[len(_SIX) :]
+    return b""
 
 
 def add_trailers(blocks: Blocks, path: bytes) -> None:

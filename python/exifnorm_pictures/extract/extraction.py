@@ -12,7 +12,7 @@ from .budgets import Budget, TooMuch
 from .exiftool import add_trailers, by_others
 from .formats.found import PROBLEMS, Blocks, Broken, LeftToOthers
 from .formats.streams import File
-from .readers import HEAD, reader_of
+from .readers import HEAD, reader_of, type_of
 
 
 def blocks_of(path: bytes, whole: bool = False) -> Blocks:
@@ -63,4 +63,6 @@ def _read(stream: File, path: bytes, whole: bool) -> Blocks:
     read = reader_of(stream.read(HEAD), path)
     if read is None:
         raise LeftToOthers("")
-    return read(stream, whole)
+    blocks = read(stream, whole)
+    blocks.type = type_of(blocks, path)
+    return blocks

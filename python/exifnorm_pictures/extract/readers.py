@@ -8,7 +8,7 @@ from __future__ import annotations
 import re
 from typing import Callable, NamedTuple, Optional, Tuple
 
-from .formats import heif, jpeg, png, psd, tiff, webp
+from .formats import heif, jpeg, png, psd, raf, tiff, webp, xmp_file
 from .formats.found import Blocks
 from .formats.streams import Stream
 
@@ -16,7 +16,9 @@ HEAD = 16  # bytes of a file that show its format
 
 Read = Callable[[Stream, bool], Blocks]  # raises `Broken` and `LeftToOthers`; the second argument is --whole
 
-_RAW_NAME = re.compile(rb"\.(dng|nef|nrw|cr2|arw|arq|sr2|srf|srw|orf|pef|rw2|rwl|3fr|iiq|erf|mef|mos|dcr|kdc|k25|gpr|fff|raw)\Z", re.I)
+# Raw pictures in the structure of TIFF whose private entries aren't known here, by their names, and those that are
+_LEFT_NAME = re.compile(rb"\.(nrw|arq|sr2|srf|rwl|3fr|iiq|erf|mef|mos|dcr|kdc|k25|gpr|fff|raw)\Z", re.I)
+_RAW_NAME = re.compile(rb"\.(nef|arw|srw|pef)\Z", re.I)
 
 
 class Format(NamedTuple):
@@ -34,7 +36,13 @@ class Format(NamedTuple):
 
 
 def _is_tiff(head: bytes, path: bytes) -> bool:
-    return head[:4] in tiff.HEADS and not _RAW_NAME.search(path)
+    return head[:4] in tiff.HEADS and not _LEFT_NAME.search(path)
+
+
+def type_of(blocks: Blocks, path: bytes) -> str:
+    """The type of a file that was read: its reader's word, or that of its name where raw pictures can't be told from a TIFF."""
+    named = _RAW_NAME.search(path) if blocks.type == "TIFF" else None
+    return named[1].decode("ascii").upper() if named else blocks.type
 
 
 FORMATS: Tuple[Format, ...] = (
@@ -72,15 +80,37 @@ FORMATS: Tuple[Format, ...] = (
         "pixels, ICC profiles",
     ),
     Format(
-        "TIFF",
+        "TIFF; DNG, CR2, NEF, PEF, ARW, SRW",
         _is_tiff,
         tiff.read,
-        "each page and each SubIFD",
+        "each page, each SubIFD and each camera profile",
         "tag 83bb; resource 0404",
         "tag 02bc; resource 0424",
-        "trailers, Photoshop's layers, bytes that only a MakerNote can reach",
-        "directories of Kodak and Leaf, GlobalParametersIFD",
+        "trailers, Photoshop's layers, bytes that only a MakerNote can reach; the original raw file in a DNG; Sony's private directory",
+        "directories of Kodak and Leaf, GlobalParametersIFD; what Sony's Image Data Converter wrote; what Samsung's offsets lead to",
         "pixels and where they are, other resources",
+    ),
+    Format(
+        "ORF, RW2",
+        lambda head, _: head[:4] in tiff.RAW_HEADS,
+        tiff.read,
+        "as of a TIFF; those of the JPEGs in tags 002e and 0127",
+        "as of a TIFF; those of the JPEGs",
+        "as of a TIFF; those of the JPEGs",
+        "as of a TIFF; Panasonic's CameraIFD; as of the JPEGs",
+        "as of a TIFF",
+        "pixels and where they are",
+    ),
+    Format(
+        "RAF",
+        lambda head, _: head.startswith(raf.START),
+        raf.read,
+        "those of the JPEG; Fujifilm's TIFF",
+        "those of the JPEG",
+        "those of the JPEG",
+        "as of the JPEG; Fujifilm's directories of the raw data",
+        "the header of several pictures",
+        "pixels",
     ),
     Format(
         "HEIC, HEIF, AVIF",
@@ -105,8 +135,9 @@ FORMATS: Tuple[Format, ...] = (
         "pixels, other resources, colour tables",
     ),
     Format("BigTIFF", lambda head, _: head[:4] in tiff.BIG_HEADS, tiff.read_big, "not read", "not read", "not read"),
+    Format("NAME.xmp", lambda _, path: xmp_file.is_named_so(path), xmp_file.read, "", "", "the whole file"),
 )
-_OTHERS = ("others, damaged files, raw pictures", "by ExifTool and exiv2, never wholly read", "by ExifTool", "by ExifTool")
+_OTHERS = ("others, damaged files, other raw pictures", "by ExifTool and exiv2, never wholly read", "by ExifTool", "by ExifTool")
 
 
 def reader_of(head: bytes, path: bytes) -> Optional[Read]:
@@ -115,10 +146,8 @@ def reader_of(head: bytes, path: bytes) -> Optional[Read]:
 
 
 def _lines(*rows: Tuple[str, ...]) -> str:
-    lines = ("| " + " | ".join(it) + " |\n" for it in (rows[0], ("---",) * len(rows[0]), *rows[1:]))
-    return "".join(it.replace("|  |", "| |").replace("|  |", "| |") for it in lines).replace(
-        "| --- | --- | --- | --- |", "|---|---|---|---|"
-    )
+    lines = ["|" + "".join(f" {cell} |" if cell else " |" for cell in row) + "\n" for row in rows]
+    return lines[0] + "|" + "---|" * len(rows[0]) + "\n" + "".join(lines[1:])
 
 
 def table() -> str:

@@ -1,7 +1,8 @@
 """TIFF: each page and each SubIFD is an Exif block by itself, without the entries that lead to pixels and without those whose values
 are blocks of their own: XMP, IPTC and Photoshop's resources (TIFF 6.0; Adobe PageMaker 6.0 TIFF Technical Notes; XMP part 3).
 
-Raw pictures have the same structure, and private pointers too; ExifTool and exiv2 read them.
+Raw pictures have the same structure: DNG, CR2, NEF and others. Some begin in another way, as ORF and RW2, and most have private entries
+(`private`).
 """
 
 from __future__ import annotations
@@ -15,13 +16,16 @@ from exifnorm import LIMIT
 from ..budgets import DIRECTORIES, STRIPS
 from ..structure import counted
 from . import photoshop
-from .found import EXIF, IPTC, XMP, Blocks, Broken, LeftToOthers, NotRead, length_of
-from .streams import Stream, digest_of_rest, pieces, read_at
+from .found import EXIF, IPTC, XMP, Blocks, Broken, NotRead, length_of
+from .private import RW2_HEAD, Private
+from .streams import Stream, digest_of_rest, pieces
 from .tiff_block import Layout, Table, is_pointer
 from .tiff_directories import HEADS, IFD, LONG, Directories, Directory, Entry
 
-__all__ = ["BIG_HEADS", "HEADS", "read", "read_big"]
+__all__ = ["BIG_HEADS", "HEADS", "RAW_HEADS", "read", "read_big"]
 
+_ORF_HEADS = (b"IIRO", b"IIRS", b"MMOR")
+RAW_HEADS = (*_ORF_HEADS, RW2_HEAD)
 BIG_HEADS = (b"II+\0", b"MM\0+")
 DEEPEST = 10  # SubIFDs below one another
 
@@ -38,11 +42,18 @@ PIXELS: Dict[int, str] = {
     0x0208: "JPEGDCTables",
     0x0209: "JPEGACTables",
 }
+_FREE = (0x0120, 0x0121)  # which Panasonic uses for other things
 _PAIRS = ((0x0111, 0x0117), (0x0144, 0x0145), (0x0201, 0x0202))
 _SUB_IFDS, _XMP, _IPTC, _PHOTOSHOP, _LAYERS = 0x014A, 0x02BC, 0x83BB, 0x8649, 0x935C
 _Pointers = Dict[int, "_Pointers"]
 _POINTERS: _Pointers = {0x8769: {0xA005: {}}, 0x8825: {}}  # Exif with Interoperability, GPS
-_OTHER_POINTERS = {0x0190: "GlobalParametersIFD", 0x8290: "Kodak's IFD", 0x8606: "Leaf's IFD", 0xFE00: "Kodak's IFD"}
+_OTHER_POINTERS = {
+    0x0190: "GlobalParametersIFD",
+    0x8290: "Kodak's IFD",
+    0x8606: "Leaf's IFD",
+    0x888A: "Leaf's SubIFD",
+    0xFE00: "Kodak's IFD",
+}
 _DNG_VERSION, _MAKER_NOTE = 0xC612, 0x927C
 
 
@@ -57,10 +68,8 @@ class _Page(NamedTuple):
 
 
 def read(stream: Stream, whole: bool = False) -> Blocks:
-    """The blocks of a TIFF. Raises `Broken`, and `LeftToOthers` for a raw picture."""
-    if read_at(stream, 8, 2) == b"CR":
-        raise LeftToOthers("a raw picture of Canon")
-    reader = _Reader(Directories(stream))
+    """The blocks of a TIFF, or of a raw picture in its structure. Raises `Broken`."""
+    reader = _Reader(Directories(stream), whole)
     for page in reader.pages():
         reader.take(page)
     reader.directories.check()
@@ -73,15 +82,26 @@ def read_big(stream: Stream, whole: bool = False) -> Blocks:
     return Blocks(type="BTF", problem="BigTIFF", detail="a BigTIFF, whose offsets have eight bytes, is not read")
 
 
+def _type_of(head: bytes) -> str:
+    """The type of a file that begins like this."""
+    if head[:4] in _ORF_HEADS:
+        return "ORF"
+    return "RW2" if head[:4] == RW2_HEAD else "CR2" if head[8:] == b"CR" else "TIFF"
+
+
 class _Reader:
     """The pages of one file."""
 
-    def __init__(self, directories: Directories) -> None:
+    def __init__(self, directories: Directories, whole: bool) -> None:
         self.directories = directories
-        self.blocks = Blocks(type="TIFF", budget=directories.budget)
-        self._covered: List[Tuple[int, int]] = [(0, 8)]  # all these parts
+        directories.stream.seek(0)
+        self.blocks = Blocks(type=_type_of(directories.stream.read(10)), budget=directories.budget)
+        length = 16 if self.blocks.type == "CR2" else 8  # of the header
+        self._covered: List[Tuple[int, int]] = [(0, length)]  # all these parts
         self._has_note = False
-        self._end: Optional[int] = 8  # after all parts that the directories point to; None if it is unknown
+        self._end: Optional[int] = length  # after all parts that the directories point to; None if it is unknown
+        self._private = Private(directories, self.blocks, self._reaches, whole)
+        self._pixels = {tag: name for tag, name in PIXELS.items() if not (self._private.is_panasonic and tag in _FREE)}
 
     def pages(self) -> Iterator[_Page]:
         """Each page, followed by its SubIFDs."""
@@ -118,8 +138,8 @@ class _Reader:
     def _read(self, at: int) -> Directory:
         it = self.directories.read(at)
         if any(entry.tag == _DNG_VERSION for entry in it.entries):
-            raise LeftToOthers("a DNG")
-        self._reaches(at + 2 + 12 * len(it.entries) + 4, at)
+            self.blocks.type = "DNG"
+        self._reaches(it.end, at)
         for entry in it.entries:
             place = self.directories.place_of(entry) if entry.size > 4 else None
             if place:
@@ -150,10 +170,12 @@ class _Reader:
         left_out: Set[str] = set()
         kept: List[Entry] = []
         for it in page.directory.entries:
-            if (it.tag in PIXELS or it.tag == _SUB_IFDS) and not self._is_whole(it):
+            if it.tag in self._private.tags and self._private.takes(it, page.part or "page 1"):
+                continue
+            if (it.tag in self._pixels or it.tag == _SUB_IFDS) and not self._is_whole(it):
                 raise Broken(f"the list of tag {it.tag:04x} of {page.part or 'page 1'} isn't whole")
-            if it.tag in PIXELS:
-                left_out.add(PIXELS[it.tag])
+            if it.tag in self._pixels:
+                left_out.add(self._pixels[it.tag])
             elif it.tag == _SUB_IFDS:
                 left_out.add("SubIFDs")
             elif not self._is_block(it, page.part):
@@ -197,7 +219,7 @@ class _Reader:
         for it in entries:
             if it.tag in pointers and is_pointer(it) and it.tag not in below:
                 directory = self.directories.read(self.directories.number(it.last))
-                self._reaches(directory.at + 2 + 12 * len(directory.entries) + 4, directory.at)
+                self._reaches(directory.end, directory.at)
                 self._has_note = self._has_note or any(one.tag == _MAKER_NOTE and one.size > 4 for one in directory.entries)
                 below[it.tag] = self._table(directory.entries, pointers[it.tag])
         for it in entries:

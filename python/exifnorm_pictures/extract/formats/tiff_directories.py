@@ -33,11 +33,12 @@ class Entry(NamedTuple):
 
 
 class Directory(NamedTuple):
-    """A directory: its offset, its entries in their order, and the offset of the next one."""
+    """A directory: its offset, its entries in their order, the offset of the next one, and where it ends."""
 
     at: int
     entries: List[Entry]
     following: int
+    end: int
 
 
 class Directories:
@@ -63,11 +64,12 @@ class Directories:
         """The directory at an offset. Raises `Broken`."""
         count = self.number(read_at(self.stream, at, 2))
         table = read_at(self.stream, at + 2, 12 * count + 4)
-        self._claim(at, at + 2 + 12 * count + 4)
+        end = at + 2 + 12 * count + 4
+        self._claim(at, end)
         self.budget.spend(DIRECTORIES)
         self.budget.spend(ENTRIES, count)
         entries = [Entry(*it) for it in struct.iter_unpack(self.order + "HHI4s", table[: 12 * count])]
-        return Directory(at, entries, self.number(table[12 * count :]))
+        return Directory(at, entries, self.number(table[12 * count :]), end)
 
     def _claim(self, start: int, end: int) -> None:
         place = bisect_left(self._starts, start)

@@ -1,0 +1,158 @@
+"""The private entries of raw pictures in the structure of TIFF: what they lead to is read, compared by its bytes, or named as not read.
+
+Their values have offsets in the file, so none of them is a field of a block. What the makers' directories have inside is known from
+ExifTool alone (its modules Sony, PanasonicRaw, SamsungRaw), and that of DNG from its specification.
+"""
+
+from __future__ import annotations
+
+import hashlib
+from typing import Callable, List, Optional, Tuple
+
+from exifnorm import LIMIT
+
+from ..budgets import DIRECTORIES
+from .embedded import add_jpeg
+from .found import EXIF, Blocks, Broken, NotRead
+from .streams import digest_of_rest, read_at
+from .tiff_block import Layout, Table, is_pointer
+from .tiff_directories import HEADS, IFD, LONG, Directories, Directory, Entry
+from .window import Window
+
+RW2_HEAD = b"IIU\0"
+
+_SONY, _ORIGINAL, _PROFILES = 0xC634, 0xC68C, 0xC6F5
+_SAMSUNG = 0xA010  # the offset of a list of offsets
+_SR2 = (0x7200, 0x7201)  # the offset and the length of Sony's encrypted directory
+_IDC = (0x7240, 0x7241)  # the offsets of directories that Sony's program Image Data Converter adds
+_JPEGS = (0x002E, 0x0127)
+_PANASONIC_PIXELS, _PANASONIC_CAMERA = 0x0118, 0x0120
+_BYTES = (1, 7)  # BYTE and UNDEFINED
+TAGS = frozenset((_SONY, _ORIGINAL, _PROFILES, _SAMSUNG))
+PANASONIC_TAGS = TAGS | {*_JPEGS, _PANASONIC_PIXELS, _PANASONIC_CAMERA}
+_PROFILE_HEADS = (b"IIRC", b"MMCR", *HEADS)
+
+Reaches = Callable[[int, int], None]  # takes the end and the start of a part that a directory points to
+
+
+class Private:
+    """The private entries of one file."""
+
+    def __init__(self, directories: Directories, blocks: Blocks, reaches: Reaches, whole: bool) -> None:
+        self.directories, self.blocks = directories, blocks
+        self._reaches, self._whole = reaches, whole
+        self.is_panasonic = read_at(directories.stream, 0, 4) == RW2_HEAD
+        self.tags = PANASONIC_TAGS if self.is_panasonic else TAGS
+
+    def takes(self, it: Entry, of: str) -> bool:
+        """Reads or names what an entry leads to. Returns whether the entry is taken out of its directory. Raises `Broken`."""
+        if it.tag == _SONY:
+            if it.size != 4:  # as in a DNG, where it is a value
+                return False
+            self._sony(it, f"Sony's private directory of {of}")
+        elif it.tag == _ORIGINAL:
+            return self._compare(it, f"the original raw file in {of}")
+        elif it.tag == _PROFILES:
+            self._profiles(it)
+        elif it.tag == _SAMSUNG:
+            self.blocks.name(NotRead(f"what Samsung's offsets of {of} lead to", ""))
+        elif it.tag in _JPEGS:
+            return self._jpeg(it)
+        elif it.tag == _PANASONIC_CAMERA:
+            return self._compare(it, f"Panasonic's CameraIFD of {of}")
+        elif it.tag == _PANASONIC_PIXELS:
+            self._reaches(self.directories.size, self.directories.size)  # they have no length, and no trailer is known
+        return True
+
+    def _place_of(self, it: Entry) -> Optional[Tuple[int, int]]:
+        """The range of a value of bytes that is a file by itself."""
+        return self.directories.place_of(it) if it.size > 4 and it.type in _BYTES else None
+
+    def _compare(self, it: Entry, what: str) -> bool:
+        """A value that is compared by its bytes. Returns whether there is one."""
+        place = self._place_of(it)
+        if place is None:
+            return False
+        self.blocks.name(NotRead(what, digest_of_rest(self.directories.stream, *place) or ""))
+        return True
+
+    def _jpeg(self, it: Entry) -> bool:
+        place = self._place_of(it)
+        if place is None:
+            return False
+        part = "embedded JPEG" if it.tag == _JPEGS[0] else "second embedded JPEG"
+        add_jpeg(self.blocks, self.directories.stream, place[0], it.size, part, self._whole)
+        return True
+
+    def _sony(self, it: Entry, what: str) -> None:
+        """Sony's private directory: compared with the encrypted one that it points to, but without the offset of that."""
+        try:
+            directory = self.directories.read(self.directories.number(it.last))
+            digest = self._sony_digest(directory)
+        except Broken:
+            digest = ""
+        self.blocks.name(NotRead(what, digest))
+
+    def _sony_digest(self, directory: Directory) -> str:
+        """The digest of Sony's private directory; none if it leads to more than the encrypted one. Raises `Broken`."""
+        self._reaches(directory.end, directory.at)
+        digest = hashlib.sha256()
+        for one in directory.entries:
+            if one.tag != _SR2[0]:
+                digest.update(b"%d %d %d " % (one.tag, one.type, one.elements) + self._value(one))
+        inner = [one for tag in _SR2 for one in directory.entries if one.tag == tag]
+        if any(one.tag in _IDC for one in directory.entries) or [one.tag for one in inner] not in ([], list(_SR2)):
+            return ""
+        if inner:
+            if not all(map(is_pointer, inner)):
+                return ""
+            start, length = (self.directories.number(one.last) for one in inner)
+            if start + length > self.directories.size:
+                return ""
+            digest.update(self.directories.part(start, start + length))
+            self._reaches(start + length, start)
+        return digest.hexdigest()
+
+    def _value(self, it: Entry) -> bytes:
+        """The bytes of a value, and those of an entry that has a type that isn't known. Raises `Broken`."""
+        place = self.directories.place_of(it) if it.size > 4 else None
+        if it.size > 4 and place is None:
+            raise Broken(f"the value of tag {it.tag:04x} isn't in the file")
+        if place:
+            self._reaches(place[1], place[0])
+        return self.directories.value(it) if it.size else it.last
+
+    def _profiles(self, it: Entry) -> None:
+        """The further camera profiles of a DNG, each a directory whose offsets count from its own header."""
+        places = self.directories.numbers(it) if it.type in (LONG, IFD) else []
+        if not places:
+            raise Broken("the list of camera profiles isn't whole")
+        self.directories.budget.spend(DIRECTORIES, len(places))
+        for number, start in enumerate(places, 1):
+            self._profile(start, f"camera profile {number}")
+
+    def _profile(self, start: int, part: str) -> None:
+        stream = self.directories.stream
+        inside = Window(stream, start, self.directories.size)
+        if read_at(inside, 0, 4) not in _PROFILE_HEADS:
+            raise Broken(f"{part} has no header")
+        directories = Directories(inside)
+        directory = directories.read(directories.first)
+        for place in _parts(directories, directory):
+            self._reaches(start + place[1], start + place[0])
+        add_directory(self.blocks, directories, directory, directory.entries, f"camera profile at {start}", part)
+        directories.check()
+
+
+def _parts(directories: Directories, it: Directory) -> List[Tuple[int, int]]:
+    """The parts of a file that a directory with its header and its values takes."""
+    places = [directories.place_of(entry) for entry in it.entries if entry.size > 4]
+    return [(0, 8), (it.at, it.end), *(place for place in places if place)]
+
+
+def add_directory(blocks: Blocks, directories: Directories, it: Directory, kept: List[Entry], where: str, part: str) -> None:
+    """Adds some entries of a directory without pointers as a block. Raises `Broken`."""
+    layout = Layout(directories, Table(kept, {}))
+    if layout.length > LIMIT:
+        raise Broken(f"{part} has more than {LIMIT:,} bytes of values")
+    blocks.add(EXIF, layout.block(), where, part)

@@ -1,0 +1,73 @@
+"""RAF, the raw pictures of Fujifilm: a header, a JPEG with the metadata, and directories with facts about the pixels.
+
+Fujifilm documents none of it; this is what ExifTool's module FujiFilm reads. The header begins with `START`, and has the offsets and
+lengths of the parts as numbers of four bytes, the high byte first.
+"""
+
+from __future__ import annotations
+
+from typing import Tuple
+
+from .embedded import add_jpeg
+from .found import Blocks, Broken, NotRead
+from .private import add_directory
+from .streams import Stream, digest_of_rest, read_at, size_of
+from .tiff_block import is_pointer
+from .tiff_directories import HEADS, Directories
+from .window import Window
+from ..budgets import budget_of
+
+START = b"FUJIFILMCCD-RAW "
+_HEADER = 0x88  # bytes of the longest header; the JPEG follows a shorter one directly
+_JPEG = 0x54  # in the header: where the place of the JPEG is
+_SEVERAL = 0x48  # the same of a header of several pictures
+_DIRECTORIES = (0x5C, 0x78)  # of directories in Fujifilm's own form
+_TIFFS = (0x64, 0x80)  # of pixels, which in newer files begin with directories in the form of TIFF
+_FUJI = 0xF000  # the tag that leads to the directory of the pixels
+_PIXELS = frozenset((0xF007, 0xF008))  # their offset and length there
+
+
+def read(stream: Stream, whole: bool = False) -> Blocks:
+    """The blocks of a RAF. Raises `Broken`."""
+    blocks = Blocks(type="RAF", budget=budget_of(stream))
+    size = size_of(stream)
+    head = read_at(stream, 0, _HEADER)
+    jpeg, length = _place(head, _JPEG)
+    if jpeg < _JPEG + 8 or not length or jpeg + length > size:
+        raise Broken("the JPEG of the RAF isn't in the file")
+    add_jpeg(blocks, stream, jpeg, length, "", whole)
+    for at in (_SEVERAL, *_DIRECTORIES, *_TIFFS):
+        start, length = _place(head, at)
+        if at + 8 > jpeg or not start or not length:
+            continue
+        if at == _SEVERAL:
+            blocks.name(NotRead("Fujifilm's header of several pictures", ""))
+        elif start + length > size:
+            raise Broken(f"the part at {start} ends after the RAF")
+        elif at in _DIRECTORIES:
+            digest = digest_of_rest(stream, start, start + length)
+            blocks.name(NotRead("Fujifilm's directory of the raw data", digest or ""))
+        elif read_at(stream, start, 4) in HEADS:
+            _add_own(blocks, Window(stream, start, length), start)
+    return blocks
+
+
+def _place(head: bytes, at: int) -> Tuple[int, int]:
+    """The offset and the length of a part, which stand at an offset of the header."""
+    return int.from_bytes(head[at : at + 4], "big"), int.from_bytes(head[at + 4 : at + 8], "big")
+
+
+def _add_own(blocks: Blocks, stream: Window, start: int) -> None:
+    """Fujifilm's directories in the form of TIFF: the first one, and the one that it points to."""
+    directories = Directories(stream)
+    first = directories.read(directories.first)
+    pointers = [it for it in first.entries if it.tag == _FUJI]
+    if first.following or len(pointers) > 1 or not all(map(is_pointer, pointers)):
+        raise Broken(f"Fujifilm's directory at {start} has another form than is known")
+    found = [(first, "Fujifilm's TIFF")]
+    found += [(directories.read(directories.number(it.last)), "Fujifilm's directory of pixels") for it in pointers]
+    for one, part in found:
+        kept = [it for it in one.entries if it.tag not in _PIXELS and it not in pointers]
+        if kept:
+            add_directory(blocks, directories, one, kept, f"directory at {start + one.at}", part)
+    directories.check()
