@@ -48,7 +48,7 @@ program = $$(ls out/exifnorm 2>/dev/null || ls crates/px_cli/out/px_cli)
 packages = $(eval packages := $(patsubst python/%/__init__.py,%,$(shell find python -name __init__.py)))$(packages)
 pages = $(wildcard docs/*.1 docs/*.3)
 # the licences, and the documents that installed pages, documents and modules refer to, with their pictures
-papers = LICENSE-APACHE LICENSE-MIT CHANGELOG.md $(addprefix docs/,DECISIONS.md FORMAT.md RECIPES.md REFUSALS.md TUTORIAL.md) $(wildcard docs/*.png)
+papers = LICENSE-APACHE LICENSE-MIT CHANGELOG.md $(addprefix docs/,DECISIONS.md FORMAT.md JSON.md RECIPES.md REFUSALS.md TUTORIAL.md) $(wildcard docs/*.png)
 # all that is installed, before it is copied to its folder
 stage = out/stage
 
@@ -121,7 +121,9 @@ stage: all
 	    install -d "$(stage)$(PYTHONDIR)/$$package" && \
 	    install -m 644 python/$$package/*.py "$(stage)$(PYTHONDIR)/$$package/" || exit 1; \
 	done
-	for typed in $(wildcard python/*/py.typed); do install -m 644 "$$typed" "$(stage)$(PYTHONDIR)/$${typed#python/}" || exit 1; done
+	for file in $(wildcard python/*/py.typed python/*/*.json); do \
+	    install -m 644 "$$file" "$(stage)$(PYTHONDIR)/$${file#python/}" || exit 1; \
+	done
 	ln -s "$$(realpath -m --relative-to='$(PYTHONDIR)/exifnorm' '$(LIBDIR)')/$(SONAME)" '$(stage)$(PYTHONDIR)/exifnorm/$(SONAME)'
 	CC='$(CC)' LDFLAGS='$(LDFLAGS)' python3 packaging/extension.py '$(stage)$(PYTHONDIR)/exifnorm/_native.abi3.so' '$(PYTHONINCLUDE)'
 	python3 packaging/dist_info.py python '$(stage)$(PYTHONDIR)'

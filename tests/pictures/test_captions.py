@@ -153,7 +153,7 @@ def test_different_texts_are_marked(captions):
 def test_character_sets_of_iptc(sets, text, guess, captions):
     _, out = captions("--json", a=jpeg(with_record(*sets)))
     found = json.loads(out)["captions"][0]
-    assert (found["texts"], found.get("guess", "")) == ([text], guess)
+    assert (found["texts"], found["guess"] or "") == ([text], guess)
 
 
 def test_a_guess_is_named_and_a_confirmed_one_is_not(captions):

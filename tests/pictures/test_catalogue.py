@@ -42,7 +42,7 @@ class Archive(InFolder):
         """The report of a further run, by the names of the files."""
         lines = self.asked("index", "p", "--catalogue", "c", "--quiet", "--json", *words, status=status, **more)
         found = [json.loads(it) for it in lines]
-        named = {os.path.relpath(it["path"], self.path("p")): it.get("problem", "looked at") for it in found[:-1]}
+        named = {os.path.relpath(it["path"], self.path("p")): it["problem"] or "looked at" for it in found[:-1]}
         return named, found[-1]["counts"]
 
     def changed_rows(self):
@@ -447,7 +447,7 @@ class Kinds(InFolder):
         self.asked("index", "p", "--catalogue", "c", "--quiet")
         os.remove(self.path("p", "gone.jpg"))
         self.asked("index", "p", "--catalogue", "c", "--quiet")
-        (found,) = [json.loads(it) for it in self.asked("same", "--catalogue", "c", "--json")]
+        (found, _) = [json.loads(it) for it in self.asked("same", "--catalogue", "c", "--json")]
         self.assertEqual((found["basis"], found["count"], found["digests"], found["wholly_read"]), ("bytes", 2, {"exif": ""}, False))
         self.assertEqual([it["reason"] for it in found["pictures"]], ["Exif refused: Overlap"] * 2)
         self.assertEqual(self.asked("same", "--catalogue", "c")[-1].split()[0], "2")
@@ -459,13 +459,13 @@ class Kinds(InFolder):
         for name, octets in {"a": ONE, "b": OTHER, "c": ONE, "d": OTHER, "e": OTHER, **behind}.items():
             write(self.path("p", name + ".jpg"), octets)
         self.asked("index", "p", "--catalogue", "c", "--quiet")
-        found = [json.loads(it) for it in self.asked("same", "--catalogue", "c", "--json")]
+        *found, _ = [json.loads(it) for it in self.asked("same", "--catalogue", "c", "--json")]
         names = [[os.path.basename(it["path"]) for it in one["pictures"]] for one in found]
         self.assertEqual(names, [["b.jpg", "d.jpg", "e.jpg"], ["a.jpg", "c.jpg"]])
         os.remove(self.path("p", "e.jpg"))
         os.rename(self.path("p", "c.jpg"), self.path("p", "z.jpg"))  # of one size, that with the first name comes first
         self.asked("index", "p", "--catalogue", "d", "--quiet")
-        found = [json.loads(it) for it in self.asked("same", "--catalogue", "d", "--json")]
+        *found, _ = [json.loads(it) for it in self.asked("same", "--catalogue", "d", "--json")]
         names = [[os.path.basename(it["path"]) for it in one["pictures"]] for one in found]
         self.assertEqual(names, [["a.jpg", "z.jpg"], ["b.jpg", "d.jpg"]])
 
@@ -513,7 +513,7 @@ class Kinds(InFolder):
             write(self.path("p", name + ".tif"), tiff(page((0x0190, LONG, 8))))  # a pointer that is not followed
         write(self.path("p", "other.tif"), tiff(page((0x0190, LONG, 9))))
         self.asked("index", "p", "--catalogue", "c", "--quiet")
-        (found,) = [json.loads(it) for it in self.asked("same", "--catalogue", "c", "--json")]
+        (found, _) = [json.loads(it) for it in self.asked("same", "--catalogue", "c", "--json")]
         self.assertEqual((found["basis"], [os.path.basename(it["path"]) for it in found["pictures"]]), ("bytes", ["a.tif", "b.tif"]))
 
     def test_equal_changes_are_listed_together(self):

@@ -82,7 +82,7 @@ def picture(artist, orientation=1, time=(1, 125)):
 
 
 def rows(found):
-    return {it["name"]: (it["before"], it["after"]) for it in found["fields"]}
+    return {it["name"]: tuple(side and side["plain"] for side in (it["before"], it["after"])) for it in found["fields"]}
 
 
 def test_values_are_in_plain_words(run):
@@ -110,7 +110,8 @@ def test_exact_values_have_tag_and_type(run):
 def test_equal_numbers_are_told_apart_and_still_differ(run):
     status, found = compared(run, picture(b"Anna", time=(10, 1250)), picture(b"Anna", time=(1, 125)))
     assert status == 1 and [it["equal_number"] for it in found["fields"]] == [True]
-    assert found["fields"][0]["exact"] == {"before": "rational[1] 10/1250", "after": "rational[1] 1/125"}
+    sides = [found["fields"][0][side] for side in ("before", "after")]
+    assert [(it["exact"], it["value"]) for it in sides] == [("rational[1] 10/1250", 0.008), ("rational[1] 1/125", 0.008)]
     _, out, _ = run("compare", "a.jpg", "b.jpg")
     assert "10/1250" in out and "1 equal number is only written otherwise" in out
 

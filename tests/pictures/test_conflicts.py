@@ -116,7 +116,7 @@ def run(folder, capsys, monkeypatch):
 def test_what_exiftool_writes(number, name, written, run):
     status, out = run("--json", str(written / f"{number}.jpg"))
     expected = ROWS[name][1]
-    found = {it["label"]: it["kind"] for line in out.splitlines() for it in json.loads(line)["conflicts"]}
+    found = {it["label"]: it["kind"] for line in out.splitlines()[:-1] for it in json.loads(line)["conflicts"]}
     assert (found, status) == (expected, int("different" in expected.values()))
 
 
@@ -154,5 +154,6 @@ def test_a_table(run):
 def test_the_samples(run):
     """Their titles in IPTC are inventory numbers, and those in XMP are words."""
     status, out = run("--json", f"{TOP}/samples/before/ceramics")
-    found = [json.loads(it) for it in out.splitlines()]
+    *found, summary = [json.loads(it) for it in out.splitlines()]
+    assert summary["labels"] == {"title": 1} and summary["contradicting"] == 1
     assert status == 1 and [[one["label"] for one in it["conflicts"]] for it in found] == [["title"]]

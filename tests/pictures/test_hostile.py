@@ -58,7 +58,7 @@ class Hostile(WithPictures):
             write(os.path.join(os.fsencode(self.path("p")), name), with_exif(SMALL_JPEG, block([MAKE])))
         given = b"".join(b"p/" + it + b"\0" for it in NAMES)
         found = [json.loads(it) for it in self.asked("show", "--json", "--files-from", "-", "-0", given=given)]
-        self.assertEqual([it["kind"] for it in found], ["exif"] * len(NAMES))
+        self.assertEqual([[one["kind"] for one in it["blocks"]] for it in found], [["exif"]] * len(NAMES))
 
     def test_files_that_are_none(self):
         os.mkdir(self.path("p"))

@@ -16,7 +16,7 @@ from unittest import mock
 from studio import WithPictures, read, write
 
 from exifnorm_pictures.catalogue import records
-from exifnorm_pictures.cli import index, main, names, output, parser, report, signals
+from exifnorm_pictures.cli import index, main, names, objects, output, parser, report, signals
 from exifnorm_pictures.extract import exiftool, extraction, programs
 from exifnorm_pictures.files import atomic, opening
 from exifnorm_pictures.scan import progress, walk, workers
@@ -413,7 +413,7 @@ class OfPictures(unittest.TestCase):
                 ["Exif: refused: Overlap at 0", "XMP: unreadable: NoRDF"],
                 {
                     "blocks": [
-                        {**common, "name": "Exif", "status": "refused", "cause": "Overlap", "place": 0},
+                        {**common, "name": "Exif", "status": "refused", "cause": "Overlap", "offset": 0},
                         {"kind": "iptc", "name": "IPTC", "status": "accepted", "digest": digest, "length": 7},
                         {"kind": "xmp", "name": "XMP", "status": "unreadable", "cause": "NoRDF", "length": 9},
                     ],
@@ -434,8 +434,16 @@ class OfPictures(unittest.TestCase):
         ):
             it = PictureRecord(b"/a\n\xff", b"/", type="JPEG")._replace(**more)
             self.assertEqual(output.record_lines(it), [f"/a\\n\\xff: {line}" for line in printed])
-            expected = {"path": "/a\\n\\xff", "path_hex": "2f610aff", "type": "JPEG", **members}
-            self.assertEqual([json.loads(line) for line in output.record_json(it)], [expected])
+            shape = {
+                "schema": "exifnorm-pictures/index/1",
+                "record": "picture",
+                "path": "/a\\n\\xff",
+                "path_hex": "2f610aff",
+                "type": "JPEG",
+            }
+            expected = {**shape, "problem": None, "detail": None, **members}
+            expected["blocks"] = [{"digest": None, "cause": None, "offset": None, **block} for block in members["blocks"]]
+            self.assertEqual([json.loads(line) for line in objects.record_lines(it)], [expected])
 
     def test_a_folder_that_cannot_be_read(self):
         """It is in no folder of a catalogue; a file that can't be read has its own row."""

@@ -90,7 +90,7 @@ def rows(folder, capsys):
         (folder / "a.jpg").write_bytes(SMALL_JPEG)
         tool(folder, "exiftool", "-q", "-o", "b.jpg", *words, "a.jpg")
         main._run(["compare", str(folder / "a.jpg"), str(folder / "b.jpg"), "--json", "--no-exiftool"])
-        found = {it["name"]: it["after"] for it in json.loads(capsys.readouterr().out)["fields"]}
+        found = {it["name"]: it["after"]["plain"] for it in json.loads(capsys.readouterr().out)["fields"]}
         return found, exiftool_json(os.fspath(folder / "b.jpg"))
 
     return call

@@ -324,7 +324,7 @@ class Catalogues(Promises):
         )
         self.index("@/p")
         for kind, expected in (("all", ["ab", "de", "fg"]), ("exif", ["ab", "de"]), ("iptc", ["abcde"]), ("xmp", ["fg"])):
-            groups = self.objects("same", "--catalogue", "@/c", "--kind", kind)
+            *groups, _ = self.objects("same", "--catalogue", "@/c", "--kind", kind)
             self.assertEqual(["".join(it["path"][-5] for it in group["pictures"]) for group in groups], expected, kind)
         self.assertTrue(self.printed("same", "--catalogue", "@/c")[-1].startswith("4 pictures can't be the same by meaning"))
 
@@ -379,8 +379,8 @@ class Pictures(Promises):
     def test_show_and_captions(self):
         captions = K + b"\x1c\2\x78\0\4Vase" + b"\x1c\2\x50\0\3Lee" + b"\x1c\2\x74\0\4Mine"
         self.files("p", a=jpeg(app1(block([entry(0x013B, ASCII, 4, b"Ann\0")])), with_record(captions)))
-        fields = [field["name"] for it in self.objects("show", "@/p/a.jpg") for field in it["fields"]]
-        self.assertEqual(fields, ["main:Artist", "iptc:Keywords", "iptc:By-line", "iptc:CopyrightNotice", "iptc:CaptionAbstract"])
+        fields = [field["name"] for it in self.objects("show", "@/p/a.jpg")[0]["blocks"] for field in it["fields"]]
+        self.assertEqual(fields, ["IFD0:Artist", "IPTC:Keywords", "IPTC:By-line", "IPTC:CopyrightNotice", "IPTC:Caption-Abstract"])
         labels = [one["label"] for it in self.objects("captions", "@/p/a.jpg") for one in it["captions"]]
         self.assertEqual(sorted(labels), ["caption", "copyright", "creator", "creator", "keywords"])
 
@@ -421,7 +421,7 @@ class Pictures(Promises):
         heads = [it for it in self.printed("show", "--files-from", "@/nuls", "-0") if it.startswith("== ")]
         self.assertEqual(heads, ["== F/p/a.jpg", "== F/p/b\\nc.jpg"])
         same = ("same", "--catalogue", "@/c")
-        self.assertEqual(self.objects(*same, "--files-from", "@/lines"), [])
+        self.assertEqual(self.objects(*same, "--files-from", "@/lines")[:-1], [])
         self.assertEqual(self.objects(*same, "--files-from", "@/nuls", "--null")[0]["count"], 2)
         self.assertEqual(self.printed(*same)[1:-1], ["  F/p/a.jpg", "  F/p/b\\nc.jpg", "  F/p/\\xff.jpg"])
 
@@ -503,7 +503,7 @@ class Pictures(Promises):
         write(self.path("later", "a.jpg"), jpeg(app1(B), with_record(K), app1_xmp(T)))
         before = self.marks("p")
         self.index("@/p")
-        (group,) = self.objects("same", "--catalogue", "@/c")
+        (group, _) = self.objects("same", "--catalogue", "@/c")
         (changed, *_) = self.objects("changed", "@/p", "@/later", status=1)
         self.assertEqual((sorted(group["digests"]), [it["name"] for it in changed["fields"]]), (["exif", "iptc", "xmp"], ["main:Make"]))
         for command in ("show", "captions", "explain"):

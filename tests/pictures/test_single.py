@@ -298,7 +298,7 @@ class Problems(unittest.TestCase):
         missing = programs.Missing("exiftool")
         for raised, problem in ((programs.Failed("it ended"), "ToolFailed"), (missing, "NeedsExifTool")):
             with mock.patch.object(each_block.extraction, "blocks_of", mock.Mock(side_effect=raised)):
-                found = each_block.blocks_of(argparse.Namespace(block=False, whole=False), b"a.gif")
+                found = each_block.blocks_of(b"a.gif")
             self.assertEqual((found.problem, found.detail, found.found), (problem, str(raised), []))
             self.assertIn(problem, index.NOT_READABLE)
 

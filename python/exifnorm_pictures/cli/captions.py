@@ -3,17 +3,17 @@
 from __future__ import annotations
 
 import argparse
-import csv
 import os
-import sys
 from typing import Iterator, List
 
 from ..compare.conflicts import ALIKE, best, conflicts
 from ..fields.labels import WORDS, LabelText
 from .columns import width
 from .exit_codes import SUCCESS
-from .labelled import Labelled, cell, origins, pictures, together
-from .output import Members, escaped, output, shown_path
+from .labelled import Labelled, origins, pictures, together
+from .objects import print_object
+from .output import Members, escaped, print_line, shown_path
+from .tables import Cell, Table
 
 _WIDTH = max(map(len, WORDS)) + 1
 
@@ -21,27 +21,27 @@ _WIDTH = max(map(len, WORDS)) + 1
 def run(arguments: argparse.Namespace) -> int:
     """Lists captions of Exif, IPTC and XMP."""
     worst = SUCCESS
-    table = csv.writer(sys.stdout, lineterminator="\n")
-    if arguments.csv:
-        table.writerow(["picture", *WORDS, "contradicts itself", "not read"])
+    table = Table(["picture", *WORDS, "contradicts itself", "not read"]) if arguments.csv else None
     has_heads = len(arguments.pictures) != 1 or bool(arguments.files_from) or os.path.isdir(arguments.pictures[0])
     for it in pictures(arguments):
         worst = max(worst, it.status)
-        if arguments.csv:
-            table.writerow(_row(it))
+        if table:
+            table.row(*_row(it))
+        elif arguments.json:
+            print_object("captions", "picture", _members(it))
         else:
-            head = [f"== {shown_path(it.name)}"] if has_heads else []
-            output(arguments, [*head, *_lines(it)], _members(it))
+            for line in [f"== {shown_path(it.name)}"] * has_heads + list(_lines(it)):
+                print_line(line)
     return worst
 
 
-def _row(it: Labelled) -> List[str]:
+def _row(it: Labelled) -> List[Cell]:
     """A row of a table: the text of each label, of several standards the first one that is whole."""
     known = conflicts(it.texts)
-    cells = [cell(best([one for one in it.texts if one.label == word], known)) for word in WORDS]
+    texts = [best([one for one in it.texts if one.label == word], known) for word in WORDS]
     problem = [f"{it.problem}: {it.detail}"] if it.problem else []
     unread = "; ".join([*problem, *it.refused, *it.not_read])
-    return [shown_path(it.name), *cells, "; ".join(one.label for one in known if one.is_real), cell(unread)]
+    return [it.name, *texts, "; ".join(one.label for one in known if one.is_real), unread]
 
 
 def _lines(it: Labelled) -> Iterator[str]:
@@ -74,5 +74,5 @@ def _members(it: Labelled) -> Members:
 
 def text_members(it: LabelText) -> Members:
     """A text as a JSON object."""
-    known: Members = {"label": it.label, "standard": it.standard, "field": it.field, "texts": list(it.texts)}
-    return {**known, **({"guess": it.guess} if it.guess else {}), **({"block": it.block} if it.block else {})}
+    known: Members = {"label": it.label, "standard": it.standard, "field": it.field, "block": it.block or None}
+    return {**known, "texts": list(it.texts), "guess": it.guess or None}

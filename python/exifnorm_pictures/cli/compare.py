@@ -6,7 +6,7 @@ import argparse
 import os
 import shutil
 from collections import Counter
-from typing import Iterator, List, Sequence
+from typing import Iterator, List, Optional, Sequence
 
 from ..catalogue.records import WORDS
 from ..compare import changed as changes
@@ -14,15 +14,16 @@ from ..compare import verdicts
 from ..compare.two_pictures import Comparison, Row, compare, read, with_position
 from ..compare.wording import NONE, tag_of
 from ..extract import exiftool, programs
+from ..fields.typed import together
 from ..files import tempdir
 from ..scan.batches import How
 from .changed import status_of
 from .columns import columns
 from .exit_codes import SUCCESS, UNKNOWN
 from .names import refuse_folders
-from .output import Members, escaped, output, path_members, shown_path
-
-SCHEMA = 1
+from .objects import picture_object, print_object
+from .output import Members, escaped, print_line, shown_path
+from .tables import Table
 
 
 def run(arguments: argparse.Namespace) -> int:
@@ -39,7 +40,13 @@ def run(arguments: argparse.Namespace) -> int:
             exiftool.finish()
     rows = found.rows if arguments.exact else with_position(found.rows, one, other)
     names = [os.fsencode(it) for it in (arguments.before, arguments.after)]
-    output(arguments, list(_lines(found, rows, names, arguments.exact)), _members(found, rows, names))
+    if arguments.json:
+        print_object("compare", "comparison", _members(found, rows, names))
+    elif arguments.csv:
+        _print_table(found, rows, names)
+    else:
+        for line in _lines(found, rows, names, arguments.exact):
+            print_line(line)
     return _status(found)
 
 
@@ -71,13 +78,9 @@ _SENTENCES = {
 
 
 def _lines(found: Comparison, rows: Sequence[Row], names: Sequence[bytes], exact: bool) -> Iterator[str]:
-    if found.is_identical:
-        yield "The two files are identical, byte for byte."
-        return
-    if found.is_empty:
-        yield "Nothing to compare: neither picture has Exif, IPTC or XMP."
-        return
     yield _sentence(found, rows)
+    if found.is_identical or found.is_empty:
+        return
     if any(it.problem for it in found.records):
         yield from (f"{shown_path(name)}: {it.problem}: {it.detail}" for name, it in zip(names, found.records) if it.problem)
         return
@@ -91,6 +94,11 @@ def _lines(found: Comparison, rows: Sequence[Row], names: Sequence[bytes], exact
 
 
 def _sentence(found: Comparison, rows: Sequence[Row]) -> str:
+    """The result."""
+    if found.is_identical:
+        return "The two files are identical, byte for byte."
+    if found.is_empty:
+        return "Nothing to compare: neither picture has Exif, IPTC or XMP."
     if found.result not in (verdicts.DIFFERENT, verdicts.DIFFERENT_REPAIRED):
         return _SENTENCES[found.result]
     equal = sum(it.is_equal_number for it in rows)
@@ -131,20 +139,41 @@ def _cells(it: Row, exact: bool) -> Sequence[str]:
     return (name, *(NONE if text is None else escaped(text) if not exact else text for text in (it.exact if exact else it.plain)))
 
 
+# --csv
+
+
+def _print_table(found: Comparison, rows: Sequence[Row], names: Sequence[bytes]) -> None:
+    """A row for each field that differs, and at the end one for each reason why the answer isn't whole."""
+    table = Table(["field", "before", "after", "exact before", "exact after", "note"])
+    for it in rows:
+        table.row(it.name, *it.plain, *it.exact, it.note or ("equal number" if it.is_equal_number else None))
+    problems = [f"{shown_path(name)}: {it.problem}: {it.detail}" for name, it in zip(names, found.records) if it.problem]
+    note = "" if problems or not found.found.note else f" ({found.found.note})"
+    if _status(found) == UNKNOWN:
+        table.row(None, None, None, None, None, "; ".join([_sentence(found, rows) + note, *problems]))
+
+
 # --json
 
 
 def _members(found: Comparison, rows: Sequence[Row], names: Sequence[bytes]) -> Members:
     pictures = []
     for name, it in zip(names, found.records):
-        one: Members = {**path_members(name), "type": it.type, "not_read": [part.what for part in it.not_read]}
-        pictures.append({**one, "problem": it.problem, "detail": it.detail} if it.problem else one)
-    whole: Members = {"schema": SCHEMA, "pictures": pictures, "result": found.result, "identical_files": found.is_identical}
+        unread = [part.what for part in it.not_read]
+        pictures.append({**picture_object(name, it.problem, it.detail), "type": it.type or None, "not_read": unread})
+    whole: Members = {"pictures": pictures, "result": found.result, "identical_files": found.is_identical}
     kinds = {WORDS[it.kind]: it.result for it in found.found.verdicts}
-    return {**whole, "note": found.found.note, "kinds": kinds, "fields": [_row_members(it) for it in rows]}
+    return {**whole, "note": found.found.note or None, "kinds": kinds, "fields": [_row_members(it) for it in rows]}
 
 
 def _row_members(it: Row) -> Members:
-    exact = dict(zip(("before", "after"), it.exact))
-    made: Members = {"name": it.name, "before": it.plain[0], "after": it.plain[1], "exact": exact, "equal_number": it.is_equal_number}
-    return {**made, "note": it.note} if it.note else made
+    sides = {word: _side_members(it, side) for side, word in enumerate(("before", "after"))}
+    return {"name": it.name, **sides, "equal_number": it.is_equal_number, "note": it.note or None}
+
+
+def _side_members(it: Row, side: int) -> Optional[Members]:
+    """The value before or after; its typed form only if the row is one field."""
+    if it.plain[side] is None:
+        return None
+    fields = (it.differences[0].before, it.differences[0].after)[side] if len(it.differences) == 1 else ()
+    return {"plain": it.plain[side], "exact": it.exact[side], "value": together(fields) if fields else None}

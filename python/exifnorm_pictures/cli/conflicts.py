@@ -3,9 +3,6 @@
 from __future__ import annotations
 
 import argparse
-import csv
-import json
-import sys
 from collections import Counter
 from dataclasses import dataclass, field
 from typing import Dict, Iterator, List, Sequence
@@ -14,8 +11,10 @@ from ..compare.conflicts import ALIKE, CAMERA, CHARACTERS, CUT, EMPTY, JOINED, O
 from ..fields.labels import STANDARDS
 from .captions import text_members
 from .exit_codes import DIFFERENCE, SUCCESS, UNKNOWN
-from .labelled import Labelled, cell, origins, pictures, together
+from .labelled import Labelled, origins, pictures, together
+from .objects import print_object
 from .output import Members, escaped, print_line, shown_path
+from .tables import Cell, Table
 
 LONGEST = 160  # characters of a text that is shown whole
 _WORDS = {
@@ -44,20 +43,20 @@ class _Counts:
 def run(arguments: argparse.Namespace) -> int:
     """Lists contradictions inside pictures."""
     counts = _Counts()
-    table = csv.writer(sys.stdout, lineterminator="\n")
-    if arguments.csv:
-        table.writerow(["picture", "label", "kind", "detail", *STANDARDS])
+    table = Table(["picture", "label", "kind", "detail", *STANDARDS]) if arguments.csv else None
     for it in pictures(arguments):
         found = [one for one in conflicts(it.texts) if one.kind != ALIKE]
         _count(counts, it, found)
-        if arguments.csv:
-            table.writerows(_row(it.name, one) for one in found if one.is_real or arguments.all)
+        if table:
+            _print_rows(table, it, [one for one in found if one.is_real or arguments.all])
         elif arguments.json:
             if found or it.status != SUCCESS:
-                print(json.dumps(_members(it, found)))
+                print_object("conflicts", "picture", _members(it, found))
         else:
             _print(it, [one for one in found if one.is_real or arguments.all])
-    if not arguments.csv and not arguments.json:
+    if arguments.json:
+        print_object("conflicts", "summary", _summary_members(counts))
+    elif not table:
         for line in _summary(counts, arguments.all):
             print(line)
     return UNKNOWN if counts.unread else DIFFERENCE if counts.real else SUCCESS
@@ -74,11 +73,22 @@ def _count(counts: _Counts, it: Labelled, found: Sequence[Conflict]) -> None:
     counts.kinds.update({one.kind for one in found if not one.is_real})
 
 
-def _row(name: bytes, it: Conflict) -> List[str]:
+def _print_rows(table: Table, it: Labelled, found: Sequence[Conflict]) -> None:
+    """A row for each label; one for what was not read, since a picture without a row would seem to have no contradiction."""
+    for one in found:
+        table.row(it.name, one.label, one.kind, one.detail, *_texts(one))
+    if it.problem:
+        table.row(it.name, None, "not read", f"{it.problem}: {it.detail}", *(None for _ in STANDARDS))
+    for refused in it.refused:
+        table.row(it.name, None, "not read", refused, *(None for _ in STANDARDS))
+
+
+def _texts(it: Conflict) -> List[Cell]:
+    """The texts of each standard."""
     texts: Dict[str, List[str]] = {}
     for one in it.texts:
         texts.setdefault(one.standard, []).append(one.line)
-    return [shown_path(name), it.label, it.kind, cell(it.detail), *(cell("; ".join(texts.get(standard, []))) for standard in STANDARDS)]
+    return ["; ".join(texts.get(standard, [])) for standard in STANDARDS]
 
 
 def _members(it: Labelled, found: Sequence[Conflict]) -> Members:
@@ -86,6 +96,18 @@ def _members(it: Labelled, found: Sequence[Conflict]) -> Members:
         {"label": one.label, "kind": one.kind, "detail": one.detail, "texts": [text_members(text) for text in one.texts]} for one in found
     ]
     return {**it.members(), "conflicts": rows}
+
+
+def _summary_members(it: _Counts) -> Members:
+    return {
+        "pictures": it.pictures,
+        "in_several_standards": it.twice,
+        "contradicting": it.real,
+        "differing_in_form": it.minor,
+        "not_wholly_read": it.unread,
+        "labels": dict(it.labels),
+        "kinds": dict(it.kinds),
+    }
 
 
 # Lines

@@ -1,9 +1,9 @@
-"""Prints something about each block of the pictures that are given by name, as `show`, `captions` and `explain` do."""
+"""The judged blocks of the pictures that are given by name, as `show` and `explain` print them."""
 
 from __future__ import annotations
 
 import argparse
-from typing import Callable, List, Tuple
+from typing import Callable, Iterator, List, NamedTuple, Tuple
 
 from exifnorm import LIMIT
 
@@ -24,11 +24,11 @@ Described = Tuple[List[str], Members]
 Describe = Callable[[FoundBlock, Block], Described]
 
 
-def blocks_of(arguments: argparse.Namespace, name: bytes) -> Blocks:
+def blocks_of(name: bytes, whole: bool = False, is_block: bool = False) -> Blocks:
     """The blocks of a picture, or the file as a block by itself."""
-    if not arguments.block:
+    if not is_block:
         try:
-            return extraction.blocks_of(name, arguments.whole)
+            return extraction.blocks_of(name, whole)
         except programs.Failed as error:
             return Blocks(problem="TooSlow" if isinstance(error, programs.TooSlow) else "ToolFailed", detail=str(error))
         except programs.Missing as error:
@@ -46,48 +46,66 @@ def blocks_of(arguments: argparse.Namespace, name: bytes) -> Blocks:
     return Blocks([FoundBlock(kind, octets, NAMES[kind], "the file")])
 
 
-def each_block(arguments: argparse.Namespace, describe: Describe, refused_too: bool = False) -> int:
-    """Prints something about each block of each picture. Returns the greatest status."""
-    worst = SUCCESS
-    names = list(dict.fromkeys(named(arguments, arguments.pictures)))
+class Judged(NamedTuple):
+    """A picture with its judged blocks, each with its fields; none if the picture has a problem."""
+
+    name: bytes
+    read: Blocks
+    blocks: List[Block]
+
+    @property
+    def status(self) -> int:
+        """The status of a command that prints its blocks."""
+        return UNKNOWN if self.read.problem or any(it.status != ACCEPTED for it in self.blocks) else SUCCESS
+
+
+def each_picture(arguments: argparse.Namespace) -> Iterator[Judged]:
+    """The pictures that are named."""
+    names = dict.fromkeys(named(arguments, arguments.pictures))
     programs.set_limit(arguments.limit)
     with tempdir.room() as room:
         exiftool.begin(room)
         try:
-            for name in names:
-                head = [f"== {shown_path(name)}"] if len(names) > 1 else []
-                worst = max(worst, _one(arguments, name, head, describe, refused_too))
+            yield from (_judged(arguments, it) for it in names)
         finally:
             exiftool.finish()
-    return worst
 
 
-def _one(arguments: argparse.Namespace, name: bytes, head: List[str], describe: Describe, refused_too: bool) -> int:
-    blocks = blocks_of(arguments, name)
-    judged: List[Block] = []
+def _judged(arguments: argparse.Namespace, name: bytes) -> Judged:
+    blocks = blocks_of(name, arguments.whole, arguments.block)
     try:
-        judged = [] if blocks.problem else judge_all(blocks, with_fields=True)
+        return Judged(name, blocks, [] if blocks.problem else judge_all(blocks, with_fields=True))
     except TooMuch as why:
-        blocks = extraction.too_much(why)
-    names = path_members(name)
-    if blocks.problem:
-        output(arguments, [*head, f"{blocks.problem}: {blocks.detail}"], {**names, "problem": blocks.problem, "detail": blocks.detail})
-        return UNKNOWN
+        return Judged(name, extraction.too_much(why), [])
+
+
+def each_block(arguments: argparse.Namespace, describe: Describe, refused_too: bool = False) -> int:
+    """Prints something about each block of each picture. Returns the greatest status."""
     worst = SUCCESS
-    data = {it.name: it for it in blocks.found}
-    for it in judged:
-        if it.status != ACCEPTED:
-            worst = UNKNOWN
-        lines, members = describe(data[it.name], it) if it.status == ACCEPTED or it.repair or refused_too else _refused(it)
-        if lines or (arguments.json and members):
-            output(arguments, [*head, *lines], {**names, "name": it.name, **members})
-            head = []
-    if not blocks.found:
-        output(arguments, [*head, "no Exif, IPTC or XMP block"], {**names, "kind": None})
-    if blocks.not_read:
-        what = [it.what for it in blocks.not_read]
-        output(arguments, [f"not wholly read: {', '.join(what)}"], {**names, "not_read": what})
+    has_heads = len(set(named(arguments, arguments.pictures))) > 1
+    for it in each_picture(arguments):
+        worst = max(worst, it.status)
+        _print(arguments, it, [f"== {shown_path(it.name)}"] if has_heads else [], describe, refused_too)
     return worst
+
+
+def _print(arguments: argparse.Namespace, it: Judged, head: List[str], describe: Describe, refused_too: bool) -> None:
+    names, read = path_members(it.name), it.read
+    if read.problem:
+        output(arguments, [*head, f"{read.problem}: {read.detail}"], {**names, "problem": read.problem, "detail": read.detail})
+        return
+    data = {one.name: one for one in read.found}
+    for block in it.blocks:
+        is_described = block.status == ACCEPTED or block.repair or refused_too
+        lines, members = describe(data[block.name], block) if is_described else _refused(block)
+        if lines or (arguments.json and members):
+            output(arguments, [*head, *lines], {**names, "name": block.name, **members})
+            head = []
+    if not read.found:
+        output(arguments, [*head, "no Exif, IPTC or XMP block"], {**names, "kind": None})
+    if read.not_read:
+        what = [one.what for one in read.not_read]
+        output(arguments, [f"not wholly read: {', '.join(what)}"], {**names, "not_read": what})
 
 
 def _refused(it: Block) -> Described:

@@ -15,7 +15,8 @@ from ..scan.batches import How
 from ..scan.index import IndexOptions, index
 from .exit_codes import SUCCESS, UNKNOWN, USAGE
 from .names import named
-from .output import kind_of_part, output, print_line, record_json, record_lines, shown_path
+from . import objects
+from .output import kind_of_part, print_line, record_lines, shown_path
 
 # Pictures that should be readable and aren't
 NOT_READABLE = ("Unreadable", "ToolFailed", "InternalError", "TooMuch", "TooSlow", "NeedsExifTool", "NeedsExiv2")
@@ -37,7 +38,7 @@ def run(arguments: argparse.Namespace) -> int:
     with tempdir.room() as room, Catalogue(arguments.catalogue, make=True) as catalogue:
         if arguments.keep_old:
             keep_old(catalogue, arguments.keep_old, room)
-        lines = record_json if arguments.json else record_lines
+        lines = objects.record_lines if arguments.json else record_lines
         options = IndexOptions(names, arguments.again, arguments.quiet, How.of(arguments, room, lines), print_line)
         if arguments.scheduler:
             from ..scan import cluster  # only this needs Dask
@@ -45,8 +46,12 @@ def run(arguments: argparse.Namespace) -> int:
             options.look = cluster.looker(arguments.scheduler, arguments.elsewhere, names)
         counts = index(options, catalogue)
         parts = _parts(catalogue)
-    summary = ", ".join(f"{count} {state}" for state, count in sorted(counts.items(), key=lambda it: (-it[1], it[0]))) or "no file"
-    output(arguments, [*parts, summary], {"counts": dict(counts)})
+    if arguments.json:
+        objects.print_object("index", "summary", {"counts": dict(counts)})
+    else:
+        summary = ", ".join(f"{count} {state}" for state, count in sorted(counts.items(), key=lambda it: (-it[1], it[0]))) or "no file"
+        for line in [*parts, summary]:
+            print_line(line)
     if any(counts[it] for it in NOT_READABLE) or any(os.path.exists(it) and not _may_be_read(it) for it in names):
         return UNKNOWN
     return SUCCESS

@@ -1,4 +1,4 @@
-"""The labelled texts of pictures, for `captions` and `conflicts`; and the cells of their tables."""
+"""The labelled texts of pictures, for `captions` and `conflicts`."""
 
 from __future__ import annotations
 
@@ -24,7 +24,8 @@ from ..xmp.texts import texts
 from .each_block import blocks_of
 from .exit_codes import SUCCESS, UNKNOWN
 from .names import named
-from .output import Members, escaped, path_members
+from .objects import picture_object
+from .output import Members
 
 
 @dataclass
@@ -46,10 +47,7 @@ class Labelled:
 
     def members(self) -> Members:
         """The beginning of a JSON object."""
-        known: Members = {"schema": 1, **path_members(self.name)}
-        if self.problem:
-            known.update(problem=self.problem, detail=self.detail)
-        return {**known, "refused": self.refused, "not_read": self.not_read}
+        return {**picture_object(self.name, self.problem, self.detail), "refused": self.refused, "not_read": self.not_read}
 
 
 def pictures(arguments: argparse.Namespace) -> Iterator[Labelled]:
@@ -60,7 +58,7 @@ def pictures(arguments: argparse.Namespace) -> Iterator[Labelled]:
         try:
             for name in dict.fromkeys(named(arguments, arguments.pictures)):
                 if not os.path.isdir(name) or arguments.block:
-                    yield _labelled(arguments, name)
+                    yield labelled(name, arguments.whole, arguments.block)
                 else:
                     yield from _in_folder(arguments, name)
         finally:
@@ -71,14 +69,15 @@ def _in_folder(arguments: argparse.Namespace, folder: bytes) -> Iterator[Labelle
     closed: List[Unlisted] = []
     top = os.path.abspath(folder)
     for file in below([folder], closed.append):
-        it = _labelled(arguments, os.path.join(folder, os.path.relpath(file.path, top)))
+        it = labelled(os.path.join(folder, os.path.relpath(file.path, top)), arguments.whole)
         if it.problem not in ("NoPicture", "NotAFile"):
             yield it
     yield from (Labelled(it.path, "Unreadable", it.reason) for it in closed)
 
 
-def _labelled(arguments: argparse.Namespace, name: bytes) -> Labelled:
-    blocks = blocks_of(arguments, name)
+def labelled(name: bytes, whole: bool = False, is_block: bool = False) -> Labelled:
+    """A picture with the texts that are in its file."""
+    blocks = blocks_of(name, whole, is_block)
     try:
         judged = [] if blocks.problem else judge_all(blocks)
         it = Labelled(name, blocks.problem or "", blocks.detail, has_blocks=bool(judged), not_read=[one.what for one in blocks.not_read])
@@ -112,17 +111,7 @@ def _of_packet(packet: FoundBlock, every: Iterable[FoundBlock]) -> Iterator[Labe
     return of_properties(texts(xmp.statements(packet.data, extensions, set())))
 
 
-# Tables
-
-
-def cell(text: str) -> str:
-    r"""A text as a cell of a table: no spreadsheet takes it for a formula, and it has no control character but ends of lines and tabs.
-
-    >>> cell("=1+1"), cell("a\x1bb"), cell("a\nb")
-    ("'=1+1", 'a\\x1bb', 'a\nb')
-    """
-    shown = "".join(it if it in "\n\t" or it.isprintable() else escaped(it) for it in text)
-    return f"'{shown}" if shown[:1] in ("=", "+", "-", "@", "\t", "\n") else shown
+# The fields of texts
 
 
 def origins(found: Sequence[LabelText]) -> str:

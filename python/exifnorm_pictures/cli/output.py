@@ -147,21 +147,6 @@ def kind_of_part(what: str) -> str:
     return re.sub(r" of [\d,]+ bytes| \(.*?\)|^[\d,]+ (?=byte)", "", what).replace("byte that", "bytes that")
 
 
-def record_json(it: PictureRecord) -> List[str]:
-    """The line of --json for a picture that was looked at."""
-    return [json.dumps(record_members(it))]
-
-
-def record_members(it: PictureRecord) -> Members:
-    """A picture that was looked at as a JSON object."""
-    found: Members = {**path_members(it.path), "type": it.type}
-    if it.problem:
-        found.update(problem=it.problem, detail=it.detail)
-    found["blocks"] = [block_members(one) for one in it.blocks]
-    found["not_read"] = [one.what for one in it.not_read]
-    return found
-
-
 def block_members(it: Block) -> Members:
     """A block as a JSON object."""
     known = {"kind": WORDS[it.kind], "name": it.name, "status": it.status, "digest": it.digest, "cause": it.cause, "place": it.place}

@@ -91,7 +91,10 @@ def parser() -> argparse.ArgumentParser:
             formatter_class=argparse.RawDescriptionHelpFormatter,
         )
         build(one)
-        one.add_argument("--json", action="store_true", help="print one JSON object for each line")
+        forms = one.add_mutually_exclusive_group()
+        if name in _TABLES:
+            forms.add_argument("--csv", action="store_true", help=f"a table for spreadsheets: {_TABLES[name]}")
+        forms.add_argument("--json", action="store_true", help="print one JSON object for each line")
         one.add_argument("--debug", action="store_true", help="print the traceback of an internal error, as EXIFNORM_DEBUG=1 does")
         if name not in ("merge", "compare"):
             one.add_argument("--files-from", metavar="LIST", help="read names from the file LIST, - for standard input: one for each line")
@@ -213,7 +216,6 @@ def _captions_arguments(it: argparse.ArgumentParser) -> None:
     _example(it, "captions --csv pictures > captions.csv")
     it.add_argument("pictures", nargs="*", type=_name, metavar="PICTURE", help="a picture, or a folder with all below it")
     it.add_argument("--block", action="store_true", help="each PICTURE is a block that was extracted before")
-    it.add_argument("--csv", action="store_true", help="a table for spreadsheets: a row for each picture, a column for each label")
     _looking_arguments(it)
 
 
@@ -222,7 +224,6 @@ def _conflicts_arguments(it: argparse.ArgumentParser) -> None:
     it.set_defaults(block=False)
     it.add_argument("pictures", nargs="*", type=_name, metavar="PICTURE", help="a picture, or a folder with all below it")
     it.add_argument("--all", action="store_true", help="also list texts that are empty, cut, in a wrong character set, or a camera's own")
-    it.add_argument("--csv", action="store_true", help="a table for spreadsheets: a row for each label that differs in a picture")
     _looking_arguments(it)
 
 
@@ -241,6 +242,15 @@ def _mend_arguments(it: argparse.ArgumentParser) -> None:
     )
     _limit_arguments(it)
 
+
+# The commands with --csv, and what a row of their tables is
+_TABLES = {
+    "same": "a row for each picture of a group",
+    "compare": "a row for each field that differs",
+    "show": "a row for each field",
+    "captions": "a row for each picture, a column for each label",
+    "conflicts": "a row for each label that differs in a picture",
+}
 
 _COMMANDS: Tuple[Tuple[str, str, Callable[[argparse.ArgumentParser], None]], ...] = (
     ("index", "look at all new and changed pictures, and keep their metadata in a catalogue", _index_arguments),

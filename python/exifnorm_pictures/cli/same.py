@@ -5,7 +5,7 @@ from __future__ import annotations
 import argparse
 import contextlib
 import json
-from typing import Dict, List
+from typing import Dict, Iterator, List, Optional, Tuple
 
 from ..catalogue.records import KIND_OF, KINDS, WORDS, Picture
 from ..catalogue.store import Catalogue
@@ -14,7 +14,9 @@ from ..extract import exiftool
 from ..files import tempdir
 from .exit_codes import SUCCESS
 from .names import chosen_paths
+from .objects import line_of, print_object
 from .output import Members, path_members, print_line, shown_path
+from .tables import Table
 
 
 def run(arguments: argparse.Namespace) -> int:
@@ -26,27 +28,42 @@ def run(arguments: argparse.Namespace) -> int:
         open_.callback(exiftool.finish)
         catalogue = open_.enter_context(Catalogue(arguments.catalogue))
         only = None if chosen is None else catalogue.choose(chosen)
+        table = Table(_HEADS) if arguments.csv else None
         count = grouped = 0
         for it in groups.groups(catalogue, kinds, only, look=not arguments.no_look):
             count, grouped = count + 1, grouped + it.count
+            keep = None if arguments.no_look or kinds != KINDS else it.to_keep()
             if arguments.json:
-                _print_group(it)
-                continue
-            if count > 1:
-                print_line("")
-            _print_lines(it)
-        if not arguments.json:
+                _print_group(count, it, keep)
+            elif table:
+                _print_rows(table, count, it, keep)
+            else:
+                _print_lines(it, count)
+        if not table:
             left = groups.left_out(catalogue, kinds, only)
-            if count > 1:
-                print_line("")
-            print_line(f"{count} group{'s' * (count != 1)} of {grouped} pictures")
-            if left:
-                why = "can't be the same by meaning: a block is refused or unreadable, or a part was not read"
-                print_line(f"{left} picture{'s' * (left > 1)} {why}")
+            totals = {"groups": count, "pictures": grouped, "undecided": left}
+            if arguments.json:
+                print_object("same", "summary", totals)
+            else:
+                _print_totals(count, grouped, left)
     return SUCCESS
 
 
-def _print_lines(it: groups.Group) -> None:
+# Lines
+
+
+def _print_totals(count: int, grouped: int, left: int) -> None:
+    if count > 1:
+        print_line("")
+    print_line(f"{count} group{'s' * (count != 1)} of {grouped} pictures")
+    if left:
+        why = "can't be the same by meaning: a block is refused or unreadable, or a part was not read"
+        print_line(f"{left} picture{'s' * (left > 1)} {why}")
+
+
+def _print_lines(it: groups.Group, number: int) -> None:
+    if number > 1:
+        print_line("")
     print_line(f"{it.count} pictures: {it.sentence()}:")
     links: Dict[bytes, List[groups.Link]] = {}
     for link in it.links:
@@ -65,32 +82,56 @@ def _print_lines(it: groups.Group) -> None:
             print_line(f"    not counted, {what}: {shown_path(path)}")
 
 
-def _print_group(it: groups.Group) -> None:
+# --csv
+
+_HEADS = ("group", "pictures", "what is the same", "rests on", "picture", "keep", "note")
+
+
+def _print_rows(table: Table, number: int, it: groups.Group, keep: Optional[Picture]) -> None:
+    """A row for each picture, and one without a word on keeping for each file that doesn't count."""
+    about = (number, it.count, it.sentence(), it.basis)
+    for one in it.members:
+        table.row(*about, one.path, None if keep is None else int(one is keep), _note(it, one))
+    for path, note in _not_counted(it):
+        table.row(*about, path, None, note)
+
+
+def _note(group: groups.Group, it: Picture) -> str:
+    others = group.others.get(it.id, 0)
+    more = [f"and {others:,} that {'are' if others > 1 else 'is'} in an earlier group with it"] if others else []
+    return "; ".join([*filter(None, [group.reasons.get(it.id)]), *more])
+
+
+def _not_counted(it: groups.Group) -> Iterator[Tuple[bytes, str]]:
+    """Further names of files, and files that are gone or have changed, each with the reason."""
+    yield from ((link.path, f"not counted, {link.how}: {shown_path(link.of)}") for link in it.links)
+    yield from ((path, "not counted, gone") for path in it.gone)
+    yield from ((path, "not counted, changed since it was indexed") for path in it.changed)
+
+
+# --json
+
+
+def _print_group(number: int, it: groups.Group, keep: Optional[Picture]) -> None:
     """One object. Its pictures come last, and one by one: they may be all of an archive."""
-    digests = {WORDS[kind]: digest for kind, digest in it.digests.items()}
     known = {
+        "number": number,
         "count": it.count,
-        "same": it.sentence(),
+        "description": it.sentence(),
         "basis": it.basis,
-        "digests": digests,
+        "digests": {WORDS[kind]: digest for kind, digest in it.digests.items()},
         "same_bytes": it.same_bytes,
         "wholly_read": not it.not_read and it.basis == groups.MEANING,
+        "links": [{**path_members(one.path), "of": path_members(one.of), "how": one.how} for one in it.links],
+        "gone": [path_members(one) for one in it.gone],
+        "changed": [path_members(one) for one in it.changed],
     }
-    if it.links:
-        known["links"] = [{**path_members(one.path), "of": path_members(one.of), "how": one.how} for one in it.links]
-    for name, paths in (("gone", it.gone), ("changed", it.changed)):
-        if paths:
-            known[name] = [path_members(one) for one in paths]
-    print(json.dumps(known)[:-1], end=', "pictures": [')
-    for number, one in enumerate(it.members):
-        print(", " * (number > 0) + json.dumps(_picture_members(it, one)), end="")
+    print(line_of("same", "group", known)[:-1], end=', "pictures": [')
+    for at, one in enumerate(it.members):
+        print(", " * (at > 0) + json.dumps(_picture_members(it, one, keep)), end="")
     print("]}")
 
 
-def _picture_members(group: groups.Group, it: Picture) -> Members:
-    found = path_members(it.path)
-    if group.reasons.get(it.id):
-        found["reason"] = group.reasons[it.id]
-    if group.others.get(it.id):
-        found["others"] = group.others[it.id]
-    return found
+def _picture_members(group: groups.Group, it: Picture, keep: Optional[Picture]) -> Members:
+    known = {"keep": None if keep is None else it is keep, "reason": group.reasons.get(it.id) or None}
+    return {**path_members(it.path), **known, "others": group.others.get(it.id, 0)}

@@ -3,32 +3,49 @@
 from __future__ import annotations
 
 import argparse
-from typing import List
+from typing import Iterator, List
 
-from ..catalogue.records import WORDS, Block
+from ..catalogue.records import Block
 from ..compare.verdicts import ACCEPTED
 from ..extract.formats.found import PROGRAMS, FoundBlock
-from ..fields.listing import readable, unpacked
+from ..fields.listing import Field, readable, unpacked
+from ..fields.plain_names import exact_key, group_name
+from ..fields.plain_values import plain
+from ..fields.typed import typed
 from ..refusals import steps
-from .each_block import Described, each_block
-from .output import block_members
+from .each_block import Described, Judged, each_block, each_picture
+from .exit_codes import SUCCESS
+from .objects import block_object, picture_object, print_object
+from .output import Members
+from .tables import Table
 
 
 def run(arguments: argparse.Namespace) -> int:
     """Lists the fields of pictures."""
+    if not arguments.json and not arguments.csv:
+        return each_block(arguments, _describe)
+    worst = SUCCESS
+    table = Table(["picture", "block", "field", "key", "type", "count", "value", "exact value", "note"]) if arguments.csv else None
+    for it in each_picture(arguments):
+        worst = max(worst, it.status)
+        if table:
+            _print_rows(table, it)
+        else:
+            print_object("show", "picture", _members(it))
+    return worst
 
-    def describe(_: FoundBlock, it: Block) -> Described:
-        fields = unpacked(it.kept) if it.kept else []
-        keys = ("directory", "key", "type", "count", "value")
-        members = [dict(zip(("name", *keys), (one.name, *one))) for one in fields]
-        by = f", extracted by {PROGRAMS[it.extractor]}" if it.extractor in PROGRAMS else ""
-        lines = list(readable(fields, it.name + by))
-        known = {"kind": WORDS[it.kind], "extractor": it.extractor, "fields": members}
-        if it.status == ACCEPTED:
-            return lines, known
-        return [*_repaired(it), *lines[1:]], {**block_members(it), **known, "repair": [one._asdict() for one in it.steps]}
 
-    return each_block(arguments, describe)
+def _fields(it: Block) -> List[Field]:
+    return unpacked(it.kept) if it.kept else []
+
+
+# Lines
+
+
+def _describe(_: FoundBlock, it: Block) -> Described:
+    by = f", extracted by {PROGRAMS[it.extractor]}" if it.extractor in PROGRAMS else ""
+    lines = list(readable(_fields(it), it.name + by))
+    return (lines if it.status == ACCEPTED else [*_repaired(it), *lines[1:]]), {}
 
 
 def _repaired(it: Block) -> List[str]:
@@ -36,3 +53,52 @@ def _repaired(it: Block) -> List[str]:
     lost = steps.loses(it.steps)
     text = f"  read after repair in memory ({steps.words(it.steps)}), which is tested, and not proved; the file is as it was"
     return [f"{it.name}: {it.line}", text] + [f"  the repair loses {' and '.join(lost)}: nothing is called the same by it"] * bool(lost)
+
+
+# --csv
+
+
+def _print_rows(table: Table, it: Judged) -> None:
+    """A row for each field, and one for all that isn't one: a refused block, a part that was not read, a picture without a block."""
+    for block in it.blocks:
+        note = "read after repair in memory" if block.repair else None
+        if block.status != ACCEPTED:
+            table.row(it.name, block.name, *_NO_FIELD, block.line + (f"; repaired in memory: {steps.words(block.steps)}" if note else ""))
+        for one in _fields(block):
+            values = (group_name(one.where, one.key), exact_key(one.where, one.key), one.type, one.elements, plain(one), one.shown)
+            table.row(it.name, block.name, *values, note)
+    for text in _notes(it):
+        table.row(it.name, None, *_NO_FIELD, text)
+
+
+_NO_FIELD = (None,) * 6
+
+
+def _notes(it: Judged) -> Iterator[str]:
+    """What a picture has instead of fields, and what was not read of it."""
+    if it.read.problem:
+        yield f"{it.read.problem}: {it.read.detail}"
+    elif not it.read.found:
+        yield "no Exif, IPTC or XMP block"
+    yield from (f"not read: {part.what}" for part in it.read.not_read)
+
+
+# --json
+
+
+def _members(it: Judged) -> Members:
+    blocks = [{**block_object(one), **_block_members(one)} for one in it.blocks]
+    about = {**picture_object(it.name, it.read.problem, it.read.detail), "type": it.read.type or None}
+    return {**about, "blocks": blocks, "not_read": [part.what for part in it.read.not_read]}
+
+
+def _block_members(it: Block) -> Members:
+    repair = [step._asdict() for step in it.steps]
+    return {"extractor": it.extractor, "repair": repair, "fields": [field_members(one) for one in _fields(it)]}
+
+
+def field_members(it: Field) -> Members:
+    """A field: its name for people, what identifies it, and its value for people, exactly and for programs."""
+    name = {"name": group_name(it.where, it.key), "directory": it.where, "key": exact_key(it.where, it.key)}
+    values = {"type": it.type, "count": it.elements, "plain": plain(it), "exact": it.shown, "value": typed(it)}
+    return {**name, **values}

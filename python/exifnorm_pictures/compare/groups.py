@@ -78,6 +78,11 @@ class Group:
         """Each picture of the group, or the first ones, by path."""
         return (it.path for it in (self.members if most < 0 else self.members[:most]))
 
+    def to_keep(self) -> Picture:
+        """The picture that may stay alone: the first one by path. So of all groups that a picture is in, the one that stays is no later
+        one, and a chain of groups ends at a picture that stays."""
+        return min(self.members, key=lambda it: it.path)
+
     def sentence(self) -> str:
         """What is the same, such as `Exif and IPTC are the same in the same bytes, no XMP`."""
         first = self.members[0]

@@ -5,6 +5,7 @@ A property of XMP keeps its own spelling, in which ExifTool finds it too (it ign
 
 from __future__ import annotations
 
+import re
 from typing import Dict
 
 from .names import name_of
@@ -56,3 +57,12 @@ def group_name(where: str, key: str) -> str:
 def group_of(where: str) -> str:
     """The group of a directory's fields: `IFD0`, `GPS`, `IPTC`, `XMP`."""
     return "XMP" if where == "xmp" else _GROUPS.get(where, where)
+
+
+def exact_key(where: str, key: str) -> str:
+    """What identifies a field in its directory, whatever its name is: the number of its tag or DataSet, or its property.
+
+    >>> exact_key("main", "013b"), exact_key("iptc", "2:120"), exact_key("xmp", "dc:title"), exact_key("thumb", "jpeg")
+    ('0x013b', '2:120', 'dc:title', 'jpeg')
+    """
+    return f"0x{key}" if where != "xmp" and re.fullmatch("[0-9a-f]{4}", key) else key

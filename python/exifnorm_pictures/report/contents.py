@@ -187,7 +187,7 @@ def members(about: About) -> Iterator[Members]:
     }
     for group in groups.groups(catalogue, only=about.table(), look=about.look):
         wholly_read = not group.not_read and group.basis == groups.MEANING
-        known = {"said": group.sentence(), "basis": group.basis, "same_bytes": group.same_bytes, "wholly_read": wholly_read}
+        known = {"description": group.sentence(), "basis": group.basis, "same_bytes": group.same_bytes, "wholly_read": wholly_read}
         yield {"same": [path_members(it) for it in group.pictures()], **known}
     if about.old is not None:
         yield from _changed_members(about)

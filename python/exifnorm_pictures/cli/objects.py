@@ -1,0 +1,47 @@
+"""JSON Lines (--json): an object a line, with the name and version of its shape. docs/JSON.md describes them, output.schema.json checks them."""
+
+from __future__ import annotations
+
+import json
+from typing import List, Optional
+
+from ..catalogue.records import WORDS, Block, PictureRecord
+from .output import Members, path_members
+
+# The version of a command's objects. It grows if a key is renamed or removed, or gets another meaning; a new key alone doesn't count.
+_VERSIONS = {"captions": 1, "changed": 1, "compare": 1, "conflicts": 1, "index": 1, "same": 1, "show": 1}
+
+
+def line_of(command: str, record: str, members: Members) -> str:
+    """An object as a line: `record` names what it is about, such as `picture` or `summary`."""
+    return json.dumps({"schema": f"exifnorm-pictures/{command}/{_VERSIONS[command]}", "record": record, **members}, allow_nan=False)
+
+
+def print_object(command: str, record: str, members: Members) -> None:
+    """Prints an object."""
+    print(line_of(command, record, members))
+
+
+def picture_object(path: bytes, problem: Optional[str], detail: str) -> Members:
+    """The members that each picture has."""
+    return {**path_members(path), "problem": problem or None, "detail": detail or None}
+
+
+def block_object(it: Block) -> Members:
+    """A block."""
+    return {
+        "kind": WORDS[it.kind],
+        "name": it.name,
+        "status": it.status,
+        "digest": it.digest,
+        "cause": it.cause,
+        "offset": it.place,
+        "length": it.length,
+    }
+
+
+def record_lines(it: PictureRecord) -> List[str]:
+    """The line for a picture that `index` looked at."""
+    about = {**picture_object(it.path, it.problem, it.detail), "type": it.type or None}
+    unread = [one.what for one in it.not_read]
+    return [line_of("index", "picture", {**about, "blocks": [block_object(one) for one in it.blocks], "not_read": unread})]

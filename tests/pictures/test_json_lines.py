@@ -1,0 +1,233 @@
+"""--json: each line of each command has the shape that the installed JSON Schema has and docs/JSON.md describes, and typed values."""
+
+import copy
+import json
+import os
+import re
+import subprocess
+from pathlib import Path
+
+import exifnorm_pictures
+import jsonschema
+import pytest
+from made_blocks import BLOCKS, with_exif
+from made_files import app1, app1_xmp, exif, jpeg, title, xmp
+from studio import SMALL_JPEG, TOP, needs
+
+from exifnorm_pictures.fields.listing import Field
+from exifnorm_pictures.fields.typed import typed
+
+SCHEMA = json.loads(Path(exifnorm_pictures.__path__[0], "output.schema.json").read_text(encoding="utf-8"))
+SAMPLES = os.path.join(TOP, "samples", "before")
+STRANGE = b"strange-\xff\n=1.jpg"
+
+
+def closed(schema):
+    """The schema, in which no object may have a further key: one that a command adds has to be described."""
+    if isinstance(schema, list):
+        return [closed(it) for it in schema]
+    if not isinstance(schema, dict):
+        return schema
+    more = {"additionalProperties": False} if "properties" in schema and "additionalProperties" not in schema else {}
+    return {**{name: closed(it) for name, it in schema.items()}, **more}
+
+
+VALIDATOR = jsonschema.Draft202012Validator(closed(SCHEMA))
+
+
+@pytest.fixture(scope="module")
+def odd(session_folder):
+    """Files that commands can't read wholly: refused, unreadable, no block, no picture, of a name that is no UTF-8, and none."""
+    folder = session_folder / "odd"
+    folder.mkdir()
+    for name, octets in {
+        "bare.jpg": jpeg(),
+        "broken.jpg": with_exif(SMALL_JPEG, BLOCKS["Overlap"]),
+        "repaired.jpg": with_exif(SMALL_JPEG, BLOCKS["Unsorted"]),
+        "unreadable.jpg": jpeg(app1(exif(b"abc")), app1_xmp(b"<x")),
+        "structure.jpg": jpeg(app1_xmp(xmp("<xmpMM:History><rdf:Seq><rdf:li stEvt:action='saved'/></rdf:Seq></xmpMM:History>"))),
+        "twin.jpg": jpeg(app1_xmp(title("one")), behind=b"more"),
+        "twin too.jpg": jpeg(app1_xmp(title("one")), behind=b"more"),
+        "twin three.jpg": jpeg(app1_xmp(title("one")), behind=b"more"),
+        "notes.txt": b"no picture",
+    }.items():
+        (folder / name).write_bytes(octets)
+    with open(os.fsencode(folder) + b"/" + STRANGE, "wb") as file:
+        file.write(jpeg(app1(exif(b"abc"))))
+    os.link(folder / "twin.jpg", folder / "zlink.jpg")
+    return folder
+
+
+@pytest.fixture
+def objects(odd, folder, capsys, monkeypatch):
+    """The objects that a command prints about the odd files and the samples, all of them checked by the schema."""
+    from exifnorm_pictures.cli import main
+
+    monkeypatch.chdir(odd)
+
+    def call(*words):
+        words = [it.replace("@", str(folder)) for it in words]
+        capsys.readouterr()
+        main._run([*words, "--json"])
+        found = [json.loads(it, parse_constant=pytest.fail) for it in capsys.readouterr().out.splitlines()]
+        for it in found:
+            VALIDATOR.validate(it)
+        return found
+
+    return call
+
+
+FILES = sorted(os.path.join(top, name) for top, _, names in os.walk(SAMPLES) for name in names)
+ODD = ["bare.jpg", "broken.jpg", "repaired.jpg", "unreadable.jpg", "structure.jpg", "notes.txt", os.fsdecode(STRANGE), "nothing.jpg"]
+
+
+@needs("exiftool")
+@pytest.mark.parametrize("command", ["show", "captions", "conflicts"])
+def test_pictures(command, objects):
+    found = objects(command, *ODD, *FILES)
+    named = [it for it in found if it["record"] == "picture"]
+    assert {it["schema"] for it in found} == {f"exifnorm-pictures/{command}/1"}
+    if command != "conflicts":
+        assert [it["path"] for it in named][: len(ODD)] == [*ODD[:6], r"strange-\xff\n=1.jpg", "nothing.jpg"]
+    assert [it for it in named if it["path"] == "nothing.jpg"][0]["problem"] == "NoFile"
+
+
+@needs("exiftool")
+def test_a_name_that_is_no_utf8_has_its_bytes(objects):
+    (found,) = objects("show", os.fsdecode(STRANGE))
+    assert bytes.fromhex(found["path_hex"]) == STRANGE
+
+
+@needs("exiftool")
+def test_comparisons(objects):
+    after = SAMPLES.replace("before", "after")
+    pairs = [(it, it.replace(SAMPLES, after)) for it in FILES] + [(one, "repaired.jpg") for one in ODD] + [("twin.jpg", "twin too.jpg")]
+    found = [objects("compare", *pair)[0] for pair in pairs]
+    assert {"same", "different", "different after repair", "not read"} <= {it["result"] for it in found}
+    values = [field for it in found for field in it["fields"] if field["name"] == "IFD0:Copyright"]
+    assert [(it["before"], it["after"]["value"]) for it in values][:1] == [(None, "Riverside Museum")]
+
+
+@needs("exiftool")
+def test_a_catalogue(objects, odd):
+    *pictures, summary = objects("index", ".", SAMPLES, "--catalogue", "@/c", "--quiet")
+    assert summary["record"] == "summary" and sum(summary["counts"].values()) == len(pictures)
+    *groups, summary = objects("same", "--catalogue", "@/c")
+    assert {it["record"] for it in groups} == {"group"}
+    assert summary["groups"] == len(groups) and summary["pictures"] == sum(it["count"] for it in groups)
+    assert any(it["links"] for it in groups)
+    os.rename(odd / "twin too.jpg", odd / "other twin.jpg")
+    try:
+        assert any(it.get("gone") for it in objects("same", "--catalogue", "@/c"))
+    finally:
+        os.rename(odd / "other twin.jpg", odd / "twin too.jpg")
+    objects("same", "--catalogue", "@/c", "--no-look", "--kind", "xmp")
+
+
+# Values
+
+NUMBERS = (
+    "IFD0:Orientation IFD0:XResolution ExifIFD:ISO ExifIFD:FNumber ExifIFD:ExposureTime ExifIFD:FocalLength ExifIFD:ExifImageWidth"
+    " ExifIFD:ExposureCompensation ExifIFD:Flash"
+).split()
+TEXTS = (
+    "IFD0:Make IFD0:Model IFD0:Software IFD0:Artist IFD0:Copyright IPTC:ObjectName IPTC:Caption-Abstract IPTC:By-line IPTC:Keywords".split()
+)
+
+
+@needs("exiftool")
+def test_values_are_those_of_exiftool(objects):
+    """Numbers and texts of the samples, by the names that ExifTool has for them."""
+    words = [
+        "exiftool",
+        "-config",
+        "",
+        "-j",
+        "-n",
+        "-G1",
+        "-a",
+        "-api",
+        "StructFormat=JSON",
+        *(f"-{it}" for it in [*NUMBERS, *TEXTS]),
+        *FILES,
+    ]
+    expected = {it.pop("SourceFile"): it for it in json.loads(subprocess.run(words, capture_output=True, check=True).stdout)}
+    compared = 0
+    for it in objects("show", *FILES):
+        values = {}
+        for block in it["blocks"]:
+            for field in block["fields"]:
+                values.setdefault(field["name"], []).append(field["value"])
+        for name, value in expected[it["path"]].items():
+            wanted = value if isinstance(value, list) else [value]
+            assert list(map(str, values[name])) == list(map(str, wanted)) or values[name] == pytest.approx(wanted), (it["path"], name)
+            compared += 1
+    assert compared > 50
+
+
+@pytest.mark.parametrize(
+    "kind, count, shown, value",
+    [
+        ("SHORT", 3, "8 8 8", [8, 8, 8]),
+        ("SHORT", 0, "", []),
+        ("SRATIONAL", 1, "-1/3", -1 / 3),
+        ("RATIONAL", 1, "1/0", None),
+        ("RATIONAL", 2, "4/2 0/0", [2, None]),
+        ("FLOAT", 1, "40490fdb", 3.1415927410125732),
+        ("DOUBLE", 1, "4000000000000000", 2.0),
+        ("FLOAT", 2, "7fc00000 00000000", [None, 0.0]),
+        ("ASCII", 1, '""', ""),
+        ("ASCII", 9, r'"a\"\\n\n"', 'a"\\n\n'),
+        ("UNDEFINED", 2, "0x00ff", {"hex": "00ff"}),
+        ("UNDEFINED", 5000, "0x0011223344556677.. sha256:" + "ab" * 16, {"sha256": "ab" * 16, "count": 5000}),
+        ("SHORT", 500, "1 2 3.. sha256:" + "cd" * 16, {"sha256": "cd" * 16, "count": 500}),
+    ],
+)
+def test_typed_values(kind, count, shown, value):
+    assert typed(Field("main", "0100", kind, count, shown)) == value
+
+
+@pytest.mark.parametrize(
+    "kind, count, shown, value",
+    [
+        ("text", 1, '"Vase"', "Vase"),
+        ("URI", 1, "<http://x/>", "http://x/"),
+        ("text", 2, '"a", "b"', ["a", "b"]),
+        ("Bag", 1, 'Bag["a"]', ["a"]),
+        ("Bag", 0, "Bag[]", []),
+        ("Alt", 2, 'Alt["Vase"@x-default, "Krug"@de]', [{"text": "Vase", "language": "x-default"}, {"text": "Krug", "language": "de"}]),
+        ("structure", 1, '{stEvt:action="saved"}', None),
+        ("text", 1, '"it ends with sha256:' + "ab" * 16 + '"', "it ends with sha256:" + "ab" * 16),
+    ],
+)
+def test_typed_values_of_xmp(kind, count, shown, value):
+    assert typed(Field("xmp", "dc:title", kind, count, shown)) == value
+
+
+# The schema and its description
+
+
+def test_the_schema_is_one_and_finds_mistakes(objects):
+    jsonschema.Draft202012Validator.check_schema(SCHEMA)
+    (good,) = objects("show", "bare.jpg")
+    for change in ({"path": 1}, {"record": "group"}, {"schema": "exifnorm-pictures/show/2"}, {"blocks": [{}]}, {"more": 1}):
+        assert not VALIDATOR.is_valid({**copy.deepcopy(good), **change}), change
+
+
+def keys(schema):
+    if isinstance(schema, dict):
+        yield from schema.get("properties", {})
+        for it in schema.values():
+            yield from keys(it)
+    elif isinstance(schema, list):
+        for it in schema:
+            yield from keys(it)
+
+
+def test_the_page_has_the_keys_of_the_schema():
+    page = (Path(TOP) / "docs" / "JSON.md").read_text(encoding="utf-8")
+    described = set(re.findall(r"[\w]+", " ".join(re.findall(r"`([^`]*)`", page))))
+    assert set(keys(SCHEMA)) - described == set()
+    for name in set(re.findall(r"(?m)^\| `([^|]*)` \|", page)):
+        for word in re.findall(r"[a-z_0-9]+", name):
+            assert word in {*keys(SCHEMA), "hex", "sha256"}, name

@@ -1,0 +1,134 @@
+"""--csv: tables that spreadsheets and csv modules read, in which no name or text of a stranger is a formula."""
+
+import csv
+import io
+import os
+
+import pytest
+from made_blocks import BLOCKS, with_exif
+from made_files import app1, app1_xmp, exif, jpeg, title
+from studio import SMALL_JPEG
+from test_captions import data_set, with_record, with_texts
+from test_groups import FILES as TWINS
+
+FORMULA = '=HYPERLINK("http://x")\r\n\x1b'
+PICTURE = jpeg(with_texts(artist=FORMULA.encode()), with_record(data_set(80, b"Otto"), data_set(5, b'a;b,c"d')), app1_xmp(title("+1")))
+NAMES = [b"=1+1.jpg", b"@a.jpg", b"+b\xff\n.jpg", b"-c.jpg", "\uff1d1.jpg".encode(), b'plain,"1".jpg']
+
+
+@pytest.fixture
+def run(folder, capsys, monkeypatch):
+    """Runs a command in a folder: its status and what it prints."""
+    from exifnorm_pictures.cli import main
+
+    monkeypatch.chdir(folder)
+
+    def call(*words, names=()):
+        (folder / "list").write_bytes(b"".join(it + b"\0" for it in names))
+        status = main._run([*words, *(["--files-from", "list", "-0"] if names else [])])
+        return status, capsys.readouterr().out
+
+    return call
+
+
+def rows(out):
+    """The rows of a table, which must be as RFC 4180 has it: lines end with CR LF, and all rows have as many cells."""
+    found = list(csv.reader(io.StringIO(out, newline=""), strict=True))
+    assert {len(it) for it in found} == {len(found[0])}
+    written = io.StringIO(newline="")
+    csv.writer(written).writerows(found)  # whose default is RFC 4180
+    assert out == written.getvalue()
+    return [dict(zip(found[0], it)) for it in found[1:]]
+
+
+def put(folder, octets, names=NAMES):
+    for name in names:
+        with open(os.fsencode(folder) + b"/" + name, "wb") as file:
+            file.write(octets)
+
+
+@pytest.mark.parametrize("command", ["show", "captions", "conflicts"])
+def test_no_cell_is_a_formula(command, run, folder):
+    put(folder, PICTURE)
+    _, out = run(command, "--csv", names=NAMES)
+    found = rows(out)
+    assert len({it["picture"] for it in found}) == len(NAMES)
+    for it in found:
+        for cell in it.values():
+            assert not cell.startswith(("=", "+", "-", "@", "\t", "\r", "\n", "\uff1d")), cell
+            assert all(one.isprintable() or one in "\n\t" for one in cell), cell
+    assert {it["picture"] for it in found} >= {"'=1+1.jpg", "'+b\\xff\\n.jpg", 'plain,"1".jpg'}
+
+
+def test_groups(run, folder):
+    put(folder, PICTURE)
+    (folder / "refused.jpg").write_bytes(with_exif(SMALL_JPEG, BLOCKS["Overlap"]))
+    run("index", ".", "--catalogue", "c", "--quiet")
+    status, out = run("same", "--catalogue", "c", "--csv")
+    found = rows(out)
+    assert status == 0 and [it["keep"] for it in found] == ["1", *["0"] * 5]
+    assert {it["pictures"] for it in found} == {"6"} and len({it["group"] for it in found}) == 1
+
+
+def test_keep_is_empty_where_nobody_knows(run, folder):
+    put(folder, PICTURE)
+    run("index", ".", "--catalogue", "c", "--quiet")
+    for words in (["--no-look"], ["--kind", "exif"]):
+        assert {it["keep"] for it in rows(run("same", "--catalogue", "c", "--csv", *words)[1])} == {""}
+
+
+def test_links_and_files_that_are_gone_are_not_to_be_deleted(run, folder):
+    """To delete one of two names of a file, or a file through a linked folder, may delete the last copy."""
+    (folder / "p").mkdir()
+    for name in "abc":
+        (folder / "p" / f"{name}.jpg").write_bytes(TWINS["a1"])
+    os.link(folder / "p/a.jpg", folder / "p/d.jpg")
+    os.symlink("p", folder / "linked")
+    run("index", "p", "linked", "--catalogue", "c", "--quiet")
+    (folder / "p/c.jpg").unlink()
+    found = {os.path.relpath(it["picture"], folder): it for it in rows(run("same", "--catalogue", "c", "--csv")[1])}
+    assert {name: it["keep"] for name, it in found.items() if it["keep"]} == {"p/a.jpg": "1", "p/b.jpg": "0"}
+    assert "gone" in found["p/c.jpg"]["note"] and "hard link" in found["p/d.jpg"]["note"]
+
+
+def test_fields(run, folder):
+    (folder / "a.jpg").write_bytes(jpeg(app1(exif(b"abc")), app1_xmp(title("Vase"))))
+    (folder / "bare.jpg").write_bytes(jpeg())
+    (folder / "refused.jpg").write_bytes(jpeg(app1(BLOCKS["UnknownKind"])))
+    status, out = run("show", "--csv", "a.jpg", "bare.jpg", "refused.jpg", "nothing.jpg")
+    found = rows(out)
+    assert status == 2
+    assert {it["field"]: it["value"] for it in found if it["field"]} == {"IFD0:Make": "abc", "XMP-dc:format": "Vase"}
+    assert {it["key"] for it in found if it["picture"] == "a.jpg"} == {"0x010f", "dc:format"}
+    notes = {it["picture"]: it["note"] for it in found if it["note"]}
+    assert list(notes) == ["bare.jpg", "refused.jpg", "nothing.jpg"] and "UnknownKind" in notes["refused.jpg"]
+
+
+def test_a_repaired_block_says_so_in_each_row(run, folder):
+    (folder / "a.jpg").write_bytes(with_exif(SMALL_JPEG, BLOCKS["Unsorted"]))
+    status, out = run("show", "--csv", "a.jpg")
+    assert status == 2 and all("repair" in it["note"] for it in rows(out))
+
+
+def test_fields_that_differ(run, folder):
+    (folder / "a.jpg").write_bytes(jpeg(with_texts(artist=b"Anna")))
+    (folder / "b.jpg").write_bytes(jpeg(with_texts(artist=b"Otto", copyright=b"Museum")))
+    status, out = run("compare", "a.jpg", "b.jpg", "--csv")
+    found = {it["field"]: (it["before"], it["after"]) for it in rows(out)}
+    assert status == 1 and found == {"IFD0:Artist": ("Anna", "Otto"), "IFD0:Copyright": ("", "Museum")}
+    assert run("compare", "a.jpg", "a.jpg", "--csv") == (0, "field,before,after,exact before,exact after,note\r\n")
+
+
+def test_an_open_answer_has_a_row(run, folder):
+    """A table without a row would say that nothing differs."""
+    (folder / "a.jpg").write_bytes(jpeg(app1(BLOCKS["UnknownKind"])))
+    (folder / "b.jpg").write_bytes(jpeg(app1(exif(b"abc"))))
+    for words in (["compare", "a.jpg", "b.jpg"], ["compare", "b.jpg", "nothing.jpg"], ["conflicts", "a.jpg"], ["conflicts", "nothing.jpg"]):
+        status, out = run(*words, "--csv", "--no-exiftool") if words[0] == "compare" else run(*words, "--csv")
+        assert status == 2 and any("refused" in cell or "NoFile" in cell for it in rows(out) for cell in it.values()), words
+
+
+def test_csv_and_json_are_not_given_together(run, capsys):
+    with pytest.raises(SystemExit) as wrong:
+        run("captions", "a.jpg", "--csv", "--json")
+    assert wrong.value.code == 3 and "not allowed" in capsys.readouterr().err
