@@ -98,3 +98,49 @@ def _references(items):
     for number, it in enumerate(items, 1):
         for kind, others in (*((b"cdsc", it.describes),) * bool(it.describes), *it.references):
             yield box(kind, struct.pack(f">HH{len(others)}H", number, len(others), *others))
+
+
+# CR3
+
+PREVIEW_UUID = bytes.fromhex("eaf42b5e1c984b88b9fbb7dc406e4d16")
+VERSION = box(b"CNCV", b"CanonCR3_001/00.10.00/00.00.00")
+
+
+def cr3(
+    *structures,
+    samples=(b"one", b"two"),
+    packet=None,
+    version=VERSION,
+    in_moov=b"",
+    in_track=b"",
+    behind=b"",
+    length=0,
+    missing=0,
+    long=True,
+):
+    """A CR3 with these boxes of Canon. `length` is that of each sample if they are equal, `missing` the bytes that the file lacks."""
+    head = box(b"ftyp", b"crx \0\0\0\1crx isom")
+    canon = box(b"uuid", CANON, version, box(b"CCTP"), box(b"THMB", bytes(16)), *structures)
+    after = (box(b"uuid", XMP_UUID, packet) if packet is not None else b"") + box(b"uuid", PREVIEW_UUID, bytes(8), box(b"PRVW", bytes(24)))
+
+    def moov(start):
+        starts = [start + sum(map(len, samples[:number])) for number in range(len(samples))]
+        places = [b"\0" * 4, struct.pack(f">I{len(starts)}{'Q' if long else 'I'}", len(starts), *starts)]
+        sizes = [
+            b"\0" * 4,
+            struct.pack(">II", length, len(samples)),
+            b"" if length else struct.pack(f">{len(samples)}I", *map(len, samples)),
+        ]
+        metadata = track(b"CTMD", box(b"stsz", *sizes) + box(b"co64" if long else b"stco", *places) + in_track)
+        return box(b"moov", canon, box(b"mvhd", b"x"), track(b"CRAW", b""), metadata, in_moov)
+
+    start = len(head) + len(moov(0)) + len(after) + 8
+    media = b"".join(samples)
+    return head + moov(start) + after + box(b"mdat", media[: len(media) - missing]) + behind
+
+
+def track(kind, more):
+    """A track of this kind."""
+    described = box(b"stsd", bytes(4), struct.pack(">II4s", 1, 16, kind), bytes(8))
+    media = box(b"minf", box(b"nmhd", bytes(4)), box(b"dinf"), box(b"stbl", described, box(b"stts"), box(b"free", b"x"), more))
+    return box(b"trak", box(b"tkhd", b"x"), box(b"mdia", box(b"mdhd"), box(b"hdlr"), media))

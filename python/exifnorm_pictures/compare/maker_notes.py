@@ -27,6 +27,7 @@ _PLACES = (
     "StripOffsets",
     "RawDataOffset",
     "HiddenDataOffset",
+    "Unknown_CTBO",  # where the parts of a CR3 are
 )
 LONGEST = 200  # characters of a value that is kept whole
 

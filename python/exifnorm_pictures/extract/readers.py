@@ -8,7 +8,7 @@ from __future__ import annotations
 import re
 from typing import Callable, NamedTuple, Optional, Tuple
 
-from .formats import heif, jpeg, png, psd, raf, tiff, webp, xmp_file
+from .formats import cr3, heif, jpeg, png, psd, raf, tiff, webp, xmp_file
 from .formats.found import Blocks
 from .formats.streams import Stream
 
@@ -122,6 +122,17 @@ FORMATS: Tuple[Format, ...] = (
         "other items, such as compressed XMP; unknown boxes; names of pictures (`udes`); `moov` of sequences; trailers",
         "items that are protected, in another file, or made of other items",
         "pixels, size, rotation, ICC profiles; bytes that no item has",
+    ),
+    Format(
+        "CR3",
+        lambda head, _: cr3.is_cr3(head),
+        cr3.read,
+        "CMT1, CMT2 and CMT4 as one block, with CMT3 as its MakerNote",
+        "",
+        "box uuid",
+        "the track CTMD; unknown boxes; trailers",
+        "a track CTMD whose samples aren't all found",
+        "pixels, previews, the thumbnail, dates of tracks",
     ),
     Format(
         "PSD, PSB",

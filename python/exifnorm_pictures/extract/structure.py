@@ -149,22 +149,23 @@ def notes(block: bytes) -> Notes:
             waiting.append(("thumb", four(block, following)[0]))
     if not leads:
         return Notes(None, b"", ())
-    return Notes(place, b"\0".join(_gaps(block, covered)), tuple(leads))
+    return Notes(place, b"\0".join(gaps(block, covered)), tuple(leads))
 
 
-def _gaps(block: bytes, covered: List[Tuple[int, int]]) -> List[bytes]:
+def gaps(block: bytes, covered: List[Tuple[int, int]]) -> List[bytes]:
     """The bytes between some ranges, without the filling around them.
 
-    >>> _gaps(b"ab\\0cd\\0\\0", [(0, 2)])
+    >>> gaps(b"ab\\0cd\\0\\0", [(0, 2)])
     [b'cd']
     """
-    gaps, reached = [], 0
+    found: List[bytes] = []
+    reached = 0
     for start, after in [*sorted(covered), (len(block), len(block))]:
         if start > reached and (gap := block[reached:start].strip(b"\0")):
-            gaps.append(gap)
+            found.append(gap)
         if after > reached:
             reached = after
-    return gaps
+    return found
 
 
 _SIZE = tuple(SIZE.get(it, 0) for it in range(130))

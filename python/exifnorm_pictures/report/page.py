@@ -29,7 +29,7 @@ STATE_WORDS = {
     "Moved": "moved since an earlier run",
     "LinkToNothing": "a link that leads to no file",
     "NotAFile": "a pipe, a socket or a device",
-    "SeveralBlocks": "with several Exif blocks (CR3)",
+    "SeveralBlocks": "damaged CR3, or a film of Canon",
     "BigTIFF": "BigTIFF, which is not read",
     "NeedsExiv2": "raw, and exiv2 is not installed",
     "NeedsExifTool": "of another format, and ExifTool is not installed",

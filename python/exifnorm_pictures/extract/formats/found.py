@@ -22,8 +22,8 @@ PROBLEMS = {
     "NotAFile": "a folder, a pipe, a socket or a device",
     "Unreadable": "the file can't be read",
     "NoPicture": "the file is no picture that ExifTool knows",
-    "SeveralBlocks": "a CR3 file has several Exif blocks (CMT1 to CMT4), and ExifTool extracts only the first: two different"
-    " pictures could seem to be the same",
+    "SeveralBlocks": "a damaged CR3 or a film of Canon, which have several Exif blocks (CMT1 to CMT4): ExifTool extracts only the first,"
+    " so two different ones could seem to be the same",
     "BigTIFF": "a BigTIFF, whose offsets have eight bytes, is not read",
     "NeedsExiv2": "ExifTool gives no Exif block of raw files; exiv2 does, and it isn't installed (package exiv2)",
     "TooMuch": "reading the file goes over a limit that no real picture reaches",

@@ -1,0 +1,133 @@
+"""The TIFF structures of a CR3 as one Exif block, as other pictures have it: the main directory with pointers to Exif and GPS, and the
+MakerNote in its tag. The MakerNote keeps its header, from which its offsets count. Its values are laid out one after another, since
+ExifTool moves them when it writes."""
+
+from __future__ import annotations
+
+import io
+import struct
+from typing import Dict, List, Optional, Tuple
+
+from exifnorm import LIMIT
+
+from ..budgets import Budget
+from ..structure import gaps
+from .canon import EXIF, GPS, MAIN, MAKER_NOTE
+from .found import Broken
+from .tiff_block import NOWHERE, Layout, Table, is_pointer
+from .tiff_directories import HEADS, LONG, Directories, Directory, Entry
+
+_TAGS = {EXIF: 0x8769, GPS: 0x8825}
+_NOTE, _INTEROPERABILITY, _UNDEFINED = 0x927C, 0xA005, 7
+
+
+def one_block(structures: Dict[bytes, bytes], budget: Budget) -> Optional[bytes]:
+    """The block of the structures, by the kinds of their boxes; None if they can't be one. Raises `TooMuch`.
+
+    They can't be one if they have several byte orders, further directories, pointers to what is in another box, or damage.
+    """
+    if MAIN not in structures or len({structures[it][:4] for it in structures if it != MAKER_NOTE}) > 1:
+        return None
+    if structures[MAIN][:4] not in HEADS:
+        return None
+    try:
+        return _Joined(structures, budget).block()
+    except (Broken, _NotOne):
+        return None
+
+
+class _NotOne(Exception):
+    """The structures can't be one block."""
+
+
+class _Memory(io.BytesIO):
+    """Bytes in memory as a file, with the budget of the picture."""
+
+    def __init__(self, data: bytes, budget: Budget) -> None:
+        super().__init__(data)
+        self.budget = budget
+
+
+class _Joined(Directories):
+    """The structures one after another. The offsets of each count from its own header, and here from the first."""
+
+    def __init__(self, structures: Dict[bytes, bytes], budget: Budget) -> None:
+        self._ranges: Dict[bytes, Tuple[int, int]] = {}
+        joined = b""
+        if MAKER_NOTE in structures:
+            structures = {**structures, MAKER_NOTE: _laid_out(structures[MAKER_NOTE], budget)}
+        for kind in (MAIN, EXIF, GPS, MAKER_NOTE):
+            if kind in structures:
+                self._ranges[kind] = (len(joined), len(joined) + len(structures[kind]))
+                joined += structures[kind]
+        super().__init__(_Memory(joined, budget))
+        self._firsts = {it: self.number(structures[it][4:8]) for it in structures}
+
+    def block(self) -> bytes:
+        """One block of all. Raises `Broken`, `TooMuch` and `_NotOne`."""
+        tables = {kind: self._table(kind) for kind in (MAIN, EXIF, GPS) if kind in self._ranges}
+        if MAKER_NOTE in self._ranges:
+            start, end = self._ranges[MAKER_NOTE]
+            if EXIF not in tables or end - start <= 4:
+                raise _NotOne
+            _insert(tables[EXIF].entries, Entry(_NOTE, _UNDEFINED, end - start, self._packed(start)))
+        main = tables.pop(MAIN)
+        for kind, table in tables.items():
+            if table.entries:
+                _insert(main.entries, Entry(_TAGS[kind], LONG, 1, bytes(4)))
+                main.below[_TAGS[kind]] = table
+        layout = Layout(self, main)
+        if layout.length > LIMIT:
+            raise _NotOne
+        block = layout.block()
+        self.check()
+        return block
+
+    def _table(self, kind: bytes) -> Table:
+        """The first directory of a structure, with its interoperability directory."""
+        entries = self._directory(kind, self._firsts[kind])
+        below: Dict[int, Table] = {}
+        for it in entries if kind == EXIF else ():
+            if it.tag == _INTEROPERABILITY and is_pointer(it) and not below:
+                below[it.tag] = Table(self._directory(kind, self.number(it.last)), {})
+        return Table(entries, below)
+
+    def _directory(self, kind: bytes, offset: int) -> List[Entry]:
+        """The entries of a directory, whose values are in its own structure or nowhere."""
+        start, end = self._ranges[kind]
+        found: Directory = self.read(start + offset)
+        if found.following or found.at + 6 + 12 * len(found.entries) > end:
+            raise _NotOne
+        return [it if it.size <= 4 else it._replace(last=self._moved(it, start, end)) for it in found.entries]
+
+    def _moved(self, it: Entry, start: int, end: int) -> bytes:
+        place = start + self.number(it.last)
+        return self._packed(place if place + it.size <= end else NOWHERE)
+
+    def _packed(self, number: int) -> bytes:
+        return struct.pack(self.order + "I", number)
+
+
+def _laid_out(note: bytes, budget: Budget) -> bytes:
+    """A MakerNote without filling between its values; as it is, if it has more than one directory and its values."""
+    try:
+        directories = Directories(_Memory(note, budget))
+        first = directories.read(directories.first)
+    except Broken:
+        return note
+    places = [directories.place_of(it) for it in first.entries if it.size > 4]
+    reached = [it for it in places if it is not None]
+    rest = gaps(note, [(0, 8), (first.at, first.at + 6 + 12 * len(first.entries)), *reached])
+    if note[:4] not in HEADS or first.following or len(reached) < len(places) or rest not in _NOTHING:
+        return note
+    return Layout(directories, Table(first.entries, {})).block()
+
+
+_NOTHING: Tuple[List[bytes], ...] = ([], [b"II*"], [b"MM\0*"])  # Canon writes a second header at the end, with an offset of 0
+
+
+def _insert(entries: List[Entry], it: Entry) -> None:
+    """Inserts an entry in the order of the tags. Raises `_NotOne` if its tag is there."""
+    if any(one.tag == it.tag for one in entries):
+        raise _NotOne
+    entries.insert(next((number for number, one in enumerate(entries) if one.tag > it.tag), len(entries)), it)

@@ -1,0 +1,135 @@
+"""CR3 of Canon: Exif, MakerNote and GPS in Canon's box uuid of moov, XMP in a box uuid, and the track CTMD of timed metadata, which is
+compared by its bytes.
+
+Not compared, because they contain no Exif, IPTC or XMP: previews, the thumbnail, tracks of pixels, and dates of tracks.
+"""
+
+from __future__ import annotations
+
+from typing import Dict, List, Optional, Tuple
+
+from ..budgets import EXTENTS, budget_of
+from . import canon
+from .boxes import XMP_UUID, Box, Fields, add_xmp, boxes, boxes_of_file, content
+from .canon_block import one_block
+from .found import EXIF, Blocks, Broken, LeftToOthers, NotRead
+from .streams import Stream, digest_of_parts, is_blank, leave, size_of
+
+_PREVIEW = bytes.fromhex("eaf42b5e1c984b88b9fbb7dc406e4d16")
+_WITHOUT = frozenset((b"ftyp", b"mdat", b"free", b"skip", b"wide"))
+_WITHOUT_IN_MOVIE = frozenset((b"mvhd", b"free"))
+_BELOW_TRACK = frozenset((b"mdia", b"minf", b"stbl"))
+_PIXELS = b"CRAW"
+_NAMES = {canon.EXIF: "CMT2", canon.MAKER_NOTE: "the MakerNote", canon.GPS: "CMT4"}  # of blocks that can't be one with CMT1
+
+
+def is_cr3(head: bytes) -> bool:
+    """Whether a file with these first twelve bytes is a CR3, or a film of Canon.
+
+    >>> is_cr3(b"\\0\\0\\0\\x18ftypcrx ")
+    True
+    """
+    return head[4:12] == b"ftypcrx "
+
+
+def read(stream: Stream, whole: bool = False) -> Blocks:
+    """The blocks of a CR3. Raises `Broken`, and `LeftToOthers` for a film."""
+    blocks = Blocks(type="CR3", budget=budget_of(stream))
+    movies = 0
+    for it in boxes_of_file(blocks, stream, lambda kinds: b"moov" in kinds):
+        if it.kind == b"moov":
+            movies += 1
+            _movie(blocks, stream, it)
+        elif it.uuid == XMP_UUID:
+            add_xmp(blocks, stream, it)
+        elif it.kind not in _WITHOUT and it.uuid != _PREVIEW:
+            leave(blocks, it.name, stream, it.start, it.end)
+    if movies > 1:
+        raise Broken("the file has two moov boxes")
+    return blocks
+
+
+def _movie(blocks: Blocks, stream: Stream, moov: Box) -> None:
+    found: Dict[bytes, Box] = {}
+    for it in boxes(stream, moov.start, moov.end):
+        if it.uuid == canon.UUID and not found:
+            found = canon.parts(blocks, stream, it)
+        elif it.kind == b"trak":
+            _Track(blocks, stream, it).take()
+        elif it.kind not in _WITHOUT_IN_MOVIE:
+            leave(blocks, f"{it.name} in moov", stream, it.start, it.end)
+    if canon.MAIN not in found:
+        raise Broken("the file has no CMT1 box")
+    version = found.pop(canon.VERSION, None)
+    if version is not None and not content(stream, version).startswith(b"CanonCR3"):
+        raise LeftToOthers("a film of Canon")
+    _add_exif(blocks, stream, found)
+
+
+def _add_exif(blocks: Blocks, stream: Stream, found: Dict[bytes, Box]) -> None:
+    """Adds one block of all structures; if they can't be one, a block of each."""
+    structures = {kind: content(stream, it) for kind, it in found.items() if not is_blank(stream, it.start, it.end)}
+    block = one_block(structures, blocks.budget)
+    if block is not None:
+        names = ", ".join(it.decode("ascii") for it in sorted(structures))
+        blocks.add(EXIF, block, f"boxes {names} at {found[canon.MAIN].at}")
+        return
+    for kind, data in structures.items():
+        blocks.add(EXIF, data, f"{found[kind].name} at {found[kind].at}", _NAMES.get(kind, ""))
+
+
+class _Track:
+    """A track: one of pixels, or samples of metadata."""
+
+    def __init__(self, blocks: Blocks, stream: Stream, trak: Box) -> None:
+        self.blocks, self.stream = blocks, stream
+        self._found: Dict[bytes, Box] = {}
+        waiting = [trak]
+        for one in waiting:  # which grows meanwhile: at most by one box of each kind
+            for it in boxes(stream, one.start, one.end):
+                self._sort(it, waiting)
+
+    def _sort(self, it: Box, waiting: List[Box]) -> None:
+        if it.kind in (b"free", b"skip"):
+            return
+        if it.kind in self._found:
+            raise Broken(f"a second {it.name} in a track")
+        if it.kind in _BELOW_TRACK:
+            waiting.append(it)
+        elif it.kind not in _OF_TRACKS:
+            leave(self.blocks, f"{it.name} in a track", self.stream, it.start, it.end)
+        self._found[it.kind] = it
+
+    def take(self) -> None:
+        """Names the samples, if they aren't pixels."""
+        kind = self._content(b"stsd")[12:16]
+        if kind == _PIXELS:
+            return
+        word = kind.decode("latin-1") if kind.isalnum() else kind.hex()
+        samples = self._samples()
+        if samples is None or any(end > size_of(self.stream) for _, end in samples):
+            self.blocks.name(NotRead(f"track {word}, whose samples aren't all found", ""))
+        else:
+            self.blocks.name(NotRead(f"track {word}", digest_of_parts(self.stream, samples)))
+
+    def _content(self, kind: bytes) -> bytes:
+        if kind not in self._found:
+            raise Broken(f"a track has no {kind.decode('ascii')} box")
+        return content(self.stream, self._found[kind])
+
+    def _samples(self) -> Optional[List[Tuple[int, int]]]:
+        """The ranges of the samples; None unless each is a chunk by itself, as Canon writes them."""
+        sizes = Fields(self._content(b"stsz"), "stsz box")
+        wide = 8 if b"co64" in self._found else 4
+        places = Fields(self._content(b"co64" if wide == 8 else b"stco"), "box of chunks")
+        sizes.number(4), places.number(4)
+        each, count = sizes.number(4), sizes.number(4)
+        if places.number(4) != count:
+            return None
+        self.blocks.budget.spend(EXTENTS, count)
+        starts = [places.number(wide) for _ in range(count)]
+        return [(start, start + (each or sizes.number(4))) for start in starts]
+
+
+# Boxes of tracks without texts
+_OF_TRACKS = frozenset(b"tkhd edts mdhd hdlr vmhd nmhd gmhd dinf stsd stts stsc stsz stco co64 stss ctts".split())

@@ -1,0 +1,46 @@
+"""Pictures that ExifTool has written anew, with a field that it added and then removed: their parts have moved, and they are the same."""
+
+import struct
+
+import pytest
+import test_cr3
+import test_heif
+import test_psd
+from made_boxes import box, cr3
+from studio import needs, tool
+
+MADE = {
+    "heic": test_heif.WHOLE,
+    "avif": test_heif.READ["AVIF"][0],
+    "psd": test_psd.WHOLE,
+    "psb": test_psd.READ["PSB"][0],
+    "cr3": cr3(
+        *test_cr3.structures(filling=bytes(100)), box(b"CTBO", struct.pack(">IIQQ", 1, 1, 620, 100)), packet=test_cr3.T + b" " * 100
+    ),
+}
+
+
+@needs("exiftool")
+@pytest.mark.parametrize("kind", MADE)
+def test_it(kind, folder, capsys):
+    from exifnorm_pictures.cli import main
+
+    for side in ("before", "after"):
+        (folder / side).mkdir()
+        (folder / side / f"a.{kind}").write_bytes(MADE[kind])
+    for value in ("a text", ""):
+        tool(
+            folder / "after",
+            "exiftool",
+            "-config",
+            "",
+            "-q",
+            "-q",
+            "-overwrite_original",
+            f"-XMP-dc:Source={value}",
+            f"-IFD0:Software={value}",
+            f"a.{kind}",
+        )
+    assert (folder / "after" / f"a.{kind}").read_bytes() != MADE[kind]
+    status = main._run(["changed", str(folder / "before"), str(folder / "after"), "--all"])
+    assert (status, capsys.readouterr().out.splitlines()[-1]) == (0, "1 same")
