@@ -1,0 +1,52 @@
+-- Pieces, part by part; and the parts of a head are in the picture.
+use Rattle.std.proofs.Common.{◌≡◌, ◌≤◌, ◌+◌, ℕ, List, [], ◌∷◌, ◌++◌, length, Option, Some, None, sym, ap, ◌∙◌, subst, arith, length-append}
+use Rattle.std.specs.List.{AllByRecursion}
+use Rattle.px_jpeg.specs.declared.parts.Part.{Part}
+use Rattle.px_jpeg.specs.declared.pieces.Kind.{Kind}
+use Rattle.px_jpeg.specs.Head.{Spells, HasHead}
+use Rattle.px_jpeg.specs.Pieces.{AllInside, kind_of, range, piece_of, piece_in, pieces}
+use Rattle.std.proofs.Common.{is_some, unwrap_or, true, false, refl}
+use Rattle.px_jpeg.specs.Reading.{head_of}
+use Rattle.px_jpeg.proofs.HeadLaws.{computed_said}
+use Rattle.px_jpeg.proofs.Walking.{part_end}
+
+pub piece_first : (b : List ℕ) (last : Option Kind) (ps qs : List Part) (q : Part) (y : List ℕ) (k : Kind) → ps ≡ q ∷ qs
+    → y ≡ range b q.start q.size → Some k ≡ kind_of q.code y → pieces b last ps ≡ piece_of b q k last ∷ pieces b (Some k) qs
+piece_first b last ps qs q y k e r h =
+    ap (pieces b last) e
+    ∙ ap (λ (o : Option Kind). piece_in b q last o ++ pieces b o qs) (ap (kind_of q.code) (sym r) ∙ sym h)
+
+pub piece_none : (b : List ℕ) (last : Option Kind) (ps qs : List Part) (q : Part) (y : List ℕ) → ps ≡ q ∷ qs
+    → y ≡ range b q.start q.size → None ≡ kind_of q.code y → pieces b last ps ≡ pieces b None qs
+piece_none b last ps qs q y e r h =
+    ap (pieces b last) e
+    ∙ ap (λ (o : Option Kind). piece_in b q last o ++ pieces b o qs) (ap (kind_of q.code) (sym r) ∙ sym h)
+
+pub first_inside : (b : List ℕ) (ps qs : List Part) (q : Part) → ps ≡ q ∷ qs → AllInside b ps →
+    (q.start + q.size ≤ length b) × AllInside b qs
+first_inside b ps qs q e h = subst (AllInside b) e h
+
+inside_more : (n m : ℕ) (qs : List Part) → n ≤ m → AllByRecursion (λ q. q.start + q.size ≤ n) qs → AllByRecursion
+    (λ q. q.start + q.size ≤ m) qs
+inside_more n m [] l h = tt
+inside_more n m (q ∷ qs) l h = (let k = h.0 in omega arith, inside_more n m qs l h.1)
+
+spells_inside : (p : ℕ) (qs : List Part) (x : List ℕ) → Spells p qs x → AllByRecursion (λ q. q.start + q.size ≤ p + length x) qs
+spells_inside p [] x s = tt
+spells_inside p (q ∷ qs) x (a, b, w, i, s) =
+    let l = ap length w ∙ length-append a b in
+    let e = part_end p q a i in
+    (omega arith, inside_more (p + length a + length b) (p + length x) qs (omega arith) (spells_inside (p + length a) qs b s))
+
+pub head_inside : (b : List ℕ) (qs : List Part) → HasHead b qs → AllInside b qs
+head_inside b qs s =
+    let l = ap length s.whole in
+    let k = length-append s.spelled s.rest in
+    inside_more (2 + length s.spelled) (length b) qs (omega arith) (spells_inside 2 qs s.spelled s.spells)
+
+pub parts_inside : (b : List ℕ) → is_some (head_of b) ≡ true → AllInside b (unwrap_or (head_of b) [])
+parts_inside b h = of (head_of b) refl h
+  where
+    of : (o : Option (List Part)) → head_of b ≡ o → is_some o ≡ true → AllInside b (unwrap_or o [])
+    of None e k = let clash : false ≡ true = k in absurd (cc)
+    of (Some qs) e k = head_inside b qs (computed_said b qs e)

@@ -1,0 +1,113 @@
+-- A picture's bytes, one part on.
+use Rattle.std.proofs.Common.{◌≡◌, ◌≤◌, ◌<◌, ◌+◌, ℕ, true, false, inl, inr, Option, Some, None, option_map, unwrap_or, is_some}
+use Rattle.std.proofs.Common.{List, [], ◌∷◌, ◌++◌, length, drop, refl, sym, ap, ◌∙◌, subst}
+use Rattle.std.proofs.Common.{arith, length-drop, length-append, append_assoc, leb-true, nat_le}
+use Rattle.std.proofs.Common.{◌==◌, ◌&&◌, slice_index}
+use Rattle.std.proofs.lemmas.Bool.{cond-true, cond-false, cases_Bool, and_parts}
+use Rattle.std.proofs.lemmas.List.{drop-drop}
+use Rattle.px_jpeg.specs.declared.parts.Part.{Part}
+use Rattle.px_jpeg.specs.declared.faults.Cause.{Cause}
+use Rattle.px_jpeg.specs.Head.{is_last, IsPart, HasHead}
+use Rattle.px_jpeg.specs.Fault.{FaultAt, Behind}
+use Rattle.px_jpeg.specs.Reading.{is_part, part, size, parts_left, starts, head_of}
+use Rattle.px_jpeg.proofs.OnePart.{Reads, Begins, part_begins}
+use Rattle.px_jpeg.proofs.ManyParts.{size_ge, left_none, reads_last, reads_more, spells_more, none_more, ends_behind}
+use Rattle.px_jpeg.proofs.HeadLaws.{said_computed, fault_no_part}
+
+-- where a part ends
+pub part_end : (p : ℕ) (q : Part) (a : List ℕ) → IsPart p q a → q.start + q.size ≡ p + length a
+part_end p q a (inl r) = omega (arith, r.start, r.empty, ap length r.whole, length-append r.fill (255 ∷ q.code ∷ []))
+part_end p q a (inr r) =
+    omega (arith, r.start, r.size, ap length r.whole, length-append r.fill (255 ∷ q.code ∷ r.high ∷ r.low ∷ r.octets))
+
+-- the part q was read at offset `at`
+module _ (b : List ℕ) (at : ℕ) (y : List ℕ) (q : Part) (e : y ≡ drop at b) (h : is_part y ≡ true) (v : q ≡ part at y) where
+  begun : Begins at q (size y) y
+  begun = subst (λ (s : Part). Begins at s (size y) y) (sym v) (part_begins at y h)
+
+  reads : Reads at q (size y) y
+  reads = record { there = h; value = sym v; sized = refl }
+
+  end_is : q.start + q.size ≡ at + size y
+  end_is = part_end at q begun.front begun.is ∙ ap (λ (n : ℕ). at + n) begun.long
+
+  pub part_advances : at < q.start + q.size
+  part_advances = omega (arith, end_is, size_ge y)
+
+  pub part_inside : at ≤ length b → q.start + q.size ≤ length b
+  part_inside n =
+      omega (arith, end_is, begun.long, ap length begun.whole, length-append begun.front (drop (size y) y), ap length e, length-drop at b)
+
+  after : drop (size y) y ≡ drop (q.start + q.size) b
+  after = ap (drop (size y)) e ∙ drop-drop (size y) at b ∙ ap (λ (n : ℕ). drop n b) (sym end_is)
+
+  pub last_left : is_last q.code ≡ true → parts_left at (drop at b) ≡ Some (q ∷ [])
+  last_left l = ap (parts_left at) (sym e) ∙ reads_last at q (size y) y reads l
+
+  pub more_left : is_last q.code ≡ false
+      → parts_left at (drop at b) ≡ option_map (λ qs. q ∷ qs) (parts_left (q.start + q.size) (drop (q.start + q.size) b))
+  more_left l =
+      ap (parts_left at) (sym e) ∙ reads_more at q (size y) y reads l
+      ∙ ap (λ (n : ℕ). option_map (λ (qs : List Part). q ∷ qs) (parts_left n (drop (size y) y))) (sym end_is)
+      ∙ ap (λ (z : List ℕ). option_map (λ (qs : List Part). q ∷ qs) (parts_left (q.start + q.size) z)) after
+
+  module _ (ps : List Part) (r : Behind b ps (drop at b) at) where
+    whole_is : b ≡ 255 ∷ 216 ∷ ((r.front ++ begun.front) ++ drop (q.start + q.size) b)
+    whole_is =
+        r.whole
+        ∙ ap (λ (z : List ℕ). 255 ∷ 216 ∷ (r.front ++ z)) (sym e ∙ begun.whole ∙ ap (λ (z : List ℕ). begun.front ++ z) after)
+        ∙ ap (λ (z : List ℕ). 255 ∷ 216 ∷ z) (sym (append_assoc r.front begun.front (drop (q.start + q.size) b)))
+
+    pub next_behind : is_last q.code ≡ false → Behind b (ps ++ q ∷ []) (drop (q.start + q.size) b) (q.start + q.size)
+    next_behind l = record {
+      front = r.front ++ begun.front;
+      whole = whole_is;
+      spells = spells_more ps 2 r.front q begun.front r.spells (subst (λ (k : ℕ). IsPart k q begun.front) r.place begun.is);
+      before = none_more ps q r.before l;
+      place = omega (arith, end_is, begun.long, r.place, length-append r.front begun.front);
+    }
+
+    pub says_head : is_last q.code ≡ true → HasHead b (ps ++ q ∷ [])
+    says_head l = record {
+      spelled = r.front ++ begun.front;
+      rest = drop (q.start + q.size) b;
+      whole = whole_is;
+      spells = spells_more ps 2 r.front q begun.front r.spells (subst (λ (k : ℕ). IsPart k q begun.front) r.place begun.is);
+      ends = ends_behind ps q r.before l;
+    }
+
+-- the start mark was read
+pub start_long : (b : List ℕ) → starts b ≡ true → 2 ≤ length b
+start_long b s =
+    let a = and_parts (nat_le 2 (length b) && (slice_index b 0 == 255)) (slice_index b 1 == 216) s in
+    leb-true 2 (length b) (and_parts (nat_le 2 (length b)) (slice_index b 0 == 255) a.0).0
+
+-- a head that was read is the one that is computed
+pub some_head : (b : List ℕ) (qs : List Part) → HasHead b qs → is_some (head_of b) ≡ true
+some_head b qs s = ap is_some (said_computed b qs s)
+
+pub whole_head : (b : List ℕ) (qs : List Part) → HasHead b qs → HasHead b (unwrap_or (head_of b) [])
+whole_head b qs s =
+    subst (HasHead b) (sym (ap (λ (o : Option (List Part)). unwrap_or o []) (said_computed b qs s))) s
+
+none_not_some : {X : Type 0} (o : Option X) → o ≡ None → is_some o ≡ true → ⊥
+none_not_some o e h = let clash : false ≡ true = sym (ap is_some e) ∙ h in cc
+
+pub head_left : (b : List ℕ) → is_some (head_of b) ≡ true → (2 ≤ length b) × (head_of b ≡ parts_left 2 (drop 2 b))
+unfolding head_of
+head_left b h = elim (cases_Bool (starts b)) [
+  | inl t ↦ (start_long b t, cond-true (starts b) (parts_left 2 (drop 2 b)) None t)
+  | inr f ↦ absurd (none_not_some (head_of b) (cond-false (starts b) (parts_left 2 (drop 2 b)) None f) h)
+]
+
+pub no_fault : (c : Cause) (p : ℕ) (x : List ℕ) → FaultAt c x → is_some (parts_left p x) ≡ true → ⊥
+no_fault c p x f h = none_not_some (parts_left p x) (left_none p x (fault_no_part c x f)) h
+
+pub rest_some : (q : Part) (o p : Option (List Part)) → o ≡ option_map (λ qs. q ∷ qs) p → is_some o ≡ true → is_some p ≡ true
+rest_some q o None e h = absurd (none_not_some o e h)
+rest_some q o (Some qs) e h = refl
+
+pub rest_is : (q : Part) (o p : Option (List Part)) → o ≡ option_map (λ qs. q ∷ qs) p → is_some o ≡ true
+    → unwrap_or o [] ≡ q ∷ unwrap_or p []
+rest_is q o None e h = absurd (none_not_some o e h)
+rest_is q o (Some qs) e h = ap (λ (r : Option (List Part)). unwrap_or r []) e

@@ -1,0 +1,49 @@
+-- The laws of the definitions.
+use Rattle.std.specs.Prelude.{◌≡◌, ◌↔◌, ◌≢◌, ◌+◌, ◌++◌, ℕ, List, [], ◌∷◌, Some, None, flat_map, take}
+use Rattle.px_jpeg.specs.declared.parts.Part.{Part}
+use Rattle.px_jpeg.specs.declared.faults.Cause.{Cause}
+use Rattle.px_jpeg.specs.declared.faults.Cause.TheVariants.{NoStart, NoMarker, LengthForm}
+use Rattle.px_jpeg.specs.Head.{HasHead}
+use Rattle.px_jpeg.specs.Fault.{Behind, Fault}
+use Rattle.px_jpeg.specs.Reading.{head_of}
+use Rattle.px_jpeg.specs.declared.resources.Resource.{Resource}
+use Rattle.px_jpeg.specs.Resources.{HasResources}
+use Rattle.px_jpeg.specs.Pieces.{pieces}
+use Rattle.px_jpeg.specs.Blocks.{piece_octets, blocks}
+
+-- The parts of a head can be computed.
+abbrev pub Computes : Type 0
+Computes = (b : List ℕ) (parts : List Part) → HasHead b parts ↔ (head_of b ≡ Some parts)
+
+-- Bytes have at most one head.
+abbrev pub OneHead : Type 0
+OneHead = (b : List ℕ) (parts others : List Part) → HasHead b parts → HasHead b others → parts ≡ others
+
+-- Bytes with a fault have no head, and there is at most one first fault.
+abbrev pub FaultsTell : Type 0
+FaultsTell = ((b : List ℕ) (c : Cause) (p : ℕ) (parts : List Part) → Fault b c p → HasHead b parts → ⊥)
+    × ((b : List ℕ) (c d : Cause) (p r : ℕ) → Fault b c p → Fault b d r → (c ≡ d) × (p ≡ r))
+
+-- Bytes can be cut into resources and a rest in only one way.
+abbrev pub OneCut : Type 0
+OneCut = (x : List ℕ) (rs qs : List Resource) (rest more : List ℕ) → HasResources x rs rest → HasResources x qs more
+    → (rs ≡ qs) × (rest ≡ more)
+
+-- A file's first bytes serve: their head is the file's, and so are their faults, except that they are too short.
+abbrev pub FrontServes : Type 0
+FrontServes = ((b more : List ℕ) (parts : List Part) → HasHead b parts → HasHead (b ++ more) parts)
+    × ((b more : List ℕ) (p : ℕ) → Fault b NoMarker p → Fault (b ++ more) NoMarker p)
+    × ((b more : List ℕ) (p : ℕ) → Fault b LengthForm p → Fault (b ++ more) LengthForm p)
+
+-- The blocks have exactly the bytes of the pieces, in order.
+abbrev pub BlocksJoin : Type 0
+BlocksJoin = (b : List ℕ) (parts : List Part) → flat_map (λ k. k.octets) (blocks b parts) ≡ flat_map (piece_octets b) (pieces b None parts)
+
+-- the end mark, FF D9, at offset p
+abbrev pub end_mark : ℕ → Part
+end_mark p = record { code = 217; start = p + 2; size = 0 }
+
+-- What stands before a fault can be read: with an end mark in place of the rest, the bytes are a head of the parts before the fault.
+abbrev pub FaultServes : Type 0
+FaultServes = (b : List ℕ) (c : Cause) (p : ℕ) → c ≢ NoStart → Fault b c p → (parts : List Part) × (rest : List ℕ) × Behind b parts rest p
+    × HasHead (take p b ++ 255 ∷ 217 ∷ []) (parts ++ end_mark p ∷ [])

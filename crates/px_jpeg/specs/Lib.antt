@@ -1,0 +1,9 @@
+pub mod Head
+pub mod Fault
+pub mod Reading
+pub mod Laws
+pub mod Pieces
+pub mod ResourceReading
+pub mod Resources
+pub mod Blocks
+pub mod Extended

@@ -1,0 +1,93 @@
+-- The parts of a head that contain Exif or Photoshop's image resources, and the blocks that they make up.
+use Rattle.std.specs.Prelude.{◌≤◌, ◌+◌, ◌-◌, ◌==◌, ◌&&◌, ◌||◌, ℕ, Bool, true, false, if◌then◌else◌, nat_eq}
+use Rattle.std.specs.Prelude.{Option, Some, None, List, [], ◌∷◌}
+use Rattle.std.specs.Prelude.{◌++◌, codes, length, take, drop}
+use Rattle.std.specs.List.{AllByRecursion, starts_with}
+use Rattle.px_jpeg.specs.declared.parts.Part.{Part}
+use Rattle.px_jpeg.specs.declared.pieces.Kind.{Kind}
+use Rattle.px_jpeg.specs.declared.pieces.Kind.TheVariants.{Exif, Photoshop, Xmp, ExtendedXmp}
+use Rattle.px_jpeg.specs.declared.pieces.Piece.{Piece}
+
+-- each part is in the bytes b
+abbrev pub AllInside : List ℕ → List Part → Type 0
+AllInside b qs = AllByRecursion (λ q. q.start + q.size ≤ length b) qs
+
+-- CIPA DC-008, 4.7.2: the Exif of APP1 begins with 'Exif' and two zeros
+abbrev pub exif_mark : List ℕ
+exif_mark = codes "Exif" ++ 0 ∷ 0 ∷ []
+
+-- Photoshop's image resources begin with this text and a zero
+abbrev pub photoshop_mark : List ℕ
+photoshop_mark = codes "Photoshop 3.0" ++ 0 ∷ []
+
+-- XMP part 3, 1.1.3: a packet of XMP begins with this text and a zero
+abbrev pub xmp_mark : List ℕ
+xmp_mark = codes "http://ns.adobe.com/xap/1.0/" ++ 0 ∷ []
+
+-- XMP part 3, 1.1.3.1: a piece of extended XMP begins with this text and a zero
+abbrev pub extended_mark : List ℕ
+extended_mark = codes "http://ns.adobe.com/xmp/extension/" ++ 0 ∷ []
+
+-- a segment with this marker and these data begins with a mark
+abbrev pub is_marked : ℕ → List ℕ → ℕ → List ℕ → Bool
+is_marked marker mark code octets = (code == marker) && starts_with nat_eq octets mark
+
+-- APP1 is E1, APP13 is ED
+unfoldable pub is_exif : ℕ → List ℕ → Bool
+is_exif = is_marked 225 exif_mark
+
+unfoldable pub is_photoshop : ℕ → List ℕ → Bool
+is_photoshop = is_marked 237 photoshop_mark
+
+unfoldable pub is_xmp : ℕ → List ℕ → Bool
+is_xmp = is_marked 225 xmp_mark
+
+unfoldable pub is_extended : ℕ → List ℕ → Bool
+is_extended = is_marked 225 extended_mark
+
+-- what a segment with this marker and these data contains
+unfoldable pub kind_of : ℕ → List ℕ → Option Kind
+kind_of code octets =
+    if is_exif code octets then Some Exif
+    else if is_photoshop code octets then Some Photoshop
+    else if is_xmp code octets then Some Xmp
+    else if is_extended code octets then Some ExtendedXmp
+    else None
+
+abbrev pub mark_len : Kind → ℕ
+mark_len Exif = 6
+mark_len Photoshop = 14
+mark_len Xmp = 29
+mark_len ExtendedXmp = 35
+
+-- 'II*' and a zero, or 'MM', a zero and '*'
+unfoldable pub is_header : List ℕ → Bool
+is_header octets = starts_with nat_eq octets (73 ∷ 73 ∷ 42 ∷ 0 ∷ []) || starts_with nat_eq octets (77 ∷ 77 ∷ 0 ∷ 42 ∷ [])
+
+-- Exif without a header continues the Exif of the part before, and Photoshop's resources those of the part before; all else begins a block
+abbrev pub begins : Kind → Option Kind → List ℕ → Bool
+begins Exif (Some Exif) octets = is_header octets
+begins Photoshop (Some Photoshop) octets = false
+begins kind last octets = true
+
+abbrev pub range : List ℕ → ℕ → ℕ → List ℕ
+range b start size = take size (drop start b)
+
+abbrev pub piece_of : List ℕ → Part → Kind → Option Kind → Piece
+piece_of b q k last = record {
+  kind = k;
+  begins = begins k last (range b (q.start + mark_len k) (q.size - mark_len k));
+  start = q.start + mark_len k;
+  size = q.size - mark_len k;
+}
+
+-- a part's piece, if it has a kind, after a part of the kind `last`
+abbrev pub piece_in : List ℕ → Part → Option Kind → Option Kind → List Piece
+piece_in b q last None = []
+piece_in b q last (Some k) = piece_of b q k last ∷ []
+
+-- the pieces of some parts, in order
+abbrev pub pieces : List ℕ → Option Kind → List Part → List Piece
+pieces b last [] = []
+pieces b last (q ∷ qs) =
+    piece_in b q last (kind_of q.code (range b q.start q.size)) ++ pieces b (kind_of q.code (range b q.start q.size)) qs

@@ -1,0 +1,19 @@
+//! The head of a JPEG picture: what stands before its first scan. ITU-T T.81, Annex B. It finds the segments
+//! with metadata without reading what is in them. It opens no file and allocates nothing.
+#![tactic(auto)]
+
+mod bytes;
+mod extended;
+mod faults;
+mod head;
+pub mod laws;
+mod parts;
+mod pieces;
+mod resources;
+
+pub use extended::{EXTENDED_HEAD, Extended, read_extended};
+pub use faults::{Cause, HeadFault};
+pub use head::{Head, Parts, read_head};
+pub use parts::Part;
+pub use pieces::{Kind, Piece, Pieces, store_pieces};
+pub use resources::{Resource, Resources, find_resources};

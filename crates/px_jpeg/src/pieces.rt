@@ -1,0 +1,244 @@
+// The segments of a head that contain Exif or Photoshop's image resources. CIPA DC-008, 4.7.2; Adobe Photoshop File Formats.
+ghost use Rattle.std.specs.Prelude.{◌≡◌, ◌≤◌, ◌<◌, ◌+◌, ◌∷◌, [], true, Some, None, length, take, drop, IfSome, MatchOption};
+ghost use Rattle.px_jpeg.specs.Pieces.{is_exif, is_photoshop, is_xmp, is_extended, kind_of, is_header, begins};
+ghost use Rattle.px_jpeg.specs.Pieces.{mark_len, piece_of, pieces, AllInside};
+
+use crate::bytes::range;
+use crate::head::{Head, Parts};
+use crate::parts::Part;
+use std::marker::Model;
+
+/// What a segment contains.
+#[derive(Clone, Copy, Debug, PartialEq, Eq)]
+pub enum Kind {
+    /// A block of Exif, or a part of one: an APP1 segment whose data begin with `Exif` and two zeros.
+    Exif,
+    /// Photoshop's image resources, or a part of them: an APP13 segment whose data begin with `Photoshop 3.0` and
+    /// a zero.
+    Photoshop,
+    /// A packet of XMP: an APP1 segment whose data begin with `http://ns.adobe.com/xap/1.0/` and a zero.
+    Xmp,
+    /// A piece of extended XMP: an APP1 segment whose data begin with `http://ns.adobe.com/xmp/extension/` and a
+    /// zero. `read_extended` tells which piece it is.
+    ExtendedXmp,
+}
+
+/// The bytes of one segment that belong to a block: its data after the mark that names the kind.
+#[derive(Clone, Copy, Debug, PartialEq, Eq)]
+pub struct Piece {
+    /// What it contains.
+    pub kind: Kind,
+    /// Whether a block begins here. Otherwise it continues the block of the piece before.
+    pub begins: bool,
+    /// The offset of the bytes.
+    pub start: usize,
+    /// Their number.
+    pub size: usize,
+}
+
+// Whether a segment with this marker and these data contains Exif.
+#[tactic(auto, unfolding(crate::specs::Pieces::is_exif))]
+fn is_exif(code: u8, octets: &[u8]) -> bool
+    ensures value { result ≡ is_exif code octets.now }
+    ensures few { result ≡ true → 6 ≤ length octets.now }
+{
+    code == 0xE1 && octets.starts_with(b"Exif\0\0")
+}
+
+// Whether it contains Photoshop's image resources.
+#[tactic(auto, unfolding(crate::specs::Pieces::is_photoshop))]
+fn is_photoshop(code: u8, octets: &[u8]) -> bool
+    ensures value { result ≡ is_photoshop code octets.now }
+    ensures few { result ≡ true → 14 ≤ length octets.now }
+{
+    code == 0xED && octets.starts_with(b"Photoshop 3.0\0")
+}
+
+// Whether it contains a packet of XMP.
+#[tactic(auto, unfolding(crate::specs::Pieces::is_xmp))]
+fn is_xmp(code: u8, octets: &[u8]) -> bool
+    ensures value { result ≡ is_xmp code octets.now }
+    ensures few { result ≡ true → 29 ≤ length octets.now }
+{
+    code == 0xE1 && octets.starts_with(b"http://ns.adobe.com/xap/1.0/\0")
+}
+
+// Whether it contains a piece of extended XMP.
+#[tactic(auto, unfolding(crate::specs::Pieces::is_extended))]
+fn is_extended(code: u8, octets: &[u8]) -> bool
+    ensures value { result ≡ is_extended code octets.now }
+    ensures few { result ≡ true → 35 ≤ length octets.now }
+{
+    code == 0xE1 && octets.starts_with(b"http://ns.adobe.com/xmp/extension/\0")
+}
+
+// What a segment with this marker and these data contains.
+#[tactic(auto, unfolding(crate::specs::Pieces::kind_of))]
+fn kind_of(code: u8, octets: &[u8]) -> Option<Kind>
+    ensures value { result ≡ kind_of code octets.now }
+    ensures few { IfSome result (λ kind. mark_len kind ≤ length octets.now) }
+{
+    if is_exif(code, octets) {
+        return Some(Kind::Exif);
+    }
+    if is_photoshop(code, octets) {
+        return Some(Kind::Photoshop);
+    }
+    if is_xmp(code, octets) {
+        return Some(Kind::Xmp);
+    }
+    if is_extended(code, octets) {
+        return Some(Kind::ExtendedXmp);
+    }
+    None
+}
+
+// Whether some bytes begin with a header of TIFF.
+#[tactic(auto, unfolding(crate::specs::Pieces::is_header))]
+fn is_header(octets: &[u8]) -> bool
+    ensures { result ≡ is_header octets.now }
+{
+    octets.starts_with(b"II*\0") || octets.starts_with(b"MM\0*")
+}
+
+// Whether a block begins with these bytes, after a segment of the kind `last`.
+fn begins(kind: Kind, last: Option<Kind>, octets: &[u8]) -> bool
+    ensures { result ≡ begins kind last octets.now }
+{
+    match kind {
+        Kind::Exif => match last {
+            Some(Kind::Exif) => is_header(octets),
+            _ => true,
+        },
+        Kind::Photoshop => match last {
+            Some(Kind::Photoshop) => false,
+            _ => true,
+        },
+        Kind::Xmp | Kind::ExtendedXmp => true,
+    }
+}
+
+// The number of bytes that name the kind.
+fn mark_len(kind: Kind) -> usize
+    ensures value { result ≡ mark_len kind }
+    ensures few { result ≤ 35 }
+{
+    match kind {
+        Kind::Exif => 6,
+        Kind::Photoshop => 14,
+        Kind::Xmp => 29,
+        Kind::ExtendedXmp => 35,
+    }
+}
+
+// The piece in a segment of this kind, after one of the kind `last`.
+fn piece_of(bytes: &[u8], part: &Part, kind: Kind, last: Option<Kind>) -> Piece
+    requires inside { part.now.start + part.now.size ≤ length bytes.now }
+    requires marked { mark_len kind ≤ part.now.size }
+    ensures { result ≡ piece_of bytes.now part.now kind last }
+{
+    let mark = mark_len(kind);
+    let start = part.start + mark;
+    let size = part.size - mark;
+    Piece {
+        kind,
+        begins: begins(kind, last, range(bytes, start, size)),
+        start,
+        size,
+    }
+}
+
+// The next piece of the parts that are left.
+fn next_piece<'a>(bytes: &[u8], parts: &mut Parts<'a>, last: Option<Kind>) -> Option<Piece>
+    requires { AllInside bytes.now parts.old }
+    ensures inside { AllInside bytes.now parts.new }
+    ensures steps { MatchOption result ((pieces bytes.now last parts.old ≡ []) × (parts.new ≡ []))
+        (λ x. pieces bytes.now last parts.old ≡ x ∷ pieces bytes.now (Some x.kind) parts.new) }
+{
+    let mut before = last;
+    loop {
+        let Some(part) = parts.next() else {
+            return None;
+        };
+        match kind_of(part.code, range(bytes, part.start, part.size)) {
+            Some(kind) => return Some(piece_of(bytes, &part, kind, before)),
+            None => before = None,
+        }
+    }
+}
+
+/// The pieces of a head that are left, in order: the result of `Head::pieces`. Contracts see their list. It
+/// allocates nothing.
+#[derive(Drop)]
+pub struct Pieces<'a> {
+    bytes: &'a [u8],
+    parts: Parts<'a>,
+    // The kind of the part before.
+    last: Option<Kind>,
+}
+
+impl<'a> Model for Pieces<'a> {
+    ghost use Rattle.std.specs.Prelude.{List};
+    ghost use Rattle.px_jpeg.specs.declared.pieces.Piece.{Piece};
+    ghost use Rattle.px_jpeg.specs.Pieces.{pieces, AllInside};
+
+    ghost Value = { List Piece };
+
+    ghost view = { λ s. pieces s.bytes.now s.last s.parts };
+
+    ghost invariant = { λ s. AllInside s.bytes.now s.parts };
+}
+
+impl<'a> Iterator for Pieces<'a> {
+    ghost use Rattle.std.specs.Iterator.{item_count, YieldsFirst};
+
+    type Item = Piece;
+
+    ghost next_gives = { YieldsFirst (λ left. left) };
+
+    ghost remaining = { item_count (λ left. left) };
+
+    fn next(&mut self) -> Option<Piece> {
+        match next_piece(self.bytes, &mut self.parts, self.last) {
+            Some(piece) => {
+                self.last = Some(piece.kind);
+                Some(piece)
+            }
+            None => None,
+        }
+    }
+}
+
+impl<'a> Head<'a> {
+    /// The pieces of Exif and of Photoshop's image resources, in order.
+    pub fn pieces(&self) -> Pieces<'a>
+        ensures { result ≡ pieces self.now.octets None self.now.parts }
+    {
+        Pieces {
+            bytes: self.bytes(),
+            parts: self.parts(),
+            last: None,
+        }
+    }
+}
+
+/// Stores the pieces of a head at the start of `out` and returns their number, or returns `None` if `out` is
+/// shorter.
+pub fn store_pieces(head: &Head, out: &mut [Piece]) -> Option<usize>
+    ensures stored { IfSome result (λ n. take n out.new ≡ pieces head.now.octets None head.now.parts) }
+    ensures within { IfSome result (λ n. n ≤ length out.old) }
+    ensures short { result ≡ None → length out.old < length (pieces head.now.octets None head.now.parts) }
+{
+    let mut left = head.pieces();
+    let mut n = 0;
+    loop {
+        let Some(piece) = left.next() else {
+            return Some(n);
+        };
+        if n == out.len() {
+            return None;
+        }
+        out[n] = piece;
+        n += 1;
+    }
+}
