@@ -48,7 +48,7 @@ program = $$(ls out/exifnorm 2>/dev/null || ls crates/px_cli/out/px_cli)
 packages = $(eval packages := $(patsubst python/%/__init__.py,%,$(shell find python -name __init__.py)))$(packages)
 pages = $(wildcard docs/*.1 docs/*.3)
 # the licences, and the documents that installed pages, documents and modules refer to, with their pictures
-papers = LICENSE-APACHE LICENSE-MIT CHANGELOG.md $(addprefix docs/,DECISIONS.md FORMAT.md JSON.md RECIPES.md REFUSALS.md TUTORIAL.md) $(wildcard docs/*.png)
+papers = LICENSE-APACHE LICENSE-MIT CHANGELOG.md $(addprefix docs/,CATALOGUE.md DECISIONS.md FORMAT.md JSON.md RECIPES.md REFUSALS.md TUTORIAL.md) $(wildcard docs/*.png)
 # all that is installed, before it is copied to its folder
 stage = out/stage
 

@@ -122,6 +122,8 @@ def test_a_catalogue(objects, odd):
     finally:
         os.rename(odd / "other twin.jpg", odd / "twin too.jpg")
     objects("same", "--catalogue", "@/c", "--no-look", "--kind", "xmp")
+    (summary,) = objects("export", "@/c", "@/tables.sqlite")
+    assert summary["rows"]["pictures"] == len(pictures)
 
 
 # Values

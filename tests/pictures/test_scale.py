@@ -130,6 +130,10 @@ class Scale(WithPictures):
             self.grows_little(less, more, 100_000 * 700 / (1 << 20))
         self.assertEqual([json.loads(it)["count"] for it in self.said.splitlines()[:-1]], [120000])
 
+    def test_memory_of_export(self):
+        costs = [self.counted("export", "--no-look", self.catalogue(f"of{count}", count), "tables") for count in (2000, 20000)]
+        self.grows_little(*costs, MORE_GROWTH)
+
     def test_memory_of_changed_where_all_moved(self):
         costs = []
         for count in (1200, 12000):

@@ -152,6 +152,7 @@ class Tree:
             f"{prefix}/lib/pkgconfig/exifnorm.pc": FILE,
             f"{prefix}/share/bash-completion/completions/exifnorm": FILE,
             f"{prefix}/share/bash-completion/completions/exifnorm-pictures": FILE,
+            f"{prefix}/share/doc/exifnorm/CATALOGUE.md": FILE,
             f"{prefix}/share/doc/exifnorm/CHANGELOG.md": FILE,
             f"{prefix}/share/doc/exifnorm/DECISIONS.md": FILE,
             f"{prefix}/share/doc/exifnorm/FORMAT.md": FILE,

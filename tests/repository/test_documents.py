@@ -22,7 +22,7 @@ from made_blocks import BLOCKS, with_exif
 
 TOP = Path(__file__).resolve().parent.parent.parent
 DOCUMENTS = sorted([*TOP.glob("*.md"), *TOP.glob("docs/*.md"), *TOP.glob("*/README.md"), *TOP.glob("crates/*/*.md")])
-WHOLE = ("README.md", "docs/TUTORIAL.md", "docs/JSON.md")  # whose sections build on one another
+WHOLE = ("README.md", "docs/TUTORIAL.md", "docs/CATALOGUE.md", "docs/JSON.md")  # whose sections build on one another
 BY_SECTION = ("docs/RECIPES.md", "docs/REFUSALS.md")
 HEADER = "crates/px_c/include/exifnorm.h"
 TOOLS = ("exiftool", "exiv2", "convert", "parallel", "sqlite3", "perl")

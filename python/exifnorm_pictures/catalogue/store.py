@@ -20,7 +20,7 @@ from ..cli.signals import Failure
 from ..extract.budgets import ROW_BYTES, STEPS
 from ..extract.formats.found import NotRead
 from ..files import mounts, opening as files
-from .records import Damaged, Picture, PictureRecord, Stamp, digests, has, not_read_of_row, picture_of_row
+from .records import Block, Damaged, Picture, PictureRecord, Stamp, block_of_row, digests, has, not_read_of_row, picture_of_row
 
 APPLICATION = 0x45584E50  # 'EXNP', which distinguishes a catalogue from other SQLite files
 VERSION = 3
@@ -448,6 +448,11 @@ class Catalogue:
         query = "SELECT what, digest FROM not_read WHERE picture = ? ORDER BY number"
         return list(self.rows(query, (picture.id,), not_read_of_row))
 
+    def blocks_of(self, picture: Picture) -> List[Tuple[Block, bytes]]:
+        """The blocks of a picture, each with its packed fields; empty if they aren't kept."""
+        query = f"SELECT {BLOCK_COLUMNS}, fields FROM blocks WHERE picture = ? ORDER BY number"
+        return list(self.rows(query, (picture.id,), _block_with_fields))
+
     def choose(self, paths: Iterable[bytes]) -> str:
         """A temporary table of paths; its name."""
         with self.guarded():
@@ -507,6 +512,12 @@ def _row(it: PictureRecord) -> Tuple[object, ...]:
     """A picture as a row, without its number and run."""
     stamp = it.stamp or (None, None, None, None, None)
     return (it.path, it.root, *stamp, it.type, it.extractor, it.problem, it.detail, *digests(it), it.file)
+
+
+def _block_with_fields(row: Tuple[Any, ...]) -> Tuple[Block, bytes]:
+    packed = b"" if row[-1] is None else row[-1]
+    has(bytes, packed)
+    return block_of_row(row[:-1]), packed
 
 
 def root_of_row(row: Tuple[bytes]) -> bytes:

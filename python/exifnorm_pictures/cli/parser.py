@@ -236,6 +236,14 @@ def _report_arguments(it: argparse.ArgumentParser) -> None:
     _limit_arguments(it)
 
 
+def _export_arguments(it: argparse.ArgumentParser) -> None:
+    _example(it, "export archive.catalogue archive.sqlite")
+    it.add_argument("catalogue", type=_name, metavar="CATALOGUE", help="the catalogue to read")
+    it.add_argument("file", type=_name, metavar="FILE", help="the file to write, which may replace an earlier export and no other file")
+    it.add_argument("--no-look", action="store_true", help="don't look at the files, as for a catalogue from elsewhere")
+    _limit_arguments(it)
+
+
 def _mend_arguments(it: argparse.ArgumentParser) -> None:
     it.add_argument(
         "names", nargs="+", type=_name, metavar="PICTURE OUT", help="the picture and the copy; with --files-from only a folder OUT"
@@ -264,5 +272,6 @@ _COMMANDS: Tuple[Tuple[str, str, Callable[[argparse.ArgumentParser], None]], ...
     ("conflicts", "list pictures whose Exif, IPTC and XMP contradict each other", _conflicts_arguments),
     ("explain", "explain why a block is refused, and name remedies", _pictures_arguments),
     ("report", "write one page about a catalogue", _report_arguments),
+    ("export", "write a catalogue as plain tables of SQLite, for SQL, Datasette and pandas", _export_arguments),
     ("mend", "write a copy of a picture whose block is accepted", _mend_arguments),
 )

@@ -50,7 +50,7 @@ LABELS = (
 COMMENT, DATE = "comment", "date created"
 WORDS = (*(it.word for it in LABELS), COMMENT)
 # Texts that Windows writes beside the others, in UTF-16. They are shown, and nothing is compared with them.
-_WINDOWS = {"9c9b": "title", "9c9c": COMMENT, "9c9d": "creator", "9c9e": "keywords", "9c9f": "title"}
+WINDOWS = {"9c9b": "title", "9c9c": COMMENT, "9c9d": "creator", "9c9e": "keywords", "9c9f": "title"}
 
 
 class LabelText(NamedTuple):
@@ -131,7 +131,7 @@ def _extra(exif: _Values) -> Iterator[LabelText]:
         text = comment(octets)
         if text:
             yield LabelText(COMMENT, EXIF, group_name("exif", "9286"), (text,), is_extra=True)
-    for tag, word in _WINDOWS.items():
+    for tag, word in WINDOWS.items():
         for octets in exif.get(tag, []):
             text = octets[: len(octets) & ~1].decode("utf-16-le", "replace").rstrip("\0 ")
             if text:

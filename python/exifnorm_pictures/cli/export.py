@@ -1,0 +1,72 @@
+"""The command `export`."""
+
+from __future__ import annotations
+
+import argparse
+import os
+import shutil
+from datetime import datetime, timezone
+
+import exifnorm
+
+from ..catalogue.store import Catalogue
+from ..export.rows import Export
+from ..export.tables import VERSION, Tables, head_is_ours, tables
+from ..extract import exiftool, programs
+from ..files import atomic, tempdir
+from .exit_codes import SUCCESS
+from .names import chosen_paths
+from .objects import print_object
+from .output import path_members, print_line, shown_path
+
+
+def run(arguments: argparse.Namespace) -> int:
+    """Writes a catalogue as plain tables of SQLite."""
+    chosen = chosen_paths(arguments)
+    programs.set_limit(arguments.limit)
+    with tempdir.room() as room, Catalogue(arguments.catalogue) as catalogue:
+        exiftool.begin(room)
+        try:
+            made = os.path.join(room, "export")
+            with tables(made) as written:
+                _add_about(written, catalogue)
+                work = Export(catalogue, written, None if chosen is None else catalogue.choose(chosen), not arguments.no_look)
+                work.all()
+        finally:
+            exiftool.finish()
+        _put(made, arguments)
+    counts = {name: written.counts.get(name, 0) for name in ("pictures", "fields", "captions", "conflicts", "groups")}
+    if arguments.json:
+        print_object("export", "summary", {**path_members(os.fsencode(arguments.file)), "rows": counts, "texts_not_kept": work.missing})
+    else:
+        print_line(f"{shown_path(arguments.file)}: {', '.join(f'{count:,} rows of {name}' for name, count in counts.items())}")
+        if work.missing:
+            why = "have a text that is too long for the catalogue, and their files are gone, have changed or weren't looked at"
+            print_line(f"{work.missing:,} picture{'s' * (work.missing != 1)} {why}: these texts are NULL")
+    return SUCCESS
+
+
+def _add_about(written: Tables, catalogue: Catalogue) -> None:
+    """What was written, from what, when and by which version."""
+    now = datetime.now(timezone.utc).strftime("%Y-%m-%d %H:%M:%S")
+    runs = catalogue.runs()
+    last = next((it for it in reversed(runs) if it[2]), None)
+    about = {
+        "schema": str(VERSION),
+        "exifnorm": exifnorm.version(),
+        "exported": now,
+        "catalogue": os.path.abspath(catalogue.name),
+        "indexed": runs[-1][0] if runs else "",
+        "indexed by": (last[2] if last else None) or "",
+    }
+    written.add("about", about.items())
+
+
+def _put(made: str, arguments: argparse.Namespace) -> None:
+    """Copies the tables to their place, where they may replace an earlier export and no other file."""
+    with open(made, "rb") as whole:
+        try:
+            kept = (arguments.catalogue,)
+            atomic.replace(os.fsencode(arguments.file), lambda file: shutil.copyfileobj(whole, file), head_is_ours, kept)
+        except atomic.NotReplaced as error:
+            raise atomic.NotReplaced(f"{arguments.file} isn't written: {error}") from None

@@ -1,0 +1,1 @@
+"""A catalogue as plain tables of SQLite, for SQL, Datasette and pandas."""

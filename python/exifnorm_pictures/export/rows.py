@@ -1,0 +1,109 @@
+"""The rows of an export, picture by picture."""
+
+from __future__ import annotations
+
+import functools
+from datetime import datetime, timedelta, timezone
+from typing import Iterator, List, Optional, Sequence, Tuple
+
+from ..catalogue.records import WORDS, Block, Picture
+from ..catalogue.store import Catalogue
+from ..catalogue.texts import texts_of
+from ..cli.output import shown_path
+from ..compare.conflicts import ALIKE, conflicts
+from ..compare.groups import groups
+from ..fields.labels import LabelText
+from ..fields.listing import Field, unpacked
+from ..fields.plain_names import exact_key, group_name
+from ..fields.plain_values import plain
+from ..fields.typed import typed
+from ..refusals import steps
+from .tables import Row, Tables
+
+_BEGINNING = datetime(1970, 1, 1, tzinfo=timezone.utc)
+
+
+class Export:
+    """Fills the tables of an export."""
+
+    def __init__(self, catalogue: Catalogue, tables: Tables, only: Optional[str], look: bool) -> None:
+        self.catalogue, self.tables, self.only, self.look = catalogue, tables, only, look
+        self.missing = 0  # pictures with a text that is neither kept nor read
+
+    def all(self) -> None:
+        """Adds each picture, and then the groups."""
+        for it in self.catalogue.pictures(self.only):
+            self._picture(it)
+        for number, group in enumerate(groups(self.catalogue, only=self.only, look=self.look), 1):
+            keep = group.to_keep() if self.look else None
+            about = (number, group.basis, group.sentence())
+            self.tables.add("groups", ((*about, it.id, None if keep is None else int(it is keep)) for it in group.members))
+
+    def _picture(self, it: Picture) -> None:
+        self.tables.add("pictures", [_picture_row(it)])
+        with self.catalogue.guarded():
+            blocks = [(block, unpacked(kept) if kept else []) for block, kept in self.catalogue.blocks_of(it)]
+        for number, (block, fields) in enumerate(blocks):
+            self.tables.add("blocks", [_block_row(it, number, block)])
+            self.tables.add("fields", ((it.id, number, at, *_field_row(one)) for at, one in enumerate(fields)))
+        self._texts(it, blocks)
+        if it.unread != "":
+            parts = self.catalogue.not_read_of(it)
+            self.tables.add("not_read", ((it.id, at, part.what) for at, part in enumerate(parts)))
+
+    def _texts(self, it: Picture, blocks: Sequence[Tuple[Block, List[Field]]]) -> None:
+        found = texts_of(it, blocks, self.look)
+        self.missing += bool(found.missing)
+        rows = [*_text_rows(found.texts), *((word, None, None, None, None, None) for word in sorted(found.missing))]
+        self.tables.add("captions", ((it.id, at, *row) for at, row in enumerate(rows)))
+        known = [one for one in conflicts(found.texts) if one.kind != ALIKE and one.label not in found.missing]
+        self.tables.add("conflicts", ((it.id, one.label, one.kind, one.detail or None) for one in known))
+
+
+def _picture_row(it: Picture) -> Row:
+    path, is_escaped = _path(it.path)
+    about = (it.type or None, _state(it), it.problem, it.detail or None, it.size, _time(it.marks[1]))
+    return (it.id, path, int(is_escaped), it.path if is_escaped else None, _path(it.root)[0], *about, *(one or None for one in it.said))
+
+
+def _path(path: bytes) -> Tuple[str, bool]:
+    """A path as a text, and whether it is escaped, since it is no UTF-8."""
+    try:
+        return path.decode("utf-8"), False
+    except UnicodeDecodeError:
+        return shown_path(path), True
+
+
+def _state(it: Picture) -> str:
+    return "not read" if it.problem else "no metadata" if it.state == "no block" else it.state
+
+
+def _time(nanoseconds: Optional[int]) -> Optional[str]:
+    """A time of the file system as UTC, without parts of a second; None for one that no calendar has."""
+    if nanoseconds is None:
+        return None
+    try:
+        return (_BEGINNING + timedelta(seconds=nanoseconds // 1_000_000_000)).strftime("%Y-%m-%d %H:%M:%S")
+    except OverflowError:
+        return None
+
+
+def _block_row(it: Picture, number: int, block: Block) -> Row:
+    repair = steps.words(block.steps) or None
+    about = (WORDS[block.kind], block.name, block.source, block.extractor, block.status, block.cause, block.place, block.length)
+    return (it.id, number, *about, repair, block.digest)
+
+
+@functools.lru_cache(maxsize=4096)  # pictures have many fields in common
+def _field_row(it: Field) -> Row:
+    value = typed(it)
+    number = float(value) if isinstance(value, (int, float)) else None
+    return (group_name(it.where, it.key), it.where, exact_key(it.where, it.key), it.type, it.elements, plain(it), it.shown, number)
+
+
+def _text_rows(found: Sequence[LabelText]) -> Iterator[Row]:
+    """A row for each text, several of a list."""
+    for it in found:
+        for text in it.texts:
+            if text:
+                yield it.label, it.standard, it.field, it.block or None, text, it.guess or None

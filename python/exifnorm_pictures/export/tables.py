@@ -1,0 +1,179 @@
+"""The tables of an export, which docs/CATALOGUE.md describes column by column."""
+
+from __future__ import annotations
+
+import contextlib
+import sqlite3
+from typing import Dict, Iterable, Iterator, List, Tuple
+
+from ..cli import signals
+from ..extract.budgets import STEPS
+
+APPLICATION = 0x45584E54  # 'EXNT', which distinguishes an export from a catalogue and from other SQLite files
+VERSION = 1
+_ROWS = 1000  # that are written at once
+_CACHE = 8_000  # kB
+
+SCHEMA = """
+CREATE TABLE about (
+    key TEXT PRIMARY KEY,
+    value TEXT NOT NULL
+) WITHOUT ROWID;
+CREATE TABLE pictures (
+    id INTEGER PRIMARY KEY,
+    path TEXT NOT NULL,
+    path_is_escaped INTEGER NOT NULL,
+    path_bytes BLOB,
+    folder TEXT NOT NULL,
+    type TEXT,
+    state TEXT NOT NULL,
+    problem TEXT,
+    detail TEXT,
+    size INTEGER,
+    modified TEXT,
+    exif TEXT,
+    iptc TEXT,
+    xmp TEXT
+);
+CREATE TABLE blocks (
+    picture INTEGER NOT NULL REFERENCES pictures(id),
+    block INTEGER NOT NULL,
+    kind TEXT NOT NULL,
+    name TEXT NOT NULL,
+    source TEXT NOT NULL,
+    extractor TEXT NOT NULL,
+    status TEXT NOT NULL,
+    cause TEXT,
+    offset INTEGER,
+    length INTEGER NOT NULL,
+    repair TEXT,
+    digest TEXT,
+    PRIMARY KEY (picture, block)
+) WITHOUT ROWID;
+CREATE TABLE fields (
+    picture INTEGER NOT NULL REFERENCES pictures(id),
+    block INTEGER NOT NULL,
+    position INTEGER NOT NULL,
+    name TEXT NOT NULL,
+    directory TEXT NOT NULL,
+    key TEXT NOT NULL,
+    type TEXT NOT NULL,
+    count INTEGER NOT NULL,
+    value TEXT NOT NULL,
+    exact TEXT NOT NULL,
+    number REAL,
+    PRIMARY KEY (picture, block, position)
+) WITHOUT ROWID;
+CREATE TABLE captions (
+    picture INTEGER NOT NULL REFERENCES pictures(id),
+    position INTEGER NOT NULL,
+    label TEXT NOT NULL,
+    standard TEXT,
+    field TEXT,
+    block TEXT,
+    text TEXT,
+    guess TEXT,
+    PRIMARY KEY (picture, position)
+) WITHOUT ROWID;
+CREATE TABLE conflicts (
+    picture INTEGER NOT NULL REFERENCES pictures(id),
+    label TEXT NOT NULL,
+    kind TEXT NOT NULL,
+    detail TEXT,
+    PRIMARY KEY (picture, label)
+) WITHOUT ROWID;
+CREATE TABLE not_read (
+    picture INTEGER NOT NULL REFERENCES pictures(id),
+    position INTEGER NOT NULL,
+    part TEXT NOT NULL,
+    PRIMARY KEY (picture, position)
+) WITHOUT ROWID;
+CREATE TABLE groups (
+    number INTEGER NOT NULL,
+    kind TEXT NOT NULL,
+    description TEXT NOT NULL,
+    picture INTEGER NOT NULL REFERENCES pictures(id),
+    keep INTEGER,
+    PRIMARY KEY (number, picture)
+) WITHOUT ROWID;
+"""
+_INDEXES = """
+CREATE INDEX pictures_by_path ON pictures (path);
+CREATE INDEX pictures_by_state ON pictures (state);
+CREATE INDEX fields_by_name ON fields (name, value);
+CREATE INDEX captions_by_label ON captions (label, text);
+CREATE INDEX groups_by_picture ON groups (picture);
+"""
+
+Row = Tuple[object, ...]
+
+
+class Tables:
+    """The tables of a new file, which are filled row by row in memory that doesn't grow with them."""
+
+    def __init__(self, base: sqlite3.Connection) -> None:
+        self._base = base
+        self._rows: Dict[str, List[Row]] = {}
+        self.counts: Dict[str, int] = {}
+
+    def add(self, table: str, rows: Iterable[Row]) -> None:
+        """Adds rows to a table."""
+        waiting = self._rows.setdefault(table, [])
+        before = len(waiting)
+        waiting += rows
+        self.counts[table] = self.counts.get(table, 0) + len(waiting) - before
+        if len(waiting) >= _ROWS:
+            self._write(table)
+
+    def _write(self, table: str) -> None:
+        rows = self._rows.pop(table, [])
+        if not rows:
+            return
+        places = ", ".join("?" * len(rows[0]))
+        try:
+            self._base.executemany(f"INSERT INTO {table} VALUES ({places})", rows)
+        except UnicodeEncodeError:  # in one of the rows; those before it are written
+            whole = [tuple(map(_stored, row)) for row in rows]
+            self._base.executemany(f"INSERT OR REPLACE INTO {table} VALUES ({places})", whole)
+
+    def finish(self) -> None:
+        """Writes what is left, and the indexes."""
+        for table in list(self._rows):
+            self._write(table)
+        self._base.execute("COMMIT")
+        self._base.executescript(_INDEXES)
+        self._base.execute("ANALYZE")
+
+
+@contextlib.contextmanager
+def tables(file: str) -> Iterator[Tables]:
+    """The tables of a new file. A file that is cut short is of no use to anybody, so nothing of it is kept safe."""
+    with contextlib.closing(sqlite3.connect(file, isolation_level=None)) as base:
+        for it in (
+            f"application_id = {APPLICATION}",
+            f"user_version = {VERSION}",
+            "journal_mode = OFF",
+            "synchronous = OFF",
+            f"cache_size = -{_CACHE}",
+        ):
+            base.execute(f"PRAGMA {it}")
+        base.set_progress_handler(lambda: 0, STEPS)  # lets Python heed a signal while an index is made
+        base.executescript(SCHEMA)
+        base.execute("BEGIN")
+        made = Tables(base)
+        yield made
+        try:
+            made.finish()
+        except sqlite3.Error:
+            signals.go_on_stopping()
+            raise
+
+
+def _stored(it: object) -> object:
+    """A value that SQLite takes: a text without halves of characters, which a damaged catalogue may have."""
+    return it.encode("utf-8", "backslashreplace").decode("utf-8") if isinstance(it, str) else it
+
+
+def head_is_ours(head: bytes) -> bool:
+    """Whether the first 100 bytes are those of an export, of any version."""
+    return head[:16] == b"SQLite format 3\0" and int.from_bytes(head[68:72], "big") == APPLICATION

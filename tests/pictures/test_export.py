@@ -1,0 +1,265 @@
+"""`export`: the tables of a catalogue, read by SQLite, against what ExifTool reads of the same files."""
+
+import json
+import os
+import re
+import sqlite3
+import subprocess
+from pathlib import Path
+
+import pytest
+from made_blocks import BLOCKS, with_exif
+from made_files import app1, app1_xmp, exif, jpeg, xmp
+from studio import SMALL_JPEG, TOP, needs
+from test_captions import data_set, with_record, with_texts
+from test_groups import FILES as TWINS
+
+SAMPLES = os.path.join(TOP, "samples", "before")
+PAGE = (Path(TOP) / "docs" / "CATALOGUE.md").read_text(encoding="utf-8")
+LONG = "Ein Gefäß aus Köln, zerbrochen und geklebt. " * 20
+
+
+@pytest.fixture
+def run(folder, capsys, monkeypatch):
+    """Runs a command in a folder: what it prints, and `status` is checked."""
+    from exifnorm_pictures.cli import main
+
+    monkeypatch.chdir(folder)
+
+    def call(*words, status=0):
+        capsys.readouterr()
+        found = main._run(list(words))
+        printed = capsys.readouterr()
+        assert found == status, printed
+        return printed.out + printed.err
+
+    return call
+
+
+@pytest.fixture
+def exported(run, folder):
+    """The tables of a folder, or of some files."""
+
+    def call(*names, words=()):
+        run("index", *names, "--catalogue", "c", "--quiet", *words)
+        run("export", "c", "t")
+        return sqlite3.connect("t")
+
+    return call
+
+
+def asked(base, query, *values):
+    return base.execute(query, values).fetchall()
+
+
+# Against ExifTool
+
+
+@needs("exiftool")
+def test_the_samples(exported):
+    base = exported(SAMPLES)
+    names = "IFD0:Make IFD0:Artist IFD0:Copyright ExifIFD:ISO IPTC:Keywords IPTC:Caption-Abstract XMP-dc:Subject".split()
+    words = ["exiftool", "-config", "", "-r", "-j", "-G1", "-a", *(f"-{it}" for it in names), SAMPLES]
+    for it in json.loads(subprocess.run(words, capture_output=True, check=True).stdout):
+        path = os.path.abspath(it.pop("SourceFile"))
+        for name, value in it.items():
+            found = asked(
+                base, "SELECT value FROM fields JOIN pictures ON id = picture WHERE path = ? AND lower(name) = lower(?)", path, name
+            )
+            assert "; ".join(one for one, in found) == ("; ".join(value) if isinstance(value, list) else str(value)), (path, name)
+    labels = {"IPTC:ObjectName": "title", "XMP-dc:Title": "title", "IPTC:Caption-Abstract": "caption", "XMP-dc:Description": "caption"}
+    words = ["exiftool", "-config", "", "-r", "-j", "-G1", "-a", *(f"-{it}" for it in labels), SAMPLES]
+    expected = {
+        (os.path.abspath(it["SourceFile"]), labels[name], str(value))
+        for it in json.loads(subprocess.run(words, capture_output=True, check=True).stdout)
+        for name, value in it.items()
+        if name != "SourceFile"
+    }
+    query = (
+        "SELECT path, label, text FROM captions JOIN pictures ON id = picture WHERE label IN ('title', 'caption') AND standard <> 'Exif'"
+    )
+    assert set(asked(base, query)) == expected
+
+
+def test_each_table_has_what_the_other_commands_print(exported, run, folder):
+    (folder / "p").mkdir()
+    for name, octets in TWINS.items():
+        (folder / "p" / f"{name}.jpg").write_bytes(octets)
+    (folder / "p" / "contradicts.jpg").write_bytes(jpeg(with_texts(artist=b"Anna"), with_record(data_set(80, b"Otto"))))
+    (folder / "p" / "bare.jpg").write_bytes(jpeg())
+    (folder / "p" / "notes.txt").write_bytes(b"no picture")
+    base = exported("p")
+    groups = [json.loads(it) for it in run("same", "--catalogue", "c", "--json").splitlines()][:-1]
+    expected = [(it["number"], it["basis"], one["path"], int(one["keep"])) for it in groups for one in it["pictures"]]
+    assert asked(base, "SELECT number, kind, path, keep FROM groups JOIN pictures ON id = picture ORDER BY number, path") == sorted(
+        expected, key=lambda it: (it[0], it[2])
+    )
+    assert asked(base, "SELECT path, label, kind FROM conflicts JOIN pictures ON id = picture") == [
+        (str(folder / "p/contradicts.jpg"), "creator", "different")
+    ]
+    states = dict(asked(base, "SELECT replace(path, ? || '/p/', ''), state FROM pictures", str(folder)))
+    assert [states[it] for it in ("a1.jpg", "i1.jpg", "f1.jpg", "bare.jpg", "notes.txt")] == [
+        "accepted",
+        "refused",
+        "refused",
+        "no metadata",
+        "not read",
+    ]
+    assert asked(base, "SELECT count(*) FROM not_read")[0][0] == 2, "the bytes behind two pictures"
+    assert asked(base, "PRAGMA integrity_check") == [("ok",)] and asked(base, "PRAGMA foreign_key_check") == []
+
+
+# The page
+
+
+def test_the_page_has_each_column(exported):
+    base = exported(SAMPLES)
+    tables = {it for it, in asked(base, "SELECT name FROM sqlite_master WHERE type = 'table' AND name NOT LIKE 'sqlite%'")}
+    parts = dict(it.split("\n", 1) for it in re.split(r"(?m)^## ", PAGE)[1:])
+    assert {it for it in parts if it in tables} == tables
+    for table in tables:
+        described = [word for cell in re.findall(r"(?m)^\| (`[^|]*) \|", parts[table]) for word in re.findall(r"`(\w+)`", cell)]
+        assert described == [it[1] for it in asked(base, f"PRAGMA table_info({table})")], table
+
+
+@needs("exiftool")
+def test_the_questions_of_the_page(exported):
+    base = exported(SAMPLES)
+    questions = [it for block in re.findall(r"(?ms)^```sql\n(.*?)^```$", PAGE) for it in block.split(";") if it.strip()]
+    assert len(questions) > 5
+    for it in questions:
+        assert asked(base, it), it
+
+
+@pytest.mark.parametrize(
+    "query",
+    [
+        "SELECT picture FROM fields WHERE name = 'IFD0:Make'",
+        "SELECT picture FROM fields WHERE name = 'IFD0:Make' AND value = 'Leica'",
+        "SELECT value FROM pictures JOIN fields ON picture = id WHERE path = '/a.jpg'",
+        "SELECT path FROM fields JOIN pictures ON id = picture WHERE name = 'IFD0:Make'",
+        "SELECT path FROM captions JOIN pictures ON id = picture WHERE label = 'keywords' AND text = 'vase'",
+        "SELECT number FROM groups WHERE picture = 1",
+        "SELECT part FROM not_read WHERE picture = 1",
+        "SELECT label FROM conflicts WHERE picture = 1",
+    ],
+)
+def test_no_table_is_read_whole(query, exported):
+    base = exported(SAMPLES)
+    assert [it for *_, it in asked(base, f"EXPLAIN QUERY PLAN {query}") if it.startswith("SCAN")] == []
+
+
+# Texts that a catalogue doesn't keep
+
+
+def with_long_texts():
+    description = f"<dc:description><rdf:Alt><rdf:li xml:lang='x-default'>{LONG}</rdf:li></rdf:Alt></dc:description>"
+    return jpeg(with_texts(artist=b"Anna"), with_record(data_set(120, LONG.encode("latin-1"))), app1_xmp(xmp(description)))
+
+
+def test_long_texts_are_read_from_the_file(exported):
+    Path("a.jpg").write_bytes(with_long_texts())
+    base = exported("a.jpg")
+    assert asked(base, "SELECT standard, text FROM captions WHERE label = 'caption'") == [("IPTC", LONG.strip()), ("XMP", LONG.strip())]
+    assert asked(base, "SELECT * FROM conflicts") == []
+
+
+@pytest.mark.parametrize("afterwards", ["gone", "changed", "not looked at"])
+def test_long_texts_of_other_files_are_null(afterwards, run):
+    Path("a.jpg").write_bytes(with_long_texts())
+    run("index", "a.jpg", "--catalogue", "c", "--quiet")
+    if afterwards != "not looked at":
+        Path("a.jpg").unlink()
+    if afterwards == "changed":
+        Path("a.jpg").write_bytes(jpeg(with_record(data_set(120, b"Vase"))))
+    said = run("export", "c", "t", *["--no-look"] * (afterwards == "not looked at"))
+    base = sqlite3.connect("t")
+    assert "1 picture has" in said or "1 picture have" in said
+    assert asked(base, "SELECT standard, text FROM captions WHERE label = 'caption'") == [(None, None)]
+    assert asked(base, "SELECT text FROM captions WHERE label = 'creator'") == [("Anna",)]
+
+
+def test_blank_comments_are_no_texts(run, folder):
+    """Cameras leave room for a comment. Its file isn't read for that, which would take long in an archive."""
+    from test_captions import LONG as _, UNDEFINED, block, entry, table  # noqa: F401
+
+    for number, octets in enumerate((b"ASCII\0\0\0" + b" " * 200, bytes(208), b"\0" * 8 + b" " * 200)):
+        inside = table([entry(0x9286, UNDEFINED, len(octets), 8 + 2 + 12 + 4 + 2 + 12 + 4)]) + octets
+        (folder / f"{number}.jpg").write_bytes(jpeg(app1(block([entry(0x8769, 4, 1, 26)]) + inside)))
+    run("index", ".", "--catalogue", "c", "--quiet")
+    run("export", "c", "t", "--no-look")
+    assert asked(sqlite3.connect("t"), "SELECT * FROM captions") == []
+
+
+# Names and files
+
+
+def test_paths(exported, folder):
+    names = [b"\xff.jpg", rb"\xff.jpg", "Zürich\n.jpg".encode()]
+    for it in names:
+        with open(os.fsencode(folder) + b"/" + it, "wb") as file:
+            file.write(jpeg(app1(exif(b"abc"))))
+    base = exported(".")
+    found = asked(base, "SELECT replace(path, ?, ''), path_is_escaped, path_bytes FROM pictures ORDER BY 2, 1", f"{folder}/")
+    raw = os.fsencode(folder) + b"/\xff.jpg"
+    assert found == [("Zürich\n.jpg", 0, None), (r"\xff.jpg", 0, None), (r"\xff.jpg", 1, raw)]
+
+
+def test_an_earlier_export_is_replaced_and_no_other_file(exported, run, folder):
+    Path("a.jpg").write_bytes(jpeg(app1(exif(b"abc"))))
+    exported("a.jpg")
+    run("export", "c", "t")
+    before = Path("c").read_bytes()
+    Path("other").write_bytes(b"a text")
+    with sqlite3.connect("database") as base:
+        base.execute("CREATE TABLE a (b)")
+    base.close()
+    os.link("c", "another name of c")
+    for name in ("other", "database", "c", "another name of c", ".", "nowhere/t"):
+        kept = Path(name).read_bytes() if Path(name).is_file() else None
+        assert "isn't written" in run("export", "c", name, status=4), name
+        assert kept is None or Path(name).read_bytes() == kept
+    run("export", "t", "u", status=4)
+    assert Path("c").read_bytes() == before and not Path("u").exists()
+
+
+def test_a_failure_leaves_the_earlier_export(exported, run, folder, monkeypatch):
+    Path("a.jpg").write_bytes(jpeg(app1(exif(b"abc"))))
+    exported("a.jpg").close()
+    before = Path("t").read_bytes()
+    with sqlite3.connect("c") as base:
+        base.execute("UPDATE blocks SET fields = 1")
+    base.close()
+    assert "damaged" in run("export", "c", "t", status=4)
+    assert Path("t").read_bytes() == before
+    assert sorted(it.name for it in folder.iterdir()) == ["a.jpg", "c", "t"]
+
+
+def test_some_pictures(exported, run, folder):
+    for name in "abc":
+        Path(f"{name}.jpg").write_bytes(TWINS["a1"])
+    exported(".")
+    Path("list").write_text("a.jpg\nb.jpg\n", encoding="utf-8")
+    run("export", "c", "t", "--files-from", "list")
+    base = sqlite3.connect("t")
+    assert asked(base, "SELECT replace(path, ?, '') FROM groups JOIN pictures ON id = picture", f"{folder}/") == [("a.jpg",), ("b.jpg",)]
+    assert asked(base, "SELECT count(*), count(DISTINCT picture) FROM fields") == [(2, 2)]
+
+
+def test_texts_of_a_damaged_catalogue(exported, run):
+    """Halves of characters, which no file can have."""
+    Path("a.jpg").write_bytes(jpeg(app1(exif(b"abc"))))
+    exported("a.jpg").close()
+    with sqlite3.connect("c") as base:
+        base.execute("UPDATE blocks SET fields = CAST(? AS BLOB)", (r'[["main","013b","ASCII",4,"\"\ud800\""]]',))
+    base.close()
+    run("export", "c", "t")
+    assert asked(sqlite3.connect("t"), "SELECT value FROM fields") == [(r"\ud800",)]
+
+
+def test_a_refused_block_has_its_cause_and_its_repair(exported):
+    Path("a.jpg").write_bytes(with_exif(SMALL_JPEG, BLOCKS["Overlap"]))
+    Path("b.jpg").write_bytes(with_exif(SMALL_JPEG, BLOCKS["Unsorted"]))
+    base = exported(".")
+    found = asked(base, "SELECT status, cause, repair IS NOT NULL FROM blocks JOIN pictures ON id = picture ORDER BY path")
+    assert [it[:2] for it in found] == [("refused", "Overlap"), ("refused", "Unsorted")] and found[1][2] == 1
