@@ -106,10 +106,6 @@ class Shown(unittest.TestCase):
             self.assertEqual((came.name, came.before, list(came.after), came.sign), ("XMP-dc:a", (), fields, "+"))
             self.assertEqual((went.name, list(went.before), went.after, went.sign), ("XMP-dc:a", fields, (), "-"))
             self.assertEqual(differing.differences(fields, fields), [])
-        other = [field("ASCII", 2, '"a"', "exif", "927c"), field("SHORT", 1, "1", "main", "0112")]
-        self.assertEqual(
-            [listing.only_maker_note(*it) for it in ((other, other[1:]), (other, other), (other, other[:1]))], [True, False, False]
-        )
 
     def test_a_thumbnail(self):
         self.assertEqual(listing.thumbnail("exif\n[thumb]\njpeg 2: ffd8\n"), b"\xff\xd8")

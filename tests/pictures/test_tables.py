@@ -698,6 +698,9 @@ class Statuses(unittest.TestCase):
 
         expected = {
             "same": 0,
+            "the same but for the fields left out": 0,
+            "the same but for how equal numbers are written": 0,
+            "only equal numbers are written otherwise": 1,
             "refused, the same bytes": 0,
             "unreadable, the same bytes": 0,
             "different": 1,

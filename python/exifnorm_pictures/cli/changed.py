@@ -4,6 +4,7 @@ from __future__ import annotations
 
 import argparse
 import contextlib
+import itertools
 import json
 import os
 import sys
@@ -17,12 +18,14 @@ from ..compare.differing import Difference, bare
 from ..compare.summary import Summary
 from ..compare.wording import NONE, line_of
 from ..extract import exiftool, programs
+from ..fields.choosing import Choice
 from ..fields.listing import MAKER_NOTE
 from ..fields.plain_names import group_name
 from ..files import tempdir
 from ..refusals.steps import Step
 from ..scan.batches import How
 from ..scan.index import IndexOptions, index
+from .choice import choice_of, lines as lines_of_choice, listings_of, refuse_unknown, say_unseen
 from .exit_codes import DIFFERENCE, SUCCESS, UNKNOWN
 from .names import from_list, refuse_pictures
 from .output import Members, closed_folder, path_members, print_line, shown_path
@@ -41,24 +44,30 @@ def run(arguments: argparse.Namespace) -> int:
         programs.set_limit(arguments.limit)
         exiftool.begin(room)
         open_.callback(exiftool.finish)
-        found = changes.changed(before, after, counts, only, arguments.all, not arguments.no_exiftool)
+        choice = choice_of(arguments)
+        refuse_unknown(choice, itertools.chain(listings_of(before), listings_of(after)))
+        found = changes.changed(before, after, counts, only, arguments.all, not arguments.no_exiftool, choice)
         if arguments.json:
-            _print_objects(arguments, found, counts)
+            _print_objects(arguments, found, counts, choice)
         elif arguments.each or arguments.all or arguments.exact:
-            _print_each(arguments, found, counts)
+            _print_each(arguments, found, counts, choice)
         else:
-            _print_summary(found, counts)
+            _print_summary(found, counts, choice)
+        say_unseen(choice, "that differs")
     return status_of(counts)
 
 
-def _print_objects(arguments: argparse.Namespace, found: Iterable[changes.Compared], counts: "Counter[str]") -> None:
+Found = Iterable[changes.Compared]
+
+
+def _print_objects(arguments: argparse.Namespace, found: Found, counts: "Counter[str]", choice: Choice) -> None:
     for it in found:
         if it.result not in changes.UNCHANGED or arguments.all:
             print(json.dumps(changed_members(it)))
-    print(json.dumps({"counts": dict(counts)}))
+    print(json.dumps({"counts": dict(counts), **({"left_out": choice.left_out} if choice.left_out else {})}))
 
 
-def _print_each(arguments: argparse.Namespace, found: Iterable[changes.Compared], counts: "Counter[str]") -> None:
+def _print_each(arguments: argparse.Namespace, found: Found, counts: "Counter[str]", choice: Choice) -> None:
     """Each picture with its fields."""
     with contextlib.closing(changes.Equal()) as equal:
         for it in found:
@@ -66,13 +75,15 @@ def _print_each(arguments: argparse.Namespace, found: Iterable[changes.Compared]
                 equal.add(json.dumps(_said(it, arguments.exact)), it.name, it.moved_to is not None)
         _print_equal(equal)
     print_line(", ".join(f"{counts[it]} {it}" for it in changes.RESULTS if counts[it]) or "no picture")
+    for text in lines_of_choice(choice, True):
+        print_line(text)
 
 
-def _print_summary(found: Iterable[changes.Compared], counts: "Counter[str]") -> None:
+def _print_summary(found: Found, counts: "Counter[str]", choice: Choice) -> None:
     counted = Summary()
     for it in found:
         counted.add(it)
-    for text in lines(counted, counts):
+    for text in lines(counted, counts, list(lines_of_choice(choice, True))):
         print_line(text)
 
 
@@ -143,6 +154,8 @@ def changed_members(it: changes.Compared) -> Members:
         found["maker_note"] = {"reads": reads, "values": [list(one) for one in it.maker_note]}
     if it.repairs:
         found["repairs"] = [_repair_members(*one) for one in it.repairs]
+    if it.left_out:
+        found["left_out"] = it.left_out
     return {**found, "fields": [_field_members(one) for one in it.changes]}
 
 

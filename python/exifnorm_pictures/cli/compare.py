@@ -8,17 +8,20 @@ import shutil
 from collections import Counter
 from typing import Iterator, List, Optional, Sequence
 
-from ..catalogue.records import WORDS
+from ..catalogue.records import WORDS, PictureRecord
 from ..compare import changed as changes
 from ..compare import verdicts
 from ..compare.two_pictures import Comparison, Row, compare, read, with_position
 from ..compare.wording import NONE, tag_of
 from ..extract import exiftool, programs
+from ..fields.choosing import Choice
+from ..fields.listing import unpacked
 from ..fields.typed import together
 from ..files import tempdir
 from ..scan.batches import How
 from .changed import status_of
 from .columns import columns
+from .choice import choice_of, lines, other_name, refuse_unknown, say_unseen
 from .exit_codes import SUCCESS, UNKNOWN
 from .names import refuse_folders
 from .objects import picture_object, print_object
@@ -35,19 +38,32 @@ def run(arguments: argparse.Namespace) -> int:
         try:
             how = How(1, False, arguments.whole, arguments.limit, room)
             one, other = (read(os.fsencode(it), how) for it in (arguments.before, arguments.after))
-            found = compare(one, other, arguments.exact, not arguments.no_exiftool, arguments.whole)
+            choice = _choice(arguments, one, other)
+            found = compare(one, other, arguments.exact, not arguments.no_exiftool, arguments.whole, choice)
         finally:
             exiftool.finish()
     rows = found.rows if arguments.exact else with_position(found.rows, one, other)
     names = [os.fsencode(it) for it in (arguments.before, arguments.after)]
+    choice.add_left_out(found.left_out)
     if arguments.json:
         print_object("compare", "comparison", _members(found, rows, names))
     elif arguments.csv:
         _print_table(found, rows, names)
     else:
-        for line in _lines(found, rows, names, arguments.exact):
+        for line in _lines(found, rows, names, arguments.exact, list(lines(choice))):
             print_line(line)
+    say_unseen(choice, "of the two pictures")
     return _status(found)
+
+
+def _choice(arguments: argparse.Namespace, *records: PictureRecord) -> Choice:
+    """The fields that count. Raises `UnknownField` for a name that is no field's, and that neither picture has."""
+    choice = choice_of(arguments)
+    listings = [(other_name(it.name), unpacked(it.kept)) for one in records for it in one.blocks if it.kept]
+    for block, fields in listings if choice else ():
+        choice.see(fields, block)
+    refuse_unknown(choice, ())
+    return choice
 
 
 def _status(found: Comparison) -> int:
@@ -62,6 +78,8 @@ def _status(found: Comparison) -> int:
 
 _SENTENCES = {
     verdicts.SAME: "The same metadata.",
+    verdicts.SAME_BUT: "The same metadata but for the fields left out.",
+    verdicts.SAME_NUMBERS: "The same metadata but for how equal numbers are written.",
     verdicts.MOVED_NOTE: "The same metadata but for a MakerNote that has moved; ExifTool reads the same from both.",
     verdicts.SAME_REPAIRED: "The same metadata after a repair in memory.",
     changes.ONLY_MAKER_NOTE: "Only the MakerNote differs.",
@@ -77,7 +95,7 @@ _SENTENCES = {
 }
 
 
-def _lines(found: Comparison, rows: Sequence[Row], names: Sequence[bytes], exact: bool) -> Iterator[str]:
+def _lines(found: Comparison, rows: Sequence[Row], names: Sequence[bytes], exact: bool, notes: Sequence[str]) -> Iterator[str]:
     yield _sentence(found, rows)
     if found.is_identical or found.is_empty:
         return
@@ -88,6 +106,7 @@ def _lines(found: Comparison, rows: Sequence[Row], names: Sequence[bytes], exact
     yield f"{note[:1].upper()}{note[1:]}. Only metadata was compared."
     if any(it.status != verdicts.ACCEPTED for record in found.records for it in record.blocks):
         yield "More about a block that isn't accepted: exifnorm-pictures explain PICTURE"
+    yield from notes
     if rows:
         yield ""
         yield from _table(_heads(names), rows, exact)
@@ -99,7 +118,7 @@ def _sentence(found: Comparison, rows: Sequence[Row]) -> str:
         return "The two files are identical, byte for byte."
     if found.is_empty:
         return "Nothing to compare: neither picture has Exif, IPTC or XMP."
-    if found.result not in (verdicts.DIFFERENT, verdicts.DIFFERENT_REPAIRED):
+    if found.result not in (verdicts.DIFFERENT, verdicts.DIFFERENT_REPAIRED, changes.ONLY_NUMBERS):
         return _SENTENCES[found.result]
     equal = sum(it.is_equal_number for it in rows)
     real = len(rows) - equal
@@ -163,7 +182,13 @@ def _members(found: Comparison, rows: Sequence[Row], names: Sequence[bytes]) -> 
         pictures.append({**picture_object(name, it.problem, it.detail), "type": it.type or None, "not_read": unread})
     whole: Members = {"pictures": pictures, "result": found.result, "identical_files": found.is_identical}
     kinds = {WORDS[it.kind]: it.result for it in found.found.verdicts}
-    return {**whole, "note": found.found.note or None, "kinds": kinds, "fields": [_row_members(it) for it in rows]}
+    return {
+        **whole,
+        "note": found.found.note or None,
+        "kinds": kinds,
+        "fields": [_row_members(it) for it in rows],
+        "left_out": found.left_out,
+    }
 
 
 def _row_members(it: Row) -> Members:

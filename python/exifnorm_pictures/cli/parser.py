@@ -174,6 +174,25 @@ def _forget_arguments(it: argparse.ArgumentParser) -> None:
     it.add_argument("--catalogue", required=True, type=_name, metavar="FILE")
 
 
+def _choice_arguments(it: argparse.ArgumentParser) -> None:
+    group = it.add_argument_group("fields that count", _FIELDS)
+    for word, what in (
+        ("ignore", "leave out this field, or all that fit a pattern"),
+        ("only", "compare this field alone, or all that fit a pattern"),
+    ):
+        group.add_argument(f"--{word}", action="append", default=[], metavar="FIELD", help=what)
+        files = f"as --{word}, of a file with a field or a pattern in each line; # begins a comment"
+        group.add_argument(f"--{word}-file", action="append", default=[], metavar="FILE", help=files)
+    group.add_argument(
+        "--equal-numbers", action="store_true", help="equal numbers that are written otherwise, as 10/1250 and 1/125, count as equal"
+    )
+
+
+_FIELDS = """Each name that is printed can be given, and also Artist, dc:title, 2:25, 0x013b or a group: GPS, IPTC, XMP-crs.
+The wildcards * and ? are allowed, as in xmpMM:*; upper and lower case don't matter. exif:NAME is a field of an Exif block;
+the property of XMP is XMP-exif:NAME. --ignore saves leaves out what every save changes (see the manual page)."""
+
+
 def _changed_arguments(it: argparse.ArgumentParser) -> None:
     _example(it, "changed last.catalogue archive.catalogue")
     it.add_argument("before", type=_name, metavar="BEFORE", help="a catalogue or a folder")
@@ -188,6 +207,7 @@ def _changed_arguments(it: argparse.ArgumentParser) -> None:
     it.add_argument(
         "--no-exiftool", action="store_true", help="don't ask ExifTool whether MakerNotes that differ or have moved read the same"
     )
+    _choice_arguments(it)
     _many_arguments(it)
 
 
@@ -203,6 +223,7 @@ def _compare_arguments(it: argparse.ArgumentParser) -> None:
     it.add_argument(
         "--no-exiftool", action="store_true", help="don't ask ExifTool whether MakerNotes that differ or have moved read the same"
     )
+    _choice_arguments(it)
     _looking_arguments(it)
 
 

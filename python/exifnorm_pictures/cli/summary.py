@@ -28,9 +28,9 @@ class Line(NamedTuple):
     note: str = ""
 
 
-def lines(found: Summary, counts: "Counter[str]") -> Iterator[str]:
-    """The page."""
-    results = list(_results(found, counts))
+def lines(found: Summary, counts: "Counter[str]", notes: Sequence[str] = ()) -> Iterator[str]:
+    """The page, with some notes after the results."""
+    results = [*_results(found, counts), *notes]
     has_rest = any(counts[it] for it in counts if it not in changed.UNCHANGED)
     rows = _parts(found)
     equal = _equal_numbers(found)

@@ -14,22 +14,28 @@ from typing import TYPE_CHECKING, Dict, Iterable, Iterator, List, Optional, Set,
 from ..catalogue.records import Block, Picture
 from ..catalogue.store import Catalogue
 from ..extract.formats.found import EXIF, NAMES, OWN, PROGRAMS
-from ..fields.listing import MAKER_NOTE, only_maker_note
+from ..fields.choosing import EVERYTHING, Choice
+from ..fields.listing import MAKER_NOTE
+from ..fields.plain_names import group_name
 from ..refusals import steps
 from ..refusals.steps import Step
 from .differing import Difference, differences
 from .pairs import AFTER, BEFORE, Pair, Pairs
 from .sides import Sides
 from .verdicts import (
+    ABSENT,
     ACCEPTED,
     DIFFERENT,
     DIFFERENT_REPAIRED,
+    LEFT_OUT,
     MOVED_NOTE,
     NOT_WHOLLY_READ,
     ONLY_REACHED,
     REACHED,
     REFUSED,
     SAME,
+    SAME_BUT,
+    SAME_NUMBERS,
     SAME_REPAIRED,
     UNREADABLE,
     Verdict,
@@ -40,17 +46,20 @@ from .verdicts import (
 )
 
 ONLY_MAKER_NOTE = "only MakerNote differs"
+ONLY_NUMBERS = "only equal numbers are written otherwise"
 REFUSED_SAME, UNREADABLE_SAME = f"{REFUSED}, the same bytes", f"{UNREADABLE}, the same bytes"
 if TYPE_CHECKING:
     from . import maker_notes
 
 MISSING_BEFORE, MISSING_AFTER, MOVED, NOT_READ = "missing before", "missing after", "moved", "not read"
 FILE_SAME, FILE_DIFFERENT = "not read, the same bytes", "not read, different bytes"
-DIFFERENCES = (DIFFERENT, DIFFERENT_REPAIRED, ONLY_MAKER_NOTE, FILE_DIFFERENT, MOVED, MISSING_BEFORE, MISSING_AFTER)
+DIFFERENCES = (DIFFERENT, DIFFERENT_REPAIRED, ONLY_MAKER_NOTE, ONLY_NUMBERS, FILE_DIFFERENT, MOVED, MISSING_BEFORE, MISSING_AFTER)
 OPEN = (MOVED_NOTE, SAME_REPAIRED, ONLY_REACHED, REFUSED, UNREADABLE, NOT_WHOLLY_READ, NOT_READ)  # it isn't wholly decided
-UNCHANGED = (SAME, REFUSED_SAME, UNREADABLE_SAME, FILE_SAME)  # nothing is reported to differ
+UNCHANGED = (SAME, SAME_BUT, SAME_NUMBERS, REFUSED_SAME, UNREADABLE_SAME, FILE_SAME)  # nothing is reported to differ
 RESULTS = (
     SAME,
+    SAME_BUT,
+    SAME_NUMBERS,
     MOVED_NOTE,
     SAME_REPAIRED,
     *DIFFERENCES,
@@ -77,6 +86,7 @@ class Compared:
     moved_to: Optional[bytes] = None
     maker_note: "Optional[List[maker_notes.Difference]]" = None  # the values that ExifTool reads otherwise, if it was asked
     repairs: List[Tuple[str, Tuple[Step, ...], Tuple[Step, ...]]] = field(default_factory=list)  # of each block, before and after
+    left_out: List[str] = field(default_factory=list)  # fields and kinds that differ and don't count
 
 
 def changed(
@@ -86,24 +96,26 @@ def changed(
     only: Optional[Set[bytes]] = None,
     every: bool = False,
     ask: bool = True,
+    choice: Choice = EVERYTHING,
 ) -> Iterator[Compared]:
     """Compares each picture of two catalogues, in the order of their names, or only some pictures, by name or by path.
 
-    Those that are the same are only counted, unless `every` is set. `ask` asks ExifTool for the values of MakerNotes. In the end `counts`
-    has the number of each result.
+    Those that are the same are only counted, unless `every` is set. `ask` asks ExifTool for the values of MakerNotes. Fields that the
+    choice leaves out don't count. In the end `counts` has the number of each result.
     """
     with contextlib.closing(Pairs(before, after, only)) as pairs:
         there = 0
         came = (Compared(name, MISSING_BEFORE) for name in pairs.came())
-        for it in heapq.merge((compared(pair, pairs, ask) for pair in pairs.differing(every)), came, key=lambda one: one.name):
+        for it in heapq.merge((compared(pair, pairs, ask, choice) for pair in pairs.differing(every)), came, key=lambda one: one.name):
             there += it.result != MISSING_BEFORE
             counts[it.result] += 1
+            choice.add_left_out(it.left_out)
             yield it
         if not every and pairs.count() > there:
             counts[SAME] += pairs.count() - there
 
 
-def compared(pair: Pair, pairs: Sides, ask: bool) -> Compared:
+def compared(pair: Pair, pairs: Sides, ask: bool, choice: Choice = EVERYTHING) -> Compared:
     """Compares one picture before and after."""
     name, one, other, place = pair
     if one is None or other is None:
@@ -115,13 +127,16 @@ def compared(pair: Pair, pairs: Sides, ask: bool) -> Compared:
     if one.unread is None or one.unread != other.unread:
         parts = left_open(pairs.not_read(BEFORE, one), pairs.not_read(AFTER, other))
     it = Compared(name, result(found, parts), "", [], found)
+    parts = _leave_out_kinds(it, one, other, parts, choice)
+    found = it.verdicts
     looked_at = any(one.result in (DIFFERENT, REFUSED, UNREADABLE, SAME_REPAIRED, DIFFERENT_REPAIRED) for one in found)
     if looked_at or not one.extractor == other.extractor == OWN:
         blocks = [pairs.blocks(BEFORE, one), pairs.blocks(AFTER, other)]
         it.note += _extracted(block for side in blocks for block, _ in side)
         if looked_at:
-            _add_details(it, blocks, pairs)
-    parts = _judge_maker_notes(it, one, other, pairs, parts, ask)
+            _add_details(it, blocks, pairs, parts, choice)
+    if not choice.leaves_out_maker_notes:
+        parts = _judge_maker_notes(it, one, other, pairs, parts, ask)
     it.note = _sentence(tuple(it.verdicts), tuple(parts)) + it.note
     return it
 
@@ -206,10 +221,12 @@ def _extracted(blocks: Iterable[Block]) -> str:
 Packed = Tuple[Block, Optional[bytes]]  # a block and its packed fields
 
 
-def _add_details(it: Compared, blocks: List[List[Packed]], pairs: Sides) -> None:
+def _add_details(it: Compared, blocks: List[List[Packed]], pairs: Sides, parts: List[str], choice: Choice) -> None:
     """Adds the fields that differ, and the causes of refusals."""
-    first, second = ({(one[0].kind, one[0].name): one for one in side} for side in blocks)
-    maker_note = [verdict.kind for verdict in it.verdicts if verdict.result == DIFFERENT] == [EXIF]
+    left = _Left(choice)
+    only_notes = True
+    out = [one.kind for one in it.verdicts if one.result == LEFT_OUT]
+    first, second = ({(one[0].kind, one[0].name): one for one in side if one[0].kind not in out} for side in blocks)
     for key in dict.fromkeys([*first, *second]):
         (one, mine), (other, its) = first.get(key, _NONE), second.get(key, _NONE)
         if all(block is None or block.status == ACCEPTED or block.repair for block in (one, other)):
@@ -217,13 +234,75 @@ def _add_details(it: Compared, blocks: List[List[Packed]], pairs: Sides) -> None
             if one and other and one.digest == other.digest and (one.digest or one.octets == other.octets):
                 continue
             fields = pairs.fields(BEFORE, mine), pairs.fields(AFTER, its)
-            maker_note = maker_note and bool(one and other) and only_maker_note(*fields)
-            found = differences(*fields, "" if key[1] == NAMES[key[0]] else key[1])
+            block = "" if key[1] == NAMES[key[0]] else key[1]
+            is_equal = bool(one and other and one.meaning and one.meaning == other.meaning)
+            found = left.without(key[0], differences(*fields, block), is_equal)
+            is_of_note = bool(found and one and other) and all(change[:2] == MAKER_NOTE for change in found)
+            only_notes = only_notes and (is_of_note or key[0] != EXIF or (is_equal and not found))
             it.changes += found if one and other else [change._replace(part=key[1]) for change in found]
         if not any(block and block.repair for block in (one, other)):
             it.note += _report_of(key[1], one, other)
-    if it.result == DIFFERENT and maker_note:
+    left.settle(it, parts)
+    if it.result == DIFFERENT and only_notes and [one.kind for one in it.verdicts if one.result == DIFFERENT] == [EXIF]:
         it.result = ONLY_MAKER_NOTE
+    elif it.result == DIFFERENT and it.changes and all(change.is_equal_number for change in it.changes):
+        it.result = ONLY_NUMBERS
+
+
+class _Left:
+    """What a choice leaves out of the differences of a picture."""
+
+    def __init__(self, choice: Choice) -> None:
+        self.choice = choice
+        self.names: Dict[str, None] = {}  # of fields that are left out
+        self.by_fields: Set[str] = set()  # kinds of which a field is left out
+        self.by_numbers: Set[str] = set()  # kinds of which equal numbers count as equal
+        self.rest: Set[str] = set()  # kinds with a difference that counts, or that no field shows
+
+    def without(self, kind: str, found: List[Difference], is_equal: bool) -> List[Difference]:
+        """The differences of a block that count. If there is none at all, and the blocks aren't equal, something else differs."""
+        kept = [it for it in found if self.choice.counts(it.where, it.key, it.block)]
+        if len(kept) < len(found):
+            self.by_fields.add(kind)
+            self.names.update({it.name: None for it in found if not self.choice.counts(it.where, it.key, it.block)})
+        counted = [it for it in kept if not (self.choice.equal_numbers and it.is_equal_number)]
+        if len(counted) < len(kept):
+            self.by_numbers.add(kind)
+        if counted or not (found or is_equal):
+            self.rest.add(kind)
+        return counted
+
+    def settle(self, it: Compared, parts: List[str]) -> None:
+        """The result without what is left out."""
+        it.left_out += self.names
+        words = {**dict.fromkeys(self.by_numbers, SAME_NUMBERS), **dict.fromkeys(self.by_fields, SAME_BUT)}
+        for at, verdict in enumerate(it.verdicts):
+            if verdict.kind in words and verdict.kind not in self.rest and verdict.result in (DIFFERENT, DIFFERENT_REPAIRED):
+                it.verdicts[at] = Verdict(verdict.kind, words[verdict.kind] if verdict.result == DIFFERENT else SAME_REPAIRED)
+        if words:
+            it.result = result(it.verdicts, parts)
+
+
+def _leave_out_kinds(it: Compared, one: Picture, other: Picture, parts: List[str], choice: Choice) -> List[str]:
+    """Leaves out whole kinds of blocks, and what only MakerNotes lead to. Returns the parts that stay open."""
+    if not choice:
+        return parts
+    for at, verdict in enumerate(it.verdicts):
+        if verdict.kind not in choice.kinds and verdict.result not in (SAME, ABSENT) and not verdict.same_bytes:
+            it.verdicts[at] = Verdict(verdict.kind, LEFT_OUT)
+            it.left_out.append(NAMES[verdict.kind])
+            choice.see_kind(verdict.kind)
+    if choice.leaves_out_maker_notes:
+        left = [part for part in parts if not part.endswith(REACHED)]
+        has_moved = bool(one.maker_notes and other.maker_notes) and one.maker_notes != other.maker_notes
+        if has_moved or len(left) < len(parts):
+            it.left_out.append(group_name(*MAKER_NOTE))
+            it.verdicts = [
+                Verdict(EXIF, SAME_BUT) if (verdict.kind, verdict.result) == (EXIF, SAME) else verdict for verdict in it.verdicts
+            ]
+        parts = left
+    it.result = result(it.verdicts, parts)
+    return parts
 
 
 _NONE: Tuple[None, None] = (None, None)

@@ -15,6 +15,7 @@ from ..catalogue.records import KINDS, Block, Picture, PictureRecord, Stamp, dig
 from ..extract import extraction, programs
 from ..extract.budgets import TooMuch
 from ..extract.formats.found import NAMES, PROBLEMS, XMP, NotRead
+from ..fields.choosing import EVERYTHING, Choice
 from ..fields.listing import MAKER_NOTE, Field, unpacked
 from ..fields.plain_names import group_name
 from ..fields.plain_values import POSITION, plain, position
@@ -93,6 +94,11 @@ class Comparison:
         return SAME if self.is_identical else self.found.result
 
     @property
+    def left_out(self) -> List[str]:
+        """The fields that differ and don't count."""
+        return [] if self.is_identical else self.found.left_out
+
+    @property
     def is_empty(self) -> bool:
         """Whether neither picture has metadata."""
         return all(it.result == ABSENT for it in self.found.verdicts) and not any(it.problem or it.not_read for it in self.records)
@@ -109,10 +115,11 @@ def read(name: bytes, how: How) -> PictureRecord:
     return look(FoundFile(path, os.path.dirname(path), stamp), how)
 
 
-def compare(one: PictureRecord, other: PictureRecord, each: bool, ask: bool, whole: bool) -> Comparison:
-    """Compares two pictures that were read. `ask` asks ExifTool for the values of MakerNotes; `each` has a row for each that differs."""
+def compare(one: PictureRecord, other: PictureRecord, each: bool, ask: bool, whole: bool, choice: Choice = EVERYTHING) -> Comparison:
+    """Compares two pictures that were read, by the fields that count. `ask` asks ExifTool for the values of MakerNotes; `each` has a row for
+    each that differs."""
     files = TwoFiles((one, other))
-    found = compared(Pair(os.path.basename(one.path), _picture(one), _picture(other), None), files, ask)
+    found = compared(Pair(os.path.basename(one.path), _picture(one), _picture(other), None), files, ask, choice)
     result = Comparison((one, other), found, _is_identical(one.path, other.path))
     if not result.is_identical and found.changes:
         result.rows = _rows(found.changes, [_Whole(it.path, whole) for it in files.records])

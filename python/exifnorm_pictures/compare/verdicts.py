@@ -14,6 +14,9 @@ from ..extract.formats.found import EXIF, IPTC, NAMES, XMP, NotRead
 
 ACCEPTED, REFUSED, UNREADABLE, ABSENT = "accepted", "refused", "unreadable", "absent"
 SAME, DIFFERENT = "same", "different"
+SAME_BUT = "the same but for the fields left out"  # by the listing of fields, which is tested, and not by the proof
+SAME_NUMBERS = "the same but for how equal numbers are written"
+LEFT_OUT = "left out"  # a kind of which no field counts
 MOVED_NOTE = "the same but for a MakerNote that moved"  # and that ExifTool reads as before
 SAME_REPAIRED, DIFFERENT_REPAIRED = "the same after repair", "different after repair"
 NOT_WHOLLY_READ = "not wholly read"
@@ -144,7 +147,7 @@ def sentence(found: Sequence[Verdict], open_parts: Sequence[str] = ()) -> str:
     'Exif is the same, XMP is different, no IPTC; not wholly read: second picture'
     """
     parts = []
-    for result in (SAME, MOVED_NOTE, DIFFERENT, SAME_REPAIRED, DIFFERENT_REPAIRED, REFUSED, UNREADABLE):
+    for result in (SAME, SAME_BUT, SAME_NUMBERS, MOVED_NOTE, DIFFERENT, SAME_REPAIRED, DIFFERENT_REPAIRED, REFUSED, UNREADABLE, LEFT_OUT):
         for same_bytes in (False, True) if result in (REFUSED, UNREADABLE) else (None,):
             kinds = [it.kind for it in found if it.result == result and same_bytes in (None, it.same_bytes)]
             if kinds:
@@ -182,8 +185,8 @@ def result(found: Sequence[Verdict], open_parts: Sequence[str] = ()) -> str:
             return status
     if open_parts:
         return ONLY_REACHED if all(it.endswith(REACHED) for it in open_parts) else NOT_WHOLLY_READ
-    for word in (SAME_REPAIRED, MOVED_NOTE):
-        if any(it.result == word for it in found):
+    for word in (SAME_REPAIRED, MOVED_NOTE, SAME_BUT, SAME_NUMBERS):
+        if any(it.result == word or (word == SAME_BUT and it.result == LEFT_OUT) for it in found):
             return word
     for status in (REFUSED, UNREADABLE):
         if any(it.result == status for it in found):

@@ -214,9 +214,9 @@ _TYPES = [str, str, str, int, str]
 MAKER_NOTE = ("exif", "927c")
 
 
-def only_maker_note(before: List[Field], after: List[Field]) -> bool:
-    """Whether two listings differ only in the MakerNote."""
-    return [it for it in before if it[:2] != MAKER_NOTE] == [it for it in after if it[:2] != MAKER_NOTE] and before != after
+def is_rest(where: str, key: str) -> bool:
+    """Whether a field stands for others, of which there are more than are kept."""
+    return not where or (where, key) == ("iptc", "more")
 
 
 _PLACES = ["main", "exif", "interop", "gps", "thumb", "iptc", "xmp"]

@@ -102,7 +102,7 @@ _IIM = _table(
 """
 )
 
-_TABLES = {
+TABLES = {
     "main": (_TIFF, _EXIF),
     "thumb": (_TIFF, _EXIF),
     "exif": (_EXIF, _TIFF),
@@ -120,7 +120,7 @@ def name_of(where: str, key: str) -> str:
     """
     if where == "xmp":
         return key  # which is a name
-    for table in _TABLES.get(where, ()):
+    for table in TABLES.get(where, ()):
         if key in table:
             return table[key]
     return {"jpeg": "JPEG thumbnail", "strip": "Strip"}.get(key, f"{'DataSet' if ':' in key else 'Tag'} {key}")

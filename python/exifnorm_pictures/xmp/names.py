@@ -45,6 +45,7 @@ http://ns.google.com/photos/1.0/camera/ GCamera
 http://www.w3.org/1999/02/22-rdf-syntax-ns# rdf
 """.strip().splitlines()
 )
+PREFIXES = tuple(_SPACES.values())
 
 
 @functools.lru_cache(maxsize=4096)

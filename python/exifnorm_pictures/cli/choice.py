@@ -1,0 +1,84 @@
+"""The fields that count, as the options --ignore, --only and --equal-numbers have them; and what is printed about those that don't."""
+
+from __future__ import annotations
+
+import argparse
+from typing import Iterable, Iterator, Sequence, Tuple
+
+from ..catalogue.store import Catalogue
+from ..extract.formats.found import NAMES
+from ..fields.choosing import Choice, UnknownField, hint
+from ..fields.listing import Field, unpacked
+from . import signals
+from .output import escaped, reason
+
+LONGEST_FILE = 1 << 20  # bytes of a file with names
+SHOWN = 6  # fields that are named in a line
+
+
+def choice_of(arguments: argparse.Namespace) -> Choice:
+    """The choice of a command line. Raises `UnknownField`."""
+    words = [
+        [*given, *_of_files(files)] for given, files in ((arguments.ignore, arguments.ignore_file), (arguments.only, arguments.only_file))
+    ]
+    return Choice(words[0], words[1], arguments.equal_numbers)
+
+
+def _of_files(names: Sequence[str]) -> Iterator[str]:
+    """The names in some files: one in each line. A line that begins with # is a comment."""
+    for name in names:
+        try:
+            with open(name, "rb") as file:
+                octets = file.read(LONGEST_FILE + 1)
+            lines = octets.decode("utf-8-sig").splitlines()
+        except OSError as error:
+            raise UnknownField(f"{escaped(name)}: {reason(error)}") from None
+        except UnicodeDecodeError:
+            raise UnknownField(f"{escaped(name)} is no list of names in UTF-8") from None
+        if len(octets) > LONGEST_FILE:
+            raise UnknownField(f"{escaped(name)} is longer than {LONGEST_FILE:,} bytes")
+        yield from (line.strip() for line in lines if line.strip() and not line.lstrip().startswith("#"))
+
+
+Listed = Tuple[str, Sequence[Field]]  # the fields of a block, with its name if it isn't the first one of its kind
+
+
+def refuse_unknown(choice: Choice, listings: Iterable[Listed]) -> None:
+    """Raises `UnknownField` if a name is no field's by the standards, and none of these fields has it either."""
+    if not choice.unknown():
+        return
+    for block, fields in listings:
+        choice.see(fields, block)
+        if not choice.unknown():
+            return
+    wrong = choice.unknown()
+    if wrong:
+        raise UnknownField("; ".join(f"no field is named {escaped(it)}{hint(it)}" for it in wrong))
+
+
+def listings_of(catalogue: Catalogue) -> Iterator[Listed]:
+    """The fields of each block of a catalogue."""
+    for name, packed in catalogue.rows("SELECT name, fields FROM blocks WHERE fields IS NOT NULL"):
+        with catalogue.guarded():
+            yield other_name(name), unpacked(packed)
+
+
+def other_name(name: str) -> str:
+    """The name of a block that isn't the first one of its kind; otherwise empty."""
+    return "" if name in NAMES.values() else name
+
+
+def lines(choice: Choice, is_counted: bool = False) -> Iterator[str]:
+    """What was left out though it differs, perhaps with the number of pictures."""
+    if choice.left_out:
+        counts = sorted(choice.left_out.items(), key=lambda it: (-it[1], it[0]))
+        names = [escaped(name) + (f" ({count:,} picture{'s' * (count != 1)})" if is_counted else "") for name, count in counts[:SHOWN]]
+        more = f" and {len(counts) - SHOWN:,} more" if len(counts) > SHOWN else ""
+        yield f"Left out though {'they differ' if len(counts) > 1 else 'it differs'}: {', '.join(names)}{more}."
+        yield "Fields are left out by their listing, which is tested, and not proved."
+
+
+def say_unseen(choice: Choice, which: str) -> None:
+    """Names on standard error the patterns that fit no field; `which` says of which fields that was found."""
+    for it in choice.unseen():
+        signals.say(f"exifnorm-pictures: note: {it} fits no field {which}{hint(it)}")

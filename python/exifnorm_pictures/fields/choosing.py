@@ -1,0 +1,191 @@
+"""Fields that a comparison leaves out (`--ignore`), and fields to which it is restricted (`--only`)."""
+
+from __future__ import annotations
+
+import difflib
+import re
+from dataclasses import dataclass
+from typing import Callable, Dict, FrozenSet, Iterable, Iterator, List, Sequence, Tuple
+
+from ..cli.exit_codes import USAGE
+from ..cli.signals import Failure
+from ..extract.formats.found import EXIF, IPTC, NAMES, XMP
+from .field_names import EXIF_GROUPS, XMP_GROUPS, dictionary, groups_of, is_possible, names_of
+from .listing import MAKER_NOTE, Field, is_rest
+
+# What programs change whenever they save a picture, whatever was edited: the dates of the last change, and the identifiers of that state
+SAVES = (
+    "IFD0:ModifyDate",
+    "IFD1:ModifyDate",
+    "ExifIFD:SubSecTime",
+    "ExifIFD:OffsetTime",
+    "XMP-xmp:ModifyDate",
+    "XMP-xmp:MetadataDate",
+    "XMP-tiff:DateTime",
+    "XMP-xmpMM:InstanceID",
+    "XMP-xmpMM:History",
+)
+SETS = {"saves": SAVES}
+CACHED, LONGEST_CACHED = 5000, 200  # fields whose decision is kept, and characters of such a field's key
+MOST_LISTED = 1000  # fields that are listed as left out
+
+Test = Callable[[str, str, str], bool]  # of a directory, a key, and a block that isn't the first of its kind
+
+
+class UnknownField(Failure):
+    """A name that no field can have, and that no picture has."""
+
+    status = USAGE
+
+
+_WILD = re.compile(r"[*?]")
+
+
+def fits_of(pattern: str) -> Test:
+    """Whether a field has a name that fits a pattern. A group without a colon stands for all its fields.
+
+    >>> fits_of("xmpMM:*")("xmp", "xmpMM:InstanceID", ""), fits_of("iptc")("iptc", "2:25", ""), fits_of("I*")("iptc", "2:25", "")
+    (True, True, False)
+    """
+    folded = pattern.casefold()
+    if folded == "*":
+        return lambda where, key, block: True
+    if not _WILD.search(folded):
+        return lambda where, key, block: folded in names_of(where, key, block) or folded in groups_of(where, key)
+    found = _compiled(folded)
+    return lambda where, key, block: any(map(found.fullmatch, _of_form(folded, names_of(where, key, block))))
+
+
+def _compiled(folded: str) -> "re.Pattern[str]":
+    return re.compile("".join({"*": ".*", "?": "."}.get(it, re.escape(it)) for it in folded), re.S)
+
+
+def _of_form(folded: str, names: Iterable[str]) -> Iterator[str]:
+    """The names that a pattern with wildcards may fit: with a group if it has one, and URIs, which begin like the namespace xmp, if it is one."""
+    return (it for it in names if (":" in it) == (":" in folded) and ("<" in it) == ("<" in folded))
+
+
+def kinds_of(pattern: str) -> FrozenSet[str]:
+    """The kinds of blocks that can have a field of a pattern.
+
+    >>> sorted(kinds_of("GPS:*")), sorted(kinds_of("2:25")), sorted(kinds_of("dc:title")), len(kinds_of("Artist"))
+    (['exif'], ['iim'], ['xmp'], 3)
+    """
+    group, colon, _ = pattern.casefold().partition(":")
+    if group in EXIF_GROUPS:
+        return frozenset({EXIF})
+    if group == "iptc" or (colon and group.isdigit()):
+        return frozenset({IPTC})
+    if group == "xmp" or group in XMP_GROUPS or group.startswith("xmp-"):
+        return frozenset({XMP})
+    return frozenset(NAMES)
+
+
+def is_known(pattern: str) -> bool:
+    """Whether pictures can have a field of a pattern."""
+    if not _WILD.search(pattern):
+        return is_possible(pattern)
+    group, colon, _ = pattern.casefold().partition(":")
+    if colon and (group in EXIF_GROUPS or group in XMP_GROUPS or group == "iptc" or group.isdigit()):
+        return True
+    return any(map(_compiled(pattern.casefold()).fullmatch, _of_form(pattern.casefold(), dictionary()[0])))
+
+
+def hint(pattern: str) -> str:
+    """The name that may be meant, in parentheses."""
+    names, printed = dictionary()
+    group, colon, _ = pattern.partition(":")
+    of_group = (f"{group}:{it}" for it in printed if ":" not in it) if colon else ()
+    known = {it.casefold(): it for it in (*(it for it in of_group if it.casefold() in names), *printed, *SETS)}
+    near = difflib.get_close_matches(pattern.casefold(), known, 1, 0.75)
+    return f" (perhaps {known[near[0]]} is meant)" if near and near[0] != pattern.casefold() else ""
+
+
+@dataclass
+class Pattern:
+    """A pattern, and whether a field fits it."""
+
+    text: str
+    test: Test
+    of_set: str = ""  # the set that it is of
+    is_seen: bool = False
+
+
+def _patterns(words: Iterable[str]) -> List[Pattern]:
+    """The patterns of the words of a command line, those of sets one by one. Raises `UnknownField`."""
+    found: List[Pattern] = []
+    for it in dict.fromkeys(words):
+        if it in SETS:
+            found += [Pattern(one, fits_of(one), it) for one in SETS[it]]
+        elif not it.strip():
+            raise UnknownField("the name of a field is empty")
+        else:
+            found.append(Pattern(it, fits_of(it)))
+    return found
+
+
+class Choice:
+    """The fields that count. It keeps which fields differ and were left out, and which patterns fit a field."""
+
+    def __init__(self, ignore: Sequence[str] = (), only: Sequence[str] = (), equal_numbers: bool = False) -> None:
+        self.ignore, self.only = _patterns(ignore), _patterns(only)
+        self.equal_numbers = equal_numbers  # count as equal
+        self.left_out: Dict[str, int] = {}  # fields that differ and were left out, and in how many pictures
+        self.kinds = self._kinds()
+        self._known: Dict[Tuple[str, str, str], bool] = {}
+
+    def __bool__(self) -> bool:
+        return bool(self.ignore or self.only or self.equal_numbers)
+
+    def _kinds(self) -> FrozenSet[str]:
+        """The kinds of blocks with fields that count. `Exif`, `IPTC` and `XMP` stand for whole blocks."""
+        found = set().union(*(kinds_of(it.text) for it in self.only)) if self.only else set(NAMES)
+        words = {it.text.casefold().removesuffix(":*") if it.text.casefold() != "xmp:*" else "" for it in self.ignore}
+        return frozenset(it for it in found if NAMES[it].casefold() not in words and "*" not in words)
+
+    @property
+    def leaves_out_maker_notes(self) -> bool:
+        """Whether MakerNotes don't count, and what only they lead to."""
+        return bool(self) and not self.counts(*MAKER_NOTE)
+
+    def counts(self, where: str, key: str, block: str = "") -> bool:
+        """Whether a field counts. One that stands for more fields than are kept always does."""
+        found = self._known.get((where, key, block))
+        if found is None:
+            found = self._decide(where, key, block)
+            if len(self._known) < CACHED and len(key) < LONGEST_CACHED:
+                self._known[where, key, block] = found
+        return found
+
+    def _decide(self, where: str, key: str, block: str) -> bool:
+        ignored, wanted = ([it for it in some if it.test(where, key, block)] for some in (self.ignore, self.only))
+        for it in (*ignored, *wanted):
+            it.is_seen = True
+        return is_rest(where, key) or (not ignored and (bool(wanted) or not self.only))
+
+    def see(self, fields: Iterable[Field], block: str = "") -> None:
+        """Notes which patterns fit these fields."""
+        for it in fields:
+            self.counts(it.where, it.key, block)
+
+    def see_kind(self, kind: str) -> None:
+        """Notes that blocks of a kind are left out as wholes."""
+        for it in (*self.ignore, *self.only):
+            it.is_seen = it.is_seen or kinds_of(it.text) == {kind}
+
+    def add_left_out(self, names: Iterable[str]) -> None:
+        """Notes that these fields differ in a picture and are left out."""
+        for it in {name[:LONGEST_CACHED] for name in names}:
+            if it in self.left_out or len(self.left_out) < MOST_LISTED:
+                self.left_out[it] = self.left_out.get(it, 0) + 1
+
+    def unseen(self) -> List[str]:
+        """The patterns that fit no field, but for those of sets."""
+        return [it.text for it in (*self.ignore, *self.only) if not it.is_seen and not it.of_set]
+
+    def unknown(self) -> List[str]:
+        """The patterns that fit no field so far, and that no field can fit by the standards."""
+        return [it for it in self.unseen() if not is_known(it)]
+
+
+EVERYTHING = Choice()  # counts

@@ -1,0 +1,365 @@
+"""Fields that are left out of a comparison, or that it is restricted to."""
+
+import json
+import os
+import shutil
+import struct
+import subprocess
+
+import pytest
+from made_blocks import BLOCKS, LONG, MAKE, block, entry, table
+from made_files import app1, app1_xmp, exif, iim, jpeg, with_record, xmp
+from studio import SMALL_JPEG, needs, tool
+
+from exifnorm_pictures.compare.changed import _Left
+from exifnorm_pictures.extract.formats.found import EXIF, IPTC, XMP
+from exifnorm_pictures.fields.choosing import SAVES, Choice, kinds_of, fits_of as fits
+
+BUT = "the same but for the fields left out"
+
+
+@pytest.fixture
+def run(folder, capsys, monkeypatch):
+    """Runs a command in the test's folder: its status, its lines, and what it prints on standard error."""
+    from exifnorm_pictures.cli import main
+
+    monkeypatch.chdir(folder)
+
+    def call(*words, **files):
+        for name, octets in files.items():
+            (folder / f"{name}.jpg").write_bytes(octets)
+        status = main._run(list(words))
+        printed = capsys.readouterr()
+        return status, printed.out.splitlines(), printed.err
+
+    return call
+
+
+@pytest.fixture
+def compared(run):
+    """The status, the result, the names of the fields that differ, and those that are left out, of two pictures a.jpg and b.jpg."""
+
+    def call(*words, **files):
+        status, lines, _ = run("compare", "a.jpg", "b.jpg", "--json", *words, **files)
+        found = json.loads(lines[0])
+        return status, found["result"], [it["name"] for it in found["fields"]], found.get("left_out", [])
+
+    return call
+
+
+# Names
+
+
+WORDS = ["-Artist=Anna", "-ModifyDate=2020:01:01 10:00:00", "-ISO=100", "-FNumber=8", "-XMP-exif:FNumber=8", "-GPSAltitude=100"]
+WORDS += ["-InteropIndex=R98", "-ThumbnailImage<=small.jpg", "-IPTC:Keywords=vase", "-IPTC:By-line=Anna", "-XMP-dc:Title=Vase"]
+WORDS += ["-XMP-xmp:MetadataDate=2020:01:01 10:00:00", "-XMP-crs:Version=1", "-XMP-iptcCore:Location=Hall", "-XMP-tiff:Make=X"]
+
+
+def by_exiftool(folder):
+    """A picture with fields of all kinds."""
+    (folder / "b.jpg").write_bytes(SMALL_JPEG)
+    (folder / "small.jpg").write_bytes(SMALL_JPEG)
+    tool(folder, "exiftool", "-q", "-overwrite_original", *WORDS, "b.jpg")
+    return (folder / "b.jpg").read_bytes()
+
+
+def by_hand(folder):
+    """A picture with two Exif blocks, a tag without a name, and properties of a namespace without a usual prefix."""
+    del folder
+    packet = xmp("<y:title>Vase</y:title><y:a.b>c</y:a.b>", "", "xmlns:y='http://example.com/?*'")
+    tags = [MAKE, entry(0xFE01, LONG, 1, 7)]
+    return jpeg(app1(block(tags)), app1(block(tags)), app1_xmp(packet), with_record(iim(b"Vase") + b"\x1c\2\xfe\0\1x"))
+
+
+@needs("exiftool")
+@pytest.mark.parametrize("make", [by_exiftool, by_hand])
+def test_each_name_that_is_printed_can_be_given(make, folder, compared):
+    """It is the name of that field alone; only a field of a further block has a name in which the first one's is."""
+    assert compared(a=SMALL_JPEG, b=make(folder))[:2] == (1, "different")
+    names = compared()[2]
+    assert len(names) >= 8
+    for name in names:
+        status, result, found, _ = compared("--only", name)
+        assert (status, {*found} - {f"{name} (second Exif)"}) == (1, {name}), name
+        assert name not in compared("--ignore", name)[2]
+    assert compared(*(word for name in names for word in ("--ignore", name)))[:3] == (0, BUT, [])
+
+
+@needs("exiftool")
+def test_names_of_exiftool(folder, compared):
+    """Each tag that ExifTool prints is left out by its group and name, in letters of either case."""
+    octets = by_exiftool(folder)
+    every = set(compared(a=SMALL_JPEG, b=octets)[2])
+    printed = json.loads(subprocess.run(["exiftool", "-j", "-G1", "-a", folder / "b.jpg"], capture_output=True, check=True).stdout)[0]
+    groups = ("IFD0", "ExifIFD", "GPS", "InteropIFD", "IPTC", "XMP-")
+    tags = [it for it in printed if it.startswith(groups) and it != "XMP-x:XMPToolkit"]
+    assert len(tags) > 15
+    for tag in tags:
+        for name in (tag, tag.upper(), tag.lower()):
+            status, result, found, left = compared("--ignore", name)
+            assert (len(every) - len(found), len(left)) == (1, 1), (tag, every - {*found}, left)
+
+
+OTHER_NAMES = [
+    ("Artist", "IFD0:Artist"),
+    ("main:Artist", "IFD0:Artist"),
+    ("EXIF:Artist", "IFD0:Artist"),
+    ("0x013b", "IFD0:Artist"),
+    ("ifd0:0x013B", "IFD0:Artist"),
+    ("DateTime", "IFD0:ModifyDate"),
+    ("PhotographicSensitivity", "ExifIFD:ISO"),
+    ("exif:FNumber", "ExifIFD:FNumber"),
+    ("XMP-exif:FNumber", "XMP-exif:FNumber"),
+    ("2:25", "IPTC:Keywords"),
+    ("iptc:2:80", "IPTC:By-line"),
+    ("dc:title", "XMP-dc:title"),
+    ("Iptc4xmpCore:Location", "XMP-Iptc4xmpCore:Location"),
+    ("XMP-iptcCore:Location", "XMP-Iptc4xmpCore:Location"),
+    ("crs:*", "XMP-crs:Version"),
+    ("GPS:GPSAlt?tude", "GPS:GPSAltitude"),
+    ("thumb:JPEG thumbnail", "IFD1:ThumbnailImage"),
+]
+
+
+@needs("exiftool")
+def test_other_names(folder, compared, checks):
+    compared(a=SMALL_JPEG, b=by_exiftool(folder))
+    for name, printed in OTHER_NAMES:
+        checks.equal(name, compared("--only", name)[2], [printed])
+
+
+@needs("exiftool")
+@pytest.mark.parametrize(
+    "pattern, groups",
+    [
+        ("IPTC", {"IPTC"}),
+        ("XMP", {"XMP-dc", "XMP-xmp", "XMP-crs", "XMP-exif", "XMP-tiff", "XMP-Iptc4xmpCore"}),
+        ("xmp:*", {"XMP-xmp"}),
+        ("Exif", {"IFD0", "ExifIFD", "GPS", "InteropIFD", "IFD1"}),
+        ("gps", {"GPS"}),
+        ("gps:*", {"GPS"}),
+        ("XMP-*:*", {"XMP-dc", "XMP-xmp", "XMP-crs", "XMP-exif", "XMP-tiff", "XMP-Iptc4xmpCore"}),
+    ],
+)
+def test_groups(pattern, groups, folder, compared):
+    compared(a=SMALL_JPEG, b=by_exiftool(folder))
+    assert {it.partition(":")[0] for it in compared("--only", pattern)[2]} == groups
+    assert {it.partition(":")[0] for it in compared("--ignore", pattern)[2]} & groups == set()
+
+
+def test_a_wildcard_without_a_group_is_for_names_without_one():
+    assert fits("*Date*")("xmp", "xmp:MetadataDate", "") and fits("*Date*")("main", "0132", "")
+    assert not fits("I*")("iptc", "2:80", "") and fits("I*")("exif", "8827", "")
+    assert not fits("xmp:*")("xmp", "<http://x/title>", "") and fits("xmp:<http*")("xmp", "<http://x/title>", "")
+
+
+def test_kinds_of_patterns():
+    for kind, patterns in {
+        EXIF: ("Exif", "exif:*", "IFD1:ModifyDate", "thumb:*", "main:0x013b"),
+        IPTC: ("IPTC", "2:25", "iptc:Keywords"),
+        XMP: ("XMP", "dc:title", "XMP-exif:*", "xmpMM:*"),
+    }.items():
+        assert {it: kinds_of(it) for it in patterns} == {it: {kind} for it in patterns}
+    assert kinds_of("Artist") == kinds_of("*:title") == {EXIF, IPTC, XMP}
+
+
+# Names that are no field's
+
+
+@needs("exiftool")
+@pytest.mark.parametrize(
+    "name, meant",
+    [
+        ("Artst", "Artist"),
+        ("IFD0:Artst", "IFD0:Artist"),
+        ("xmp:MetadataDat", ""),
+        ("exif:DateTimeOrignal", "exif:DateTimeOriginal"),
+        ("savs", "saves"),
+    ],
+)
+def test_a_mistyped_name_is_never_silent(name, meant, folder, run):
+    (folder / "p").mkdir()
+    (folder / "p" / "a.jpg").write_bytes(by_exiftool(folder))
+    for words in (["compare", "b.jpg", "b.jpg"], ["changed", "p", "p"]):
+        status, _, err = run(*words, "--ignore", name)
+        if name.startswith("xmp:"):  # whose namespace is known, and may have other properties
+            assert (status, f"{name} fits no field" in err) == (0, True)
+        else:
+            assert (status, f"perhaps {meant} is meant" in err) == (3, True)
+
+
+def test_a_name_that_is_in_no_dictionary_is_one_that_a_picture_has(run):
+    packet = xmp("<y:unheard>a</y:unheard>", "", "xmlns:y='http://example.com/'")
+    status, _, err = run("compare", "a.jpg", "b.jpg", "--ignore", "XMP:<http://example.com/unheard>", a=jpeg(app1_xmp(packet)), b=jpeg())
+    assert (status, err) == (0, "")
+
+
+def test_an_empty_name(run):
+    status, lines, err = run("compare", "a.jpg", "b.jpg", "--ignore", " ", a=SMALL_JPEG, b=SMALL_JPEG)
+    assert (status, lines, err.count("\n")) == (3, [], 1)
+
+
+def test_files_of_names(run, folder, compared):
+    one, two = jpeg(app1(exif(b"abc")), app1_xmp(xmp("<dc:format>a</dc:format>"))), jpeg(
+        app1(exif(b"xyz")), app1_xmp(xmp("<dc:format>b</dc:format>"))
+    )
+    (folder / "names").write_bytes(b"\xef\xbb\xbf# a comment\r\n  IFD0:Make  \r\n\r\ndc:format\n")
+    assert compared("--ignore-file", "names", a=one, b=two)[:3] == (0, BUT, [])
+    assert compared("--only-file", "names")[2] == ["IFD0:Make", "XMP-dc:format"]
+    (folder / "wrong").write_bytes(b"Make\xff")
+    for name in ("wrong", "missing", "."):
+        status, lines, err = run("compare", "a.jpg", "b.jpg", "--ignore-file", name)
+        assert (status, lines, err.count("\n")) == (3, [], 1)
+
+
+# What every save changes
+
+
+@needs("exiftool")
+def test_saves_are_dates_of_changes_and_identifiers(folder, compared):
+    """A save by a program that keeps a history; each other date, person and identifier still counts."""
+    (folder / "a.jpg").write_bytes(SMALL_JPEG)
+    both = ["-XMP-xmp:CreateDate=2020:01:01 10:00:00", "-DateTimeOriginal=2020:01:01 10:00:00", "-XMP-xmpMM:DocumentID=xmp.did:1"]
+    tool(folder, "exiftool", "-q", "-overwrite_original", *both, "-XMP-xmpMM:InstanceID=xmp.iid:1", "-ThumbnailImage<=a.jpg", "a.jpg")
+    shutil.copy(folder / "a.jpg", folder / "b.jpg")
+    dates = [
+        f"-{tag}=2024:01:01 10:00:00"
+        for tag in ("ModifyDate", "XMP-xmp:ModifyDate", "XMP-xmp:MetadataDate", "XMP-tiff:DateTime", "IFD1:ModifyDate")
+    ]
+    more = ["-SubSecTime=12", "-OffsetTime=+01:00", "-XMP-xmpMM:InstanceID=xmp.iid:2", "-XMP-xmpMM:HistoryAction=saved"]
+    tool(folder, "exiftool", "-q", "-overwrite_original", *dates, *more, "b.jpg")
+    status, result, names, left = compared("--ignore", "saves")
+    assert (status, result, names) == (0, BUT, [])
+    assert sorted(left) == sorted(SAVES)
+    for tag in (
+        "-Artist=A",
+        "-DateTimeOriginal=2021:01:01 10:00:00",
+        "-CreateDate=2021:01:01 10:00:00",
+        "-XMP-xmpMM:DocumentID=2",
+        "-Software=X",
+    ):
+        tool(folder, "exiftool", "-q", "-o", "c.jpg", tag, "b.jpg")
+        os.replace(folder / "c.jpg", folder / "d.jpg")
+        assert compared("--ignore", "saves", b=(folder / "d.jpg").read_bytes())[:2] == (1, "different"), tag
+        tool(folder, "exiftool", "-q", "-overwrite_original", *dates, *more, "b.jpg")
+
+
+# The same verdict as if the fields weren't there
+
+
+@needs("exiftool")
+def test_as_if_exiftool_had_removed_the_fields(folder, compared):
+    """Two pictures are the same but for some fields exactly if they are the same once ExifTool has removed these fields from both."""
+    (folder / "p.jpg").write_bytes(by_exiftool(folder))
+    edits = [["-Artist=Otto"], ["-IPTC:Keywords+=jug"], ["-XMP-dc:Title=Jug"], ["-Artist=Otto", "-XMP-crs:Version=2"]]
+    ignored = [["IFD0:Artist"], ["IPTC:Keywords"], ["XMP-dc:Title", "XMP-crs:Version"], ["IFD0:Artist", "XMP-crs:Version", "IPTC:Keywords"]]
+    for edit in edits:
+        tool(folder, "exiftool", "-q", "-m", "-o", "q.jpg", *edit, "p.jpg")
+        for tags in ignored:
+            sides = []
+            for name in ("p.jpg", "q.jpg"):
+                tool(folder, "exiftool", "-q", "-o", "bare.jpg", *(f"-{tag}=" for tag in tags), name)
+                sides.append((folder / "bare.jpg").read_bytes())
+                os.remove(folder / "bare.jpg")
+            expected = compared(a=sides[0], b=sides[1])[1] == "same"
+            p, q = ((folder / name).read_bytes() for name in ("p.jpg", "q.jpg"))
+            status, result, _, _ = compared(*(word for tag in tags for word in ("--ignore", tag)), a=p, b=q)
+            assert (status, result) == ((0, BUT) if expected else (1, "different")), (edit, tags)
+        os.remove(folder / "q.jpg")
+
+
+# What can't be left out
+
+
+def test_a_refused_block_is_hidden_only_if_its_whole_kind_is_left_out(compared):
+    bad, good = jpeg(app1(BLOCKS["HeaderCut"]), with_record(iim(b"a"))), jpeg(app1(exif(b"abc")), with_record(iim(b"a")))
+    assert compared(a=bad, b=good)[:2] == (2, "refused")
+    assert compared("--ignore", "Make", "--ignore", "GPS")[:2] == (2, "refused")
+    for words in (("--ignore", "Exif"), ("--only", "IPTC"), ("--only", "2:25", "--only", "xmp")):
+        status, result, names, left = compared(*words)
+        assert (status, result, names, left) == (0, BUT, [], ["Exif"]), words
+
+
+def test_parts_that_were_not_read_are_never_left_out(compared):
+    one = jpeg(app1(exif(b"abc")))
+    assert compared("--ignore", "*", a=one, b=one + b"trailer")[:2] == (2, "not wholly read")
+    assert compared("--ignore", "IPTC")[:2] == (2, "not wholly read")
+
+
+def test_what_stands_for_more_fields_than_are_kept_always_counts():
+    choice = Choice(only=["Artist"])
+    assert choice.counts("iptc", "more") and choice.counts("", "") and not choice.counts("iptc", "2:25")
+
+
+def test_a_difference_that_no_field_shows_stays():
+    """Blocks whose meanings differ, and whose listings don't."""
+    left = _Left(Choice(ignore=["Artist"]))
+    assert left.without(EXIF, [], False) == [] and left.rest == {EXIF}
+    left = _Left(Choice(ignore=["Artist"]))
+    assert left.without(EXIF, [], True) == [] and left.rest == set()
+
+
+def test_long_values_are_compared_by_their_digests(compared):
+    """Values that a listing shortens, with equal beginnings."""
+    texts = [b"x" * 2000 + ending for ending in (b"a", b"b")]
+    one, two = (jpeg(app1(exif(b"abc")), with_record(iim(it))) for it in texts)
+    assert compared("--ignore", "Make", a=one, b=two)[1:3] == ("different", ["IPTC:Keywords"])
+    assert compared("--ignore", "Keywords")[:2] == (0, BUT)
+
+
+# Equal numbers
+
+
+def numbers(*values):
+    """A block with an exposure time."""
+    directory = table([entry(0x829A, 5, 1, 44)])
+    return block([entry(0x8769, LONG, 1, 26)]) + directory + struct.pack(">II", *values)
+
+
+def test_equal_numbers(compared, run, folder):
+    one, two, other = (jpeg(app1(numbers(*it))) for it in ((10, 1250), (1, 125), (1, 60)))
+    assert compared(a=one, b=two)[:2] == (1, "only equal numbers are written otherwise")
+    assert compared("--equal-numbers")[:3] == (0, "the same but for how equal numbers are written", [])
+    assert compared("--equal-numbers", b=other)[:2] == (1, "different")
+    assert compared("--equal-numbers", "--ignore", "ExposureTime", b=other)[:2] == (0, BUT)
+    for side, octets in (("before", one), ("after", two)):
+        (folder / side).mkdir()
+        (folder / side / "p.jpg").write_bytes(octets)
+    status, lines, _ = run("changed", "before", "after")
+    assert status == 1 and "1 only equal numbers are written otherwise: p.jpg" in lines
+    assert run("changed", "before", "after", "--equal-numbers")[:2] == (
+        0,
+        ["1 picture compared: none changed.", "", "1 the same but for how equal numbers are written: p.jpg"],
+    )
+
+
+# MakerNotes
+
+
+def test_maker_notes(compared):
+    """Without MakerNotes neither their bytes count nor what only they lead to."""
+    from test_never_the_same import reached
+
+    for pair in reached():
+        if pair.status != 0 and compared(a=pair.before, b=pair.after)[1].endswith("can reach differ"):
+            assert compared("--ignore", "exif:MakerNote") == (0, BUT, [], ["ExifIFD:MakerNote"])
+            assert compared("--ignore", "Artist")[0] == 2
+
+
+# changed
+
+
+def test_changed_has_what_was_left_out(run, folder):
+    for side, make in (("before", b"abc"), ("after", b"xyz")):
+        (folder / side).mkdir()
+        for name in ("a", "b"):
+            (folder / side / name).write_bytes(jpeg(app1(exif(make))))
+    for words, lines in (([], 5), (["--each"], 3)):
+        status, found, err = run("changed", "before", "after", "--ignore", "Make", "--ignore", "GPS", *words)
+        assert (status, err) == (0, "exifnorm-pictures: note: GPS fits no field that differs\n")
+        assert "Left out though it differs: IFD0:Make (2 pictures)." in found and len(found) == lines
+    *_, last = (json.loads(it) for it in run("changed", "before", "after", "--ignore", "Make", "--json")[1])
+    assert last == {"counts": {BUT: 2}, "left_out": {"IFD0:Make": 2}}
+    assert run("changed", "before", "after", "--ignore", "Maek")[0] == 3
+    found = json.loads(run("changed", "before", "after", "--ignore", "Make", "--all", "--json")[1][0])
+    assert (found["result"], found["left_out"], found["fields"]) == (BUT, ["IFD0:Make"], [])
