@@ -31,6 +31,12 @@ def load(name):
     return module
 
 
+def of_peers(name):
+    """A module of bench/peers, which imports others of that folder."""
+    with mock.patch.object(sys, "path", [str(PEERS), *sys.path]):
+        return importlib.import_module(name)
+
+
 def benchmark(name, *words, **environment):
     """What a benchmark prints."""
     return run(sys.executable, "-B", TOP / "bench" / name, *words, **environment)
@@ -51,7 +57,18 @@ def test_own_drivers_compile(library, folder):
     with mock.patch.object(drivers, "must_compile") as compiled:
         drivers.own_drivers(folder, library)
     for call in compiled.call_args_list:
+        assert any(str(word).startswith("-O") for word in call.args), "programs are compared that are optimised"
         run(*call.args, *STRICT)
+    assert len({call.args[:-1] for call in compiled.call_args_list}) == 6, "a way that is timed twice under two names"
+
+
+def test_which_blocks_are_for_a_peer(folder):
+    """libexif and kamadak-exif read Exif, libiptcdata reads IPTC, and exiv2 both."""
+    drivers = load("peers/drivers.py")
+    ready = {"compiled": lambda *_: True, "flags": lambda _: [], "built_kamadak": lambda *_: True}
+    with mock.patch.multiple(drivers, **ready):
+        found = {name: (it.is_for_exif, it.is_for_iim) for name, it in drivers.peer_drivers(folder).items()}
+    assert found == {"libexif": (True, False), "libiptcdata": (False, True), "exiv2": (True, True), "kamadak-exif": (True, False)}
 
 
 @pytest.mark.parametrize("driver", ["libexif.c", "libiptcdata.c", "exiv2.cpp"])
@@ -82,7 +99,8 @@ def test_library_beside_plain_c(library, program, folder):
     """On blocks of both kinds and a large one, without peers."""
     without_peers = {"PKG_CONFIG_LIBDIR": str(folder), "KAMADAK": str(folder)}
     words = ["peers/run.py", library, program, "--rounds", "1", "--seconds", "0.001"]
-    small = benchmark(*words, "--only", "one inline field", "--only", "25 DataSets", **without_peers)
+    small = benchmark(*words, "--only", "three inline fields", "--only", "25 DataSets", **without_peers)
+    assert "\nthree inline fields, 50 bytes\n" in small, "a header, a count, three entries and an offset: 8 + 2 + 3 * 12 + 4"
     assert len(numbers_of(r"^  (?:parse|write): ([\d.,]+) microseconds; ([\d.,]+) of C", small)) == 4
     assert len(re.findall(r"^  memory of (?:parse|write), over the block: exifnorm [\d.]+, C [\d.]+", small, re.M)) == 4
     large = benchmark(*words, "--only", "16 MB of bytes", "--no-peers")
@@ -98,8 +116,7 @@ def test_plain_c_and_the_library_agree(library, program):
 
 def test_least_time_of_all_rounds():
     """A driver that failed is not run again."""
-    with mock.patch.object(sys, "path", [str(PEERS), *sys.path]):
-        race = importlib.import_module("race")
+    race = of_peers("race")
     times = {
         ("parse", "C"): [2.0, 1.0, 3.0],
         ("write", "C"): [4.0, 6.0, 5.0],
@@ -111,6 +128,37 @@ def test_least_time_of_all_rounds():
         least = race.least_times({"C": "C", "libexif": "libexif"}, Path("a"), 3, 0.1)
     assert (least["parse", "C"], least["write", "C"], least["parse", "libexif"]) == (1.0, 4.0, None)
     assert [list(it) for it in left.values()] == [[]] * 4
+
+
+def test_ratios(capsys):
+    """A ratio is the time of the library over that of another."""
+    of_peers("run").print_times({(mode, name): spent for mode in ("parse", "write") for name, spent in (("exifnorm", 3.0), ("C", 2.0))})
+    assert capsys.readouterr().out == "  parse: 3.00 microseconds; 1.50 of C\n  write: 3.00 microseconds; 1.50 of C\n"
+
+
+def test_times_of_the_filter(folder):
+    costs = of_peers("program_costs")
+    (folder / "block").write_bytes(bytes(100))
+    times = {("program", "block"): 4.0, ("cat", "block"): 1.0, ("whole", "block"): 2.0, ("program", "plain"): 3.0}
+    with mock.patch.object(costs, "seconds", lambda words, path, _: times[words[0], path.name]):
+        least = costs.filter_times("program", "whole", folder / "block", folder, 1)
+    assert least == {"filter": 4.0, "cat": 1.0, "C": 2.0, "one value": 3.0}
+
+
+def test_memory_over_the_input():
+    """That of a command which requests three bytes for each byte that it reads."""
+    costs = of_peers("program_costs")
+
+    def watched(_, __, case):
+        return None, mock.Mock(held=3 * 100 * (2 if case.words[:1] == ["compare"] else 1))
+
+    with mock.patch.object(costs, "watched", watched):
+        assert {ratio for _, ratio in costs.memory("program", "shim", bytes(100))} == {3.0}
+
+
+def test_the_number_of_strips():
+    kinds = of_peers("block_kinds")
+    assert [name for name in kinds.KINDS if "strips" in name and f"{kinds.STRIPS / 1e6} million" not in name] == []
 
 
 def test_python_package(library, folder):
@@ -135,3 +183,35 @@ def test_commands_on_pictures(library, folder):
     assert [row for row in rows if not re.search(r"\d", row[1])] == [], "each measurement has a result"
     for name in ("`index`", "memory of `same`", "memory of `changed`", "page of `report`"):
         assert any(name in row[0] for row in rows), name
+
+
+@pytest.fixture
+def of_pictures(monkeypatch):
+    """The benchmark of exifnorm-pictures, whose commands need what `cost` returns."""
+    found = load("pictures/run.py")
+    monkeypatch.setattr(found, "make_others", lambda *_: True)
+    return found
+
+
+def test_processes_of_commands_on_pictures(of_pictures, folder, monkeypatch):
+    called = []
+    monkeypatch.setattr(of_pictures, "cost", lambda words: called.append(words) or of_pictures.Cost(len(called), 1, 1))
+    timed = of_pictures.Timed(str(folder), 1)
+    timed.round()
+    jobs = {name: called[int(it.seconds) - 1][-2] for name, it in timed.least.items() if name != "exiftool"}
+    assert {name for name, it in jobs.items() if it == "4"} == {"four", "others by four"}
+    assert {it for name, it in jobs.items() if "four" not in name} == {"1"}
+
+
+def test_instructions_of_commands_on_pictures(of_pictures, folder, monkeypatch):
+    """Of a command with 300 million instructions for its start, and 700 thousand for each picture."""
+    counted = lambda words: 300_000_000 + 700_000 * len([*Path(next(it for it in words if "counted" in it)).rglob("*.jpg")])
+    monkeypatch.setattr(of_pictures, "instructions", counted)
+    rows = [row[1] for row in of_pictures.counted(str(folder), 10)]
+    assert rows == ["700 thousand for a picture, 300 million for the start"] * 2
+
+
+def test_a_page_opens_later_than_an_empty_one(of_pictures, monkeypatch):
+    monkeypatch.setattr(of_pictures.shutil, "which", lambda _: "chromium")
+    monkeypatch.setattr(of_pictures, "cost", lambda words: of_pictures.Cost(1.0 if words[-1] == "about:blank" else 1.5, 1, 1))
+    assert of_pictures.opening("page.html") == 0.5
