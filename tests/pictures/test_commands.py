@@ -258,7 +258,7 @@ class Words(WithPictures):
     @needs("exiftool")
     def test_without_exiv2_a_raw_picture_is_a_line(self):
         self.copied(collection())
-        os.rename(self.path("pictures", "scan.tif"), self.path("pictures", "scan.nef"))
+        os.rename(self.path("pictures", "scan.tif"), self.path("pictures", "scan.nrw"))
         done = self.without("exiftool", "perl")("index", "pictures", "--catalogue", "c", "--quiet")
         self.assertEqual(done.returncode, 2, done.stderr)
-        self.assertIn(b"scan.nef: NeedsExiv2: ", done.stdout)
+        self.assertIn(b"scan.nrw: NeedsExiv2: ", done.stdout)

@@ -98,21 +98,21 @@ class Tools(WithPictures):
 
     @needs("exiftool")
     def test_exiv2_that_hangs(self):
-        write(self.path("a.nef"), b"II*\0\x08\0\0\0\0\0\0\0\0\0")
+        write(self.path("a.nrw"), b"II*\0\x08\0\0\0\0\0\0\0\0\0")
         environment = self.fake("exiv2", '#!/bin/sh\n[ "$1" = --version ] && echo exiv2 0.27.6 && exit\nexec sleep 1000\n')
-        lines = self.asked("index", "a.nef", "--catalogue", "c", "--quiet", "--limit", "2", status=2, **environment)
-        self.assertIn("a.nef: TooSlow: exiv2", lines[0])
+        lines = self.asked("index", "a.nrw", "--catalogue", "c", "--quiet", "--limit", "2", status=2, **environment)
+        self.assertIn("a.nrw: TooSlow: exiv2", lines[0])
 
     @needs("exiftool")
     def test_each_wrong_result_of_exiv2_costs_one_file(self):
         """It ends, is killed, or writes a file or a folder without a block: each raw picture gives a line."""
-        for name in ("a.nef", "bad.nef"):
+        for name in ("a.nrw", "bad.nrw"):
             write(self.path(name), b"II*\0\x08\0\0\0\0\0\0\0\0\0")
         for fault in ("exit 3", "kill -9 $$", 'echo garbage > "$4/picture.exv"', 'mkdir "$4/picture.exv"', "true"):
             with self.subTest(fault):
                 text = f'#!/bin/sh\n[ "$1" = --version ] && echo exiv2 0.27.6 && exit\n{fault}\n'
                 lines = self.asked(
-                    "index", "a.nef", "bad.nef", "--catalogue", "c", "--again", "--quiet", "--json", status=2, **self.fake("exiv2", text)
+                    "index", "a.nrw", "bad.nrw", "--catalogue", "c", "--again", "--quiet", "--json", status=2, **self.fake("exiv2", text)
                 )
                 found = [json.loads(it) for it in lines]
                 self.assertEqual([(it["problem"], "exiv2" in it["detail"]) for it in found[:-1]], [("ToolFailed", True)] * 2)

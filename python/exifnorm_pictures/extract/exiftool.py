@@ -237,7 +237,7 @@ def _add_by_exiv2(blocks: Blocks, path: bytes) -> None:
     os.symlink(os.path.abspath(path), os.fsencode(link))
     programs.run([programs.needed("exiv2"), "-q", "-ee", "-l", folder, link], folder)
     made = os.path.join(folder, "picture.exv")
-    found = _exif_of_exiv2(made) if os.path.exists(made) else b""
+    found = _exif_of_exiv2(made) if os.path.isfile(made) else b""
     if found:
         blocks.add(EXIF, found, f"{blocks.type} file", extractor=EXIV2)
     else:
