@@ -6,7 +6,10 @@ from collections import Counter
 from datetime import datetime
 from unittest import mock
 
+from exifnorm_pictures.compare.conflicts import Conflict
+from exifnorm_pictures.fields.labels import LabelText
 from exifnorm_pictures.report import contents, page as report
+from exifnorm_pictures.report.contradictions import Contradictions
 from exifnorm_pictures.catalogue.records import Picture
 from exifnorm_pictures.report.style import STYLE
 
@@ -31,6 +34,15 @@ def problem(name, word, detail=""):
     return Picture(1, name, b"/p", "", "", word, detail, None, None, (), ())
 
 
+def different(label, detail="", **texts):
+    found = tuple(LabelText(label, standard, f"{standard}:x", (text,)) for standard, text in texts.items())
+    return Conflict(label, "different", detail, found)
+
+
+CONTRADICTIONS = [
+    (b"/p/one.jpg", [different("title", IPTC="<b>", XMP="x" * 301), different("creator", "IPTC:x is <cut>", Exif="A\u202eB", XMP="C")]),
+    *((b"/p/%d.jpg" % number, [different("title", Exif="1", XMP="2")]) for number in range(9)),
+]
 CHANGED = [
     contents.EqualChanges(
         "different", "Exif is different", [("IFD0:Make", '"<a>"', '"b"', ""), ("IFD0:Model", None, "x" * 301, "")], 1, [b"one.jpg"]
@@ -83,6 +95,7 @@ class Whole(unittest.TestCase):
                 (2, "XMP is the same", [b"/p/3", b"/p/4"]),
             ],
             all_groups=(41, 1100),
+            contradictions=Contradictions(1200, 61, 1, 2, Counter({"title": 61, "creator": 1}), CONTRADICTIONS),
             results=Counter(
                 {"same": 1000, "different": 500, "refused": 10, "refused, the same bytes": 3, "only MakerNote differs": 1, "not read": 2}
             ),

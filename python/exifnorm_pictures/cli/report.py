@@ -27,10 +27,10 @@ def run(arguments: argparse.Namespace) -> int:
         old = open_.enter_context(Catalogue(arguments.since)) if arguments.since else None
         room = open_.enter_context(tempdir.room())
         about = contents.About(catalogue, old, chosen, not arguments.no_look)
+        programs.set_limit(arguments.limit)
+        exiftool.begin(room)
+        open_.callback(exiftool.finish)
         if arguments.html:
-            programs.set_limit(arguments.limit)
-            exiftool.begin(room)
-            open_.callback(exiftool.finish)
             text = page.page(contents.gather(about), arguments.title)
             _write_page(arguments, text.encode("utf-8", "backslashreplace"))
         if arguments.json:

@@ -14,9 +14,11 @@ from ..cli.output import Members, path_members, shown_path
 from ..compare import changed, groups
 from ..compare.differing import bare
 from ..compare.wording import sides
+from ..compare.conflicts import Conflict
+from .contradictions import Contradictions, checked, texts
 
 # what a page has of each list
-MOST_GROUPS, MOST_OF_GROUP, MOST_CHANGES, MOST_REFUSED, MOST_NAMES = 40, 12, 300, 60, 60
+MOST_GROUPS, MOST_OF_GROUP, MOST_CHANGES, MOST_REFUSED, MOST_NAMES, MOST_CONTRADICTIONS = 40, 12, 300, 60, 60, 60
 
 
 @dataclass
@@ -76,6 +78,7 @@ class Gathered:
     all_problems: int = 0
     groups: List[Tuple[int, str, List[bytes]]] = field(default_factory=list)  # size, the parts that are the same, first pictures
     all_groups: Tuple[int, int] = (0, 0)  # groups, and pictures in them
+    contradictions: Contradictions = field(default_factory=Contradictions)
     results: "Counter[str]" = field(default_factory=Counter)
     changed: List[EqualChanges] = field(default_factory=list)
     all_changed: int = 0  # different changes
@@ -108,6 +111,8 @@ def gather(about: About) -> Gathered:
     found.all_groups = groups.totals(catalogue, only=about.table())
     for group in groups.groups(catalogue, only=about.table(), most=MOST_GROUPS, look=about.look):
         found.groups.append((group.count, group.sentence(), list(group.pictures(MOST_OF_GROUP))))
+    for one in checked(catalogue, catalogue.pictures(about.table()), about.look):
+        found.contradictions.add(one, MOST_CONTRADICTIONS)
     if about.old is not None:
         _gather_changes(found, about)
     return found
@@ -191,6 +196,9 @@ def members(about: About) -> Iterator[Members]:
         yield {"same": [path_members(it) for it in group.pictures()], **known}
     if about.old is not None:
         yield from _changed_members(about)
+    for one in checked(catalogue, catalogue.pictures(about.table()), about.look):
+        if one.real:
+            yield {"contradicts_itself": path_members(one.path), "conflicts": [_conflict_members(label) for label in one.real]}
     for it in _refused(about):
         yield {"refused": path_members(it.path), "kind": WORDS[it.kind], "name": it.name, "cause": it.cause, "refusal": it.refusal}
     for picture in catalogue.pictures(about.table()):
@@ -198,6 +206,10 @@ def members(about: About) -> Iterator[Members]:
             yield {"problem": picture.problem, **path_members(picture.path), "detail": picture.detail}
         elif picture.unread != "":
             yield {"not_read": [it.what for it in catalogue.not_read_of(picture)], **path_members(picture.path)}
+
+
+def _conflict_members(it: Conflict) -> Members:
+    return {"label": it.label, "detail": it.detail or None, "texts": texts(it)}
 
 
 def _changed_members(about: About) -> Iterator[Members]:

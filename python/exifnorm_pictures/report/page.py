@@ -9,18 +9,31 @@ from datetime import datetime, timezone
 from html import escape
 from typing import Dict, List, Optional, Tuple
 
-from ..cli.output import safe, shown_path
+from ..cli.output import escaped, safe, shown_path
 from ..compare import changed, verdicts
+from ..compare.conflicts import Conflict
 from ..extract.formats.found import PROBLEMS
+from ..fields.labels import STANDARDS
 from ..refusals.causes import CAUSES, words_of
-from .contents import MOST_CHANGES, MOST_GROUPS, MOST_NAMES, MOST_OF_GROUP, MOST_REFUSED, EqualChanges, Gathered, unproved
+from .contents import (
+    MOST_CHANGES,
+    MOST_CONTRADICTIONS,
+    MOST_GROUPS,
+    MOST_NAMES,
+    MOST_OF_GROUP,
+    MOST_REFUSED,
+    EqualChanges,
+    Gathered,
+    unproved,
+)
+from .contradictions import texts
 from .style import STYLE
 from .thumbnails import small_pictures
 
 MOST_OPEN, MOST_FIELDS = 8, 40  # changes that are shown unfolded, and fields of a change
 
 STATE_WORDS = {
-    "accepted": "accepted: all blocks say something",
+    "accepted": "accepted: all blocks were read",
     "refused": "with a block that is refused or unreadable",
     "no block": "without an Exif, IPTC or XMP block",
     "NoPicture": "no picture",
@@ -45,7 +58,7 @@ def page(found: Gathered, title: str) -> str:
     parts = [_head(found, title), _overview(found)]
     if found.since:
         parts.append(_changes(found))
-    parts += [_groups(found), _refusals(found), _parts(found), _problems(found), _foot()]
+    parts += [_groups(found), _contradictions(found), _refusals(found), _parts(found), _problems(found), _foot()]
     return "".join(parts)
 
 
@@ -86,6 +99,8 @@ def _overview(found: Gathered) -> str:
     number, same = found.all_groups
     cards += f'<li class="plain"><b>{same:,}</b> have the same metadata as another, in {_counted(number, "group")}</li>'
     cards += f'<li class="odd"><b>{found.unread:,}</b> not wholly read</li>' if found.unread else ""
+    contradicting = found.contradictions.real
+    cards += f'<li class="odd"><b>{contradicting:,}</b> contradict themselves</li>' if contradicting else ""
     if found.since:
         count = sum(found.results[it] for it in found.results if it not in changed.UNCHANGED)
         cards += f'<li class="odd"><b>{count:,}</b> changed since the older catalogue</li>'
@@ -140,7 +155,7 @@ def _changes(found: Gathered) -> str:
         parts.append(_equal(it, number < MOST_OPEN))
     parts.append(_more(found.all_changed, MOST_CHANGES, "differences"))
     if not found.changed:
-        parts.append("<p>Nothing: all pictures say what they said.</p>")
+        parts.append("<p>Nothing has changed.</p>")
     return "".join(parts) + "</section>\n"
 
 
@@ -195,6 +210,46 @@ def _groups(found: Gathered) -> str:
         parts.append("</ul>" + _more(count, MOST_OF_GROUP, "pictures") + "</div>")
     parts.append(_more(found.all_groups[0], MOST_GROUPS, "groups"))
     return "".join(parts) + "</section>\n"
+
+
+def _contradictions(found: Gathered) -> str:
+    """The pictures whose Exif, IPTC and XMP have different texts for one label."""
+    known = found.contradictions
+    if not known.pictures:
+        return ""
+    several = f"{_counted(known.pictures, 'picture')} with metadata in more than one of Exif, IPTC and XMP"
+    parts = ["<section><h2>Contradictions</h2>"]
+    if known.real:
+        verb = "contradicts itself" if known.real == 1 else "contradict themselves"
+        words = "for a title, caption, name or another label the texts differ."
+        parts += [f"<p>Of {several}, {known.real:,} {verb}: {words}</p>", _bars(known.labels.most_common(), "odd")]
+    else:
+        parts.append(f"<p>None in {several}.</p>")
+    for number, (path, conflicts) in enumerate(known.first):
+        rows = "".join(_conflict(it) for it in conflicts)
+        head = "<tr><th>Label</th><th>Exif</th><th>IPTC</th><th>XMP</th></tr>"
+        summary = f'{_name(path, found.roots)} <span class="note">{_text(", ".join(it.label for it in conflicts))}</span>'
+        opened = " open" if number < MOST_OPEN else ""
+        parts.append(f'<details{opened}><summary>{summary}</summary><table class="texts">{head}{rows}</table></details>')
+    parts.append(_more(known.real, MOST_CONTRADICTIONS, "pictures"))
+    if known.minor:
+        parts.append(f'<p class="note">{_counted(known.minor, "more picture")} with differences of form alone: see conflicts --all</p>')
+    if known.unread:
+        why = "a block is refused or unreadable, or a long text isn't in the catalogue and its file wasn't read"
+        parts.append(f'<p class="note">{_counted(known.unread, "picture")} not wholly compared: {why}</p>')
+    return "".join(parts) + "</section>\n"
+
+
+def _conflict(it: Conflict) -> str:
+    """The texts of a label in a row."""
+    detail = f'<br><span class="note">{_text(it.detail)}</span>' if it.detail else ""
+    by_standard = texts(it)
+    cells = "".join(f'<td data-of="{standard}">{_caption(by_standard.get(standard))}</td>' for standard in STANDARDS)
+    return f"<tr><th>{_text(it.label)}{detail}</th>{cells}</tr>"
+
+
+def _caption(text: Optional[str]) -> str:
+    return '<i class="note">none</i>' if not text else _text(escaped(text if len(text) <= 300 else f"{text[:300]} .."))
 
 
 def _parts(found: Gathered) -> str:

@@ -28,7 +28,7 @@ svg text { fill: var(--ink); font-size: 14px; font-variant-numeric: tabular-nums
 details, .row { border-top: 1px solid var(--line); margin: 0; padding: 7px 0; } summary { cursor: pointer; }
 table { border-collapse: collapse; width: 100%; margin: 8px 0; } th { text-align: left; font-weight: 600; }
 td, th { border-top: 1px solid var(--line); padding: 5px 12px 5px 0; vertical-align: top; } .fields th { width: 26%; }
-.fields td { width: 37%; } .remedy { border-left: 4px solid var(--good); padding-left: 12px; }
+.fields td { width: 37%; } .texts th { width: 19%; } .texts td { width: 27%; } .remedy { border-left: 4px solid var(--good); padding-left: 12px; }
 .group { border-top: 1px solid var(--line); padding-bottom: 16px; } .group:first-of-type { border-top: 0; }
 .small { display: grid; grid-template-columns: repeat(auto-fill, minmax(150px, 1fr)); gap: 12px; list-style: none; padding: 0;
   margin: 0; }
@@ -40,7 +40,8 @@ footer { padding-bottom: 40px; font-size: 13px; }
   h1 { font-size: 22px; overflow-wrap: anywhere; } .cards { grid-template-columns: repeat(2, minmax(0, 1fr)); }
   .cards b { font-size: 21px; } .cards li { padding: 8px 10px; font-size: 13px; }
   .small { grid-template-columns: repeat(2, minmax(0, 1fr)); } table, tbody, tr, th, td { display: block; width: auto; }
-  .fields th, .fields td { width: auto; } tr { border-top: 1px solid var(--line); padding: 5px 0; } td, th { border: 0; padding: 1px 0; }
+  .fields th, .fields td, .texts th, .texts td { width: auto; } tr { border-top: 1px solid var(--line); padding: 5px 0; } td, th { border: 0; padding: 1px 0; }
+  .texts tr:first-child { display: none; } .texts td::before { content: attr(data-of) ": "; color: var(--faint); }
   td, th, li, summary, p { overflow-wrap: anywhere; } ul { padding-left: 18px; } svg text { font-size: 20px; } }
 @media print { section { break-inside: avoid; border: 0; padding: 0; } }
 """

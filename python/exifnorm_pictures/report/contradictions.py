@@ -1,0 +1,86 @@
+"""The pictures of a catalogue whose Exif, IPTC and XMP contradict each other, for the report.
+
+The texts are those of the catalogue. Of a long one it keeps only a digest: then the file is read, for so many pictures at most.
+"""
+
+from __future__ import annotations
+
+from collections import Counter
+from dataclasses import dataclass, field
+from typing import Dict, Iterator, List, NamedTuple, Tuple
+
+from ..catalogue.records import Block, Picture
+from ..catalogue.store import Catalogue
+from ..catalogue.texts import PictureTexts, texts_of
+from ..compare.conflicts import ALIKE, Conflict, conflicts
+from ..compare.verdicts import ACCEPTED
+from ..fields.labels import COMMENT, STANDARDS, WORDS
+from ..fields.listing import unpacked
+
+MOST_FILES = 1000  # that are read for their long texts
+_COMPARED = tuple(it for it in WORDS if it != COMMENT)
+
+
+class Checked(NamedTuple):
+    """A picture with metadata in two standards at least, and its differences."""
+
+    path: bytes
+    found: List[Conflict]
+    is_whole: bool  # whether all of its texts were compared
+
+    @property
+    def real(self) -> List[Conflict]:
+        """Its contradictions."""
+        return [it for it in self.found if it.is_real]
+
+
+@dataclass
+class Contradictions:
+    """What a page has of them."""
+
+    pictures: int = 0  # with metadata in two standards at least
+    real: int = 0
+    minor: int = 0  # that differ only in form
+    unread: int = 0  # of which a text or a block was not compared
+    labels: "Counter[str]" = field(default_factory=Counter)
+    first: List[Tuple[bytes, List[Conflict]]] = field(default_factory=list)
+
+    def add(self, it: Checked, most: int) -> None:
+        """Counts a picture, and keeps its contradictions if there is space."""
+        real = it.real
+        self.pictures += 1
+        self.real += bool(real)
+        self.minor += bool(it.found) and not real
+        self.unread += not it.is_whole
+        self.labels.update([one.label for one in real])
+        if real and len(self.first) < most:
+            self.first.append((it.path, real))
+
+
+def checked(catalogue: Catalogue, pictures: Iterator[Picture], look: bool) -> Iterator[Checked]:
+    """The pictures with metadata in two standards at least. With `look` files are read for long texts."""
+    left = MOST_FILES if look else 0
+    for it in pictures:
+        if it.problem or sum(octets != "" for octets in it.octets) < 2:
+            continue
+        with catalogue.guarded():
+            blocks = [(block, unpacked(kept) if kept else []) for block, kept in catalogue.blocks_of(it)]
+        found = texts_of(it, blocks, False, _COMPARED)
+        if found.missing and left:
+            left -= 1
+            found = texts_of(it, blocks, True, _COMPARED)
+        yield _checked(it, [block for block, _ in blocks], found)
+
+
+def _checked(it: Picture, blocks: List[Block], found: PictureTexts) -> Checked:
+    known = [one for one in conflicts(found.texts) if one.kind != ALIKE and one.label not in found.missing]
+    is_whole = not found.missing and all(one.status == ACCEPTED or one.repair for one in blocks)
+    return Checked(it.path, known, is_whole)
+
+
+def texts(it: Conflict) -> Dict[str, str]:
+    """The texts by standard."""
+    found: Dict[str, List[str]] = {}
+    for one in it.texts:
+        found.setdefault(one.standard, []).append(one.line)
+    return {standard: "; ".join(found[standard]) for standard in STANDARDS if standard in found}

@@ -1,0 +1,123 @@
+"""The report's section on contradictions: the pictures that `conflicts` lists, by the texts of the catalogue."""
+
+import json
+import os
+import re
+from html import unescape
+from pathlib import Path
+
+import pytest
+from made_blocks import BLOCKS
+from made_files import app1, app1_xmp, jpeg, xmp
+from studio import TOP
+from test_captions import CREATOR, LONG_NAME, data_set, with_record, with_texts
+
+from exifnorm_pictures.report import contents, contradictions
+
+LONG = "Ein Gefäß aus Köln, zerbrochen und geklebt. " * 20
+
+
+TITLE = "Gefäß, zerbrochen und wieder geklebt, Köln"  # of so many bytes in Latin-1 a catalogue keeps a digest
+
+
+def in_words(text):
+    return f"<rdf:Alt><rdf:li xml:lang='x-default'>{text}</rdf:li></rdf:Alt>"
+
+
+def captioned(text, packet):
+    described = f"<dc:description>{in_words(packet)}</dc:description>"
+    return jpeg(with_record(data_set(120, text.encode("latin-1"))), app1_xmp(xmp(described)))
+
+
+PICTURES = {
+    "different": jpeg(with_texts(artist=b"Anna"), with_record(data_set(80, b"Otto"), data_set(116, b"Museum"))),
+    "two": jpeg(with_texts(artist=b"A", copyright=b"B"), with_record(data_set(80, b"Otto"), data_set(116, b"Museum"))),
+    "cut": jpeg(with_record(data_set(80, LONG_NAME[:32].encode())), CREATOR),
+    "long": captioned(LONG, LONG + "Neu."),
+    "long and equal": captioned(LONG, LONG),
+    "one standard": jpeg(with_texts(artist=b"Anna")),
+    "refused": jpeg(app1(BLOCKS["UnknownKind"]), with_record(data_set(80, b"Otto"))),
+    "latin": jpeg(with_record(data_set(5, TITLE.encode("latin-1"))), app1_xmp(xmp(f"<dc:title>{in_words(TITLE)}</dc:title>"))),
+}
+
+
+@pytest.fixture
+def reported(folder, capsys, monkeypatch):
+    """Runs commands in a folder with the pictures: what they print, and the section of the page."""
+    from exifnorm_pictures.cli import main
+
+    monkeypatch.chdir(folder)
+    (folder / "p").mkdir()
+    for name, octets in PICTURES.items():
+        (folder / "p" / f"{name}.jpg").write_bytes(octets)
+
+    def run(*words):
+        capsys.readouterr()
+        main._run(list(words))
+        return capsys.readouterr().out
+
+    def call(*words):
+        run("report", "--catalogue", "c", "--html", "page.html", *words)
+        page = Path("page.html").read_text(encoding="utf-8")
+        return unescape(re.sub("<[^>]*>", " ", page.partition("<h2>Contradictions</h2>")[2].partition("</section>")[0]))
+
+    run("index", "p", "--catalogue", "c", "--quiet")
+    call.run = run
+    return call
+
+
+def listed(lines):
+    found = map(json.loads, lines.splitlines())
+    return {
+        os.path.basename(it["contradicts_itself"]["path"]): [one["label"] for one in it["conflicts"]]
+        for it in found
+        if "contradicts_itself" in it
+    }
+
+
+def test_the_pictures_are_those_of_conflicts(reported):
+    found = [json.loads(it) for it in reported.run("conflicts", "p", "--json").splitlines()]
+    expected = {os.path.basename(it["path"]): [one["label"] for one in it["conflicts"] if one["kind"] == "different"] for it in found[:-1]}
+    expected = {name: labels for name, labels in expected.items() if labels}
+    assert expected == {"different.jpg": ["creator"], "two.jpg": ["creator", "copyright"], "long.jpg": ["caption"]}
+    assert listed(reported.run("report", "--catalogue", "c", "--json")) == expected
+    section = reported()
+    assert [name for name in (f"{it}.jpg" for it in PICTURES) if f" {name} " in section] == ["different.jpg", "two.jpg", "long.jpg"]
+    assert "Anna" in section and "Otto" in section and "Neu." not in section, "long texts are cut"
+    assert "Of 7 pictures" in section and "3 contradict themselves" in section
+    assert "1 picture not wholly compared" in section, "the refused one"
+    assert "1 more picture with differences of form alone" in section
+
+
+def test_files_that_are_not_read_are_counted(reported, monkeypatch):
+    """Long texts are read from the files, of so many pictures at most, and of none with --no-look."""
+    assert listed(reported.run("report", "--catalogue", "c", "--json", "--no-look")) == {
+        "different.jpg": ["creator"],
+        "two.jpg": ["creator", "copyright"],
+    }
+    assert "4 pictures not wholly compared" in reported("--no-look")
+    monkeypatch.setattr(contradictions, "MOST_FILES", 1)
+    assert "3 pictures not wholly compared" in reported()
+    Path("p/long.jpg").unlink()
+    Path("p/long and equal.jpg").write_bytes(PICTURES["cut"])
+    Path("p/latin.jpg").unlink()
+    monkeypatch.setattr(contradictions, "MOST_FILES", 1000)
+    assert "4 pictures not wholly compared" in reported()
+
+
+def test_the_list_of_a_page_is_bounded(reported, monkeypatch):
+    monkeypatch.setattr(contents, "MOST_CONTRADICTIONS", 1)
+    monkeypatch.setattr("exifnorm_pictures.report.page.MOST_CONTRADICTIONS", 1)
+    section = reported()
+    assert "different.jpg" in section and "two.jpg" not in section and ".. and 2 more pictures" in section
+
+
+def test_some_pictures(reported, folder):
+    (folder / "list").write_text("p/cut.jpg\np/one standard.jpg\n", encoding="utf-8")
+    section = reported("--files-from", "list")
+    assert "None in 1 picture with metadata in more than one" in section
+
+
+def test_the_samples(reported):
+    reported.run("index", f"{TOP}/samples/before", "--catalogue", "s", "--quiet")
+    assert sorted(listed(reported.run("report", "--catalogue", "s", "--json"))) == ["1974-31-portrait.tif", "1998-7-vase.jpg", "vase.jpg"]
