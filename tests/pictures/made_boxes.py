@@ -144,3 +144,23 @@ def track(kind, more):
     described = box(b"stsd", bytes(4), struct.pack(">II4s", 1, 16, kind), bytes(8))
     media = box(b"minf", box(b"nmhd", bytes(4)), box(b"dinf"), box(b"stbl", described, box(b"stts"), box(b"free", b"x"), more))
     return box(b"trak", box(b"tkhd", b"x"), box(b"mdia", box(b"mdhd"), box(b"hdlr"), media))
+
+
+# JPEG XL and JPEG 2000
+
+
+def jxl(*boxes, brand=b"jxl ", behind=b"", pixels=box(b"jxlc", b"\xff\x0a\x00")):
+    return box(b"JXL ", b"\r\n\x87\n") + box(b"ftyp", brand + b"\0\0\0\0" + brand) + b"".join(boxes) + pixels + behind
+
+
+def uuid(name, data):
+    """A box uuid, whose name is 32 hexadecimal digits."""
+    return box(b"uuid", bytes.fromhex(name), data)
+
+
+SMALL_J2C = bytes.fromhex("ff4fff510029000000000001000000010000000000000000000000010000000100000000000000000001070101ffd9")
+
+
+def jp2(*boxes, in_header=b"", behind=b"", pixels=box(b"jp2c", SMALL_J2C)):
+    header = box(b"jp2h", box(b"ihdr", struct.pack(">IIHBBBB", 1, 1, 1, 7, 7, 0, 0)), full(b"colr", 1, b"\0\0\x10"), in_header)
+    return box(b"jP  ", b"\r\n\x87\n") + box(b"ftyp", b"jp2 \0\0\0\0jp2 ") + header + b"".join(boxes) + pixels + behind

@@ -5,6 +5,8 @@ import struct
 import pytest
 import test_cr3
 import test_heif
+import test_jp2
+import test_jxl
 import test_psd
 from made_boxes import box, cr3
 from studio import needs, tool
@@ -14,6 +16,8 @@ MADE = {
     "avif": test_heif.READ["AVIF"][0],
     "psd": test_psd.WHOLE,
     "psb": test_psd.READ["PSB"][0],
+    "jxl": test_jxl.READ["both"][0],
+    "jp2": test_jp2.READ["all"][0],
     "cr3": cr3(
         *test_cr3.structures(filling=bytes(100)), box(b"CTBO", struct.pack(">IIQQ", 1, 1, 620, 100)), packet=test_cr3.T + b" " * 100
     ),

@@ -14,7 +14,7 @@ from ..fields import normal_form
 from ..fields.listing import packed
 from ..refusals import repairs, steps
 from . import structure
-from .formats.found import EXIF, FEW, IPTC, NAMES, XMP, Blocks, FoundBlock
+from .formats.found import COMPRESSED, EXIF, FEW, IPTC, NAMES, XMP, Blocks, FoundBlock
 
 _BY_ITSELF = FoundBlock("", b"", "", "")  # where a block is that was given without a picture
 
@@ -22,6 +22,8 @@ _BY_ITSELF = FoundBlock("", b"", "", "")  # where a block is that was given with
 def judge(kind: str, block: bytes, with_fields: bool = False, at: FoundBlock = _BY_ITSELF) -> Block:
     """Judges a block that was taken as one of `kind`; a refused block never gets a digest."""
     octets = hashlib.sha256(block).hexdigest()
+    if block.startswith(COMPRESSED):
+        return _unreadable(kind, at, len(block), octets, "Compressed")
     try:
         form = exifnorm.normal(block)
     except exifnorm.Refused as refused:
@@ -89,7 +91,7 @@ def judge_all(blocks: Blocks, with_fields: bool = False) -> List[Block]:
         if block is not None:
             found.append(block._replace(name=it.name, source=it.where, extractor=it.extractor))
             continue
-        if it.kind == XMP:
+        if it.kind == XMP and not it.data.startswith(COMPRESSED):
             part = _part(it) if every else ""
             block = _judge_xmp(it, named.get(part, none), remaining.get(part, {}), with_fields)
         else:
@@ -102,7 +104,7 @@ def judge_all(blocks: Blocks, with_fields: bool = False) -> List[Block]:
         found.append(block)
     for it in blocks.found if every else ():
         if it.extends and (it.extends in remaining[_part(it)] or it.data != every[_part(it)][it.extends]):
-            found.append(_unreadable(it, hashlib.sha256(it.data).hexdigest(), "ExtensionNotNamed"))
+            found.append(_unreadable(XMP, it, len(it.data), hashlib.sha256(it.data).hexdigest(), "ExtensionNotNamed"))
     return found
 
 
@@ -114,6 +116,8 @@ def _part(it: FoundBlock) -> str:
 
 def judge_packet(packet: bytes, with_fields: bool = False) -> Block:
     """Judges an XMP packet by itself."""
+    if packet.startswith(COMPRESSED):
+        return judge(XMP, packet)
     return _judge_xmp(_BY_ITSELF._replace(data=packet), xmp.Extensions({}), {}, with_fields)
 
 
@@ -130,13 +134,13 @@ def _judge_xmp(at: FoundBlock, extensions: xmp.Extensions, left: Dict[str, bytes
         octets.update(extensions.data.get(it, b""))
         left.pop(it, None)
     if said is None:
-        return _unreadable(at, octets.hexdigest(), cause)
+        return _unreadable(XMP, at, len(at.data), octets.hexdigest(), cause)
     fields = packed(xmp.fields(said)) if with_fields else None
     return Block(XMP, *at[2:5], ACCEPTED, xmp.digest(said), None, None, len(at.data), octets.hexdigest(), fields)
 
 
-def _unreadable(at: FoundBlock, octets: str, cause: str) -> Block:
-    return Block(XMP, *at[2:5], UNREADABLE, None, cause, None, len(at.data), octets)
+def _unreadable(kind: str, at: FoundBlock, length: int, octets: str, cause: str) -> Block:
+    return Block(kind, *at[2:5], UNREADABLE, None, cause, None, length, octets)
 
 
 def listing(block: bytes) -> str:

@@ -8,7 +8,7 @@ from __future__ import annotations
 import re
 from typing import Callable, NamedTuple, Optional, Tuple
 
-from .formats import cr3, heif, jpeg, png, psd, raf, tiff, webp, xmp_file
+from .formats import cr3, heif, jp2, jpeg, jxl, png, psd, raf, tiff, webp, xmp_file
 from .formats.found import Blocks
 from .formats.streams import Stream
 
@@ -144,6 +144,28 @@ FORMATS: Tuple[Format, ...] = (
         "layers as one part, resource 0423, trailers",
         "a trailer that ExifTool knows after pixels compressed by ZIP",
         "pixels, other resources, colour tables",
+    ),
+    Format(
+        "JPEG XL",
+        lambda head, _: head.startswith((jxl.START, jxl.BARE)),
+        jxl.read,
+        "box Exif",
+        "",
+        "boxes xml and uuid",
+        "blocks compressed by Brotli (`brob`), which are unreadable; `jbrd`; unknown boxes; trailers",
+        "",
+        "pixels",
+    ),
+    Format(
+        "JPEG 2000",
+        lambda head, _: head.startswith((jp2.START, jp2.BARE)),
+        jp2.read,
+        "box uuid; GeoTIFF; Photoshop resource 0422",
+        "box uuid; resource 0404",
+        "boxes uuid and xml; resource 0424",
+        "other boxes uuid and xml, unknown boxes, trailers",
+        "",
+        "pixels, comments of the codestream, ICC profiles",
     ),
     Format("BigTIFF", lambda head, _: head[:4] in tiff.BIG_HEADS, tiff.read_big, "not read", "not read", "not read"),
     Format("NAME.xmp", lambda _, path: xmp_file.is_named_so(path), xmp_file.read, "", "", "the whole file"),

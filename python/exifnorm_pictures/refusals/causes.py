@@ -312,11 +312,15 @@ XMP_REMEDIES: Dict[str, str] = {
     "ExtensionDamaged": _WHOLE_COPY,
     "NeedsRdflib": "Install python3-rdflib and run the same `index` again: it reads these pictures again.",
 }
-# Of blocks whose form is too long, or for which the memory didn't suffice: these have no cause of the grammar.
+# Of blocks whose form is too long, that are compressed, or for which the memory didn't suffice: these have no cause of the grammar.
 OTHER_REMEDIES: Dict[str, Tuple[str, str]] = {
     "NormalTooLong": (
         "The block is accepted, but its normal form would be longer than any block may be.",
         "Nothing in it is wrong. Pictures with it are only the same byte for byte.",
+    ),
+    "Compressed": (
+        "The block is compressed by Brotli, which isn't opened here.",
+        "Write the JPEG XL again without it, such as by `cjxl --compress_boxes=0`.",
     ),
     "OutOfMemory": ("There was not enough memory to judge the block.", "Run `index --again` with fewer `--jobs`, or with more memory."),
 }

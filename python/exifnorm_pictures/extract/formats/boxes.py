@@ -6,11 +6,12 @@ last box of a file may have the length 0. No reader follows boxes in boxes of un
 
 from __future__ import annotations
 
+import re
 from typing import Callable, Iterator, List, NamedTuple, Set
 
 from ..budgets import BOX_BYTES, BOXES, budget_of
 from .found import XMP, Blocks, Broken
-from .streams import Stream, leave_rest, read_at, size_of
+from .streams import Stream, leave, leave_rest, read_at, size_of
 
 _LONGEST_HEAD = 32
 XMP_UUID = bytes.fromhex("be7acfcb97a942e89c71999491e3afac")  # XMP part 3, 1.1.4
@@ -87,6 +88,19 @@ def add_xmp(blocks: Blocks, stream: Stream, it: Box) -> None:
     data = content(stream, it)
     if data.strip(b"\0"):
         blocks.add(XMP, data, f"{it.kind.decode('ascii').strip()} box at {it.at}")
+
+
+# How a packet begins, which other XML doesn't: with a wrapper, or with its first element after a declaration
+_PACKET = re.compile(rb"(?:\xef\xbb\xbf)?\s*(?:<\?xml\s[^>]{0,200}\?>\s*)?<(?:\?xpacket\s|(?:x:xmpmeta|x:xapmeta|rdf:RDF)\b)")
+
+
+def add_xml(blocks: Blocks, stream: Stream, it: Box) -> None:
+    """Adds the packet of a box xml, or names the box if it has other XML. Raises `Broken` and `TooMuch`."""
+    data = content(stream, it)
+    if _PACKET.match(data[:1024]):
+        blocks.add(XMP, data, f"xml box at {it.at}")
+    else:
+        leave(blocks, it.name, stream, it.start, it.end)
 
 
 class Fields:

@@ -8,6 +8,7 @@ from typing import Dict, List, NamedTuple, Optional
 
 from ..budgets import BLOCKS, NOT_READ, Budget
 
+COMPRESSED = b"brob"  # how a block begins that is compressed by Brotli, as a box of JPEG XL: no block of a kind begins like this
 FEW = 8  # blocks or parts of a usual picture at most; more are counted, which takes time
 EXIF, IPTC, XMP = "exif", "iim", "xmp"
 NAMES = {EXIF: "Exif", IPTC: "IPTC", XMP: "XMP"}

@@ -1,0 +1,96 @@
+"""JPEG 2000: boxes uuid with Exif, IPTC, XMP or Photoshop's resources, and XMP in boxes xml (ISO/IEC 15444-1, Annex I; XMP part 3).
+
+GeoTIFF's box uuid is a TIFF with a picture of one pixel. A bare codestream has no metadata. Not compared, because they contain no Exif,
+IPTC or XMP: the codestream with its comments, colour profiles.
+"""
+
+from __future__ import annotations
+
+from typing import Set
+
+from ..budgets import budget_of
+from . import photoshop, tiff
+from .boxes import XMP_UUID, Box, add_xml, add_xmp, boxes, boxes_of_file, content
+from .found import EXIF, IPTC, Blocks, Broken, NotRead
+from .streams import Stream, leave, read_at
+from .window import Window
+
+START = b"\0\0\0\x0cjP  \r\n\x87\n"
+BARE = b"\xff\x4f\xff\x51"
+_SIX = b"Exif\0\0"
+_KINDS = {
+    b"JpgTiffExif->JP2": EXIF,
+    bytes.fromhex("0537cdab9d0c4431a72afa561f2a113e"): EXIF,  # Photoshop's
+    bytes.fromhex("33c7a4d2b81d4723a0baf1a3e097ad38"): IPTC,
+    bytes.fromhex("09a14e97c0b442e0bebf36df6f0ce36f"): IPTC,  # Photoshop's
+}
+_PHOTOSHOP = bytes.fromhex("2c4c0100850440b9a03e562148d6dfeb")
+_GEOTIFF = bytes.fromhex("b14bf8bd083d4b43a5ae8cd7d5a6ce03")
+# Settings of Adobe's plugin, of one byte or four (ExifTool's module Jpeg2000)
+_SETTINGS = frozenset(
+    bytes.fromhex(it)
+    for it in (
+        "3a0d02180ae94115b3764bca41ce0e71",
+        "47c92cccd1a14581b90438bb5467713b",
+        "bc45a774dd504ec6a9f6f3a137f47e90",
+        "d7c8c5ef951f43b28757042500f538e8",
+    )
+)
+_NESTED = (b"jp2h", b"jpch", b"jplh", b"cgrp", b"res ", b"ftbl")  # boxes of boxes, in which ExifTool reads the same kinds as outside
+_DEEPEST = 4  # such boxes in one another; the standard needs three
+_WITHOUT = frozenset(
+    b"ftyp rreq jp2c dtbl mdat free ihdr bpcc colr pclr cmap cdef resc resd opct creg roid flst".split(),
+)
+
+
+def read(stream: Stream, whole: bool = False) -> Blocks:
+    """The blocks of a JPEG 2000. Raises `Broken`."""
+    is_bare = read_at(stream, 0, len(BARE)) == BARE
+    blocks = Blocks(type="J2C" if is_bare else "JP2", budget=budget_of(stream))
+    for it in () if is_bare else boxes_of_file(blocks, stream, _is_whole):
+        if it.at:  # the first one is the signature
+            _take(blocks, stream, it, 1)
+    return blocks
+
+
+def _is_whole(kinds: Set[bytes]) -> bool:
+    return bool({b"jp2c", b"ftbl", b"mdat"} & kinds)
+
+
+def _take(blocks: Blocks, stream: Stream, it: Box, depth: int) -> None:
+    """Adds the blocks of a box, or names it."""
+    if it.kind in _NESTED:
+        if depth > _DEEPEST:
+            raise Broken(f"more than {_DEEPEST} boxes in one another")
+        for one in boxes(stream, it.start, it.end):
+            _take(blocks, stream, one, depth + 1)
+    elif it.kind == b"uuid":
+        _uuid(blocks, stream, it)
+    elif it.kind == b"xml ":
+        add_xml(blocks, stream, it)
+    elif it.kind not in _WITHOUT:
+        leave(blocks, it.name, stream, it.start, it.end)
+
+
+def _uuid(blocks: Blocks, stream: Stream, it: Box) -> None:
+    where = f"uuid box at {it.at}"
+    if it.uuid in _KINDS:
+        kind, data = _KINDS[it.uuid], content(stream, it)
+        blocks.add(kind, data[len(_SIX) :] if kind == EXIF and data.startswith(_SIX) else data, where)
+    elif it.uuid == XMP_UUID:
+        add_xmp(blocks, stream, it)
+    elif it.uuid == _PHOTOSHOP:
+        photoshop.add_resources(blocks, [(where, content(stream, it))])
+    elif it.uuid == _GEOTIFF and read_at(stream, it.start, min(4, it.end - it.start)) in tiff.HEADS:
+        _geotiff(blocks, Window(stream, it.start, it.end - it.start), where)
+    elif it.uuid not in _SETTINGS or it.end - it.start > 4:
+        leave(blocks, it.name, stream, it.start, it.end)
+
+
+def _geotiff(blocks: Blocks, stream: Window, where: str) -> None:
+    inside = tiff.read(stream)
+    for one in inside.found:
+        blocks.check()
+        blocks.found.append(one._replace(name=f"{one.name} of GeoTIFF", where=f"{one.where} of the {where}"))
+    for part in inside.not_read:
+        blocks.name(NotRead(f"{part.what} of GeoTIFF", part.digest))

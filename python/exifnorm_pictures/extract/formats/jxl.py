@@ -1,0 +1,59 @@
+"""JPEG XL: the boxes Exif and xml of a container, and XMP in a box uuid (ISO/IEC 18181-2). A bare codestream has no metadata.
+
+A box brob has another box, compressed by Brotli. It is never opened, as few bytes can become many: its Exif or XMP is a block that can't
+be read, so that none is said to be missing. From the box jbrd a JPEG with its comments and its IPTC can be made again; it is compared by its
+bytes.
+"""
+
+from __future__ import annotations
+
+from typing import Set
+
+from ..budgets import budget_of
+from . import item_exif
+from .boxes import XMP_UUID, Box, add_xml, add_xmp, boxes_of_file, content
+from .found import COMPRESSED, EXIF, XMP, Blocks, Broken
+from .streams import Stream, leave, read_at
+
+START = b"\0\0\0\x0cJXL \r\n\x87\n"
+BARE = b"\xff\x0a"
+_BRAND = b"jxl "
+_WITHOUT = frozenset(b"jxlc jxlp jxll jxli free skip".split())
+_IN_BROB = {b"Exif": EXIF, b"xml ": XMP}
+
+
+def read(stream: Stream, whole: bool = False) -> Blocks:
+    """The blocks of a JPEG XL. Raises `Broken`."""
+    blocks = Blocks(type="JXL", budget=budget_of(stream))
+    if read_at(stream, 0, len(BARE)) == BARE:
+        return blocks
+    for it in boxes_of_file(blocks, stream, _is_whole):
+        if it.kind == b"ftyp":
+            if read_at(stream, it.start, min(4, it.end - it.start)) != _BRAND:
+                raise Broken("the JPEG XL has the brand of another format")
+        elif it.at and it.kind not in _WITHOUT:  # the first one is the signature
+            _take(blocks, stream, it)
+    return blocks
+
+
+def _is_whole(kinds: Set[bytes]) -> bool:
+    return b"jxlc" in kinds or b"jxlp" in kinds
+
+
+def _take(blocks: Blocks, stream: Stream, it: Box) -> None:
+    what = it.name
+    if it.kind == b"xml ":
+        return add_xml(blocks, stream, it)
+    if it.uuid == XMP_UUID:
+        return add_xmp(blocks, stream, it)
+    if it.kind == b"Exif":
+        block = item_exif.block_of(content(stream, it))
+        if block is not None:
+            return blocks.add(EXIF, block, f"Exif box at {it.at}")
+        what = "Exif box without a header"
+    elif it.kind == b"brob":
+        kind = _IN_BROB.get(read_at(stream, it.start, min(4, it.end - it.start)))
+        if kind is not None:
+            return blocks.add(kind, COMPRESSED + content(stream, it), f"brob box at {it.at}")
+    leave(blocks, what, stream, it.start, it.end)
+    return None

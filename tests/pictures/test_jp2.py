@@ -1,0 +1,188 @@
+"""JPEG 2000: the blocks, what is left, what is broken, and pairs that are the same or never are. ExifTool and exiv2 read the same of the
+made files."""
+
+import hashlib
+import io
+from unittest import mock
+
+import pytest
+from beside import blocks_of_exiftool, changed, hidden_by_one_byte, makers_of_exiv2
+from hypothesis import given
+from made_boxes import SMALL_J2C, XMP_UUID, box, jp2, uuid, wide
+from made_files import T_OTHERWISE, app1, app1_xmp, app13, exif, iim, jpeg, page, resource, tiff, title, turned
+from studio import needs
+
+from exifnorm_pictures.extract import budgets
+from exifnorm_pictures.extract.formats import jp2 as jp2_
+from exifnorm_pictures.extract.formats.found import Broken
+
+A, B, K, L, T, U = exif(b"Abc"), exif(b"Xyz"), iim(b"one"), iim(b"four"), title("one"), title("two")
+SAME, DIFFERENT, UNDECIDED = 0, 1, 2
+JPG_TIFF_EXIF = b"JpgTiffExif->JP2".hex()
+PHOTOSHOPS_EXIF, PHOTOSHOPS_IPTC = "0537cdab9d0c4431a72afa561f2a113e", "09a14e97c0b442e0bebf36df6f0ce36f"
+IPTC, PHOTOSHOP = "33c7a4d2b81d4723a0baf1a3e097ad38", "2c4c0100850440b9a03e562148d6dfeb"
+GEOTIFF = "b14bf8bd083d4b43a5ae8cd7d5a6ce03"
+SETTING = "47c92cccd1a14581b90438bb5467713b"
+E, I, X = uuid(JPG_TIFF_EXIF, A), uuid(IPTC, K), uuid(XMP_UUID.hex(), T)
+ALL = [("exif", "Exif", A), ("iim", "IPTC", K), ("xmp", "XMP", T)]
+GEO = tiff(page((0x87AF, 3, 1)))
+
+READ = {
+    "all": (jp2(E, I, X), ALL),
+    "after the codestream": (jp2(behind=E + I + X), ALL),
+    "long lengths": (jp2(*map(wide, (E, I, X))), ALL),
+    "Photoshop's": (jp2(uuid(PHOTOSHOPS_EXIF, A), uuid(PHOTOSHOPS_IPTC, K)), ALL[:2]),
+    "Exif before the block": (jp2(uuid(JPG_TIFF_EXIF, b"Exif\0\0" + A)), ALL[:1]),
+    "resources": (jp2(uuid(PHOTOSHOP, resource(0x0404, K) + resource(0x0424, T) + resource(0x0422, A))), ALL),
+    "in the header": (jp2(in_header=E + I + X), ALL),
+    "in a header of a codestream": (jp2(box(b"jpch", E), box(b"jplh", I, box(b"cgrp", X))), ALL),
+    "without a length": (jp2(E, I, X, pixels=b"\0\0\0\0jp2c" + SMALL_J2C), ALL),
+    "a resolution": (jp2(E, I, X, in_header=box(b"res ", box(b"resc", bytes(10)))), ALL),
+    "fragments": (jp2(E, box(b"ftbl", box(b"flst", bytes(2))), I, X, pixels=box(b"mdat", SMALL_J2C)), ALL),
+    "settings": (jp2(E, I, X, uuid(SETTING, b"\0\0\0\1")), ALL),
+    "nothing": (jp2(), []),
+    "bare": (SMALL_J2C, []),
+}
+XML = jp2(box(b"xml ", T)), ALL[2:]  # which ExifTool doesn't call XMP
+LEFT = {
+    "other boxes": (
+        jp2(E, uuid("00" * 16, b"a"), I, box(b"asoc", b"b"), X, in_header=box(b"new ", b"c")),
+        [("new box", b"c"), (f"uuid box {'00' * 16}", b"a"), ("asoc box", b"b")],
+    ),
+    "other XML": (jp2(E, I, box(b"xml ", b"<gml/>"), X), [("xml box", b"<gml/>")]),
+    "long settings": (jp2(E, I, X, uuid(SETTING, b"\0\0\0\0\1")), [(f"uuid box {SETTING}", b"\0\0\0\0\1")]),
+    "no GeoTIFF": (jp2(E, I, X, uuid(GEOTIFF, b"GeoTIFF")), [(f"uuid box {GEOTIFF}", b"GeoTIFF")]),
+    "a short GeoTIFF": (jp2(E, I, X, uuid(GEOTIFF, b"MM")), [(f"uuid box {GEOTIFF}", b"MM")]),
+    "more Exif": (
+        jp2(E, I, X, uuid(PHOTOSHOP, resource(0x0423, A))),
+        [(f"Photoshop resource 0423 in the uuid box at {len(jp2(E, I, X)) - len(SMALL_J2C) - 8}", A)],
+    ),
+    "a trailer": (jp2(E, I, X, behind=b"trailer"), [("trailer of 7 bytes", b"trailer")]),
+    "zeros": (jp2(E, I, X, behind=bytes(40)), []),
+}
+DEEP = box(b"jplh", box(b"jplh", box(b"jplh", box(b"jplh", E))))
+BROKEN = {
+    "no picture": (jp2(E, pixels=b""), "the file has no picture"),
+    "cut": (jp2(E)[:-1], f"the box at {len(jp2(E)) - len(SMALL_J2C) - 8} has a wrong length"),
+    "too deep": (jp2(box(b"jplh", DEEP)), "more than 4 boxes in one another"),
+    "a box in a box": (jp2(in_header=b"\0\0\0\x09new "), "the box at 77 has a wrong length"),
+    "a box without a length in a box": (jp2(in_header=b"\0\0\0\0new "), "the box at 77 has a wrong length"),
+    "GeoTIFF": (jp2(uuid(GEOTIFF, b"MM\0*\0\0\0\x99")), "the file ends inside the 2 bytes at 153"),
+}
+
+
+@pytest.mark.parametrize("name", [*READ, "xml"])
+def test_blocks(name):
+    octets, blocks = READ.get(name, XML)
+    found = jp2_.read(io.BytesIO(octets))
+    assert sorted((it.kind, it.name, it.data) for it in found.found) == blocks
+    assert (found.not_read, found.type) == ([], "J2C" if name == "bare" else "JP2")
+
+
+def test_geotiff():
+    """It is a TIFF of its own, and its Exif isn't that of the picture."""
+    found = jp2_.read(io.BytesIO(jp2(uuid(GEOTIFF, GEO), E)))
+    assert ([it.name for it in found.found], found.not_read) == (["Exif of GeoTIFF", "Exif"], [])
+    assert b"\x87\xaf\0\3\0\0\0\1\0\1" in found.found[0].data
+    found = jp2_.read(io.BytesIO(jp2(uuid(GEOTIFF, GEO + b"more"))))
+    assert [(it.what, it.digest) for it in found.not_read] == [("trailer of 4 bytes of GeoTIFF", hashlib.sha256(b"more").hexdigest())]
+
+
+@pytest.mark.parametrize("name", LEFT)
+def test_what_is_left(name):
+    octets, parts = LEFT[name]
+    found = jp2_.read(io.BytesIO(octets))
+    assert [tuple(it) for it in found.not_read] == [(what, hashlib.sha256(data).hexdigest()) for what, data in parts]
+    assert [(it.kind, it.name, it.data) for it in found.found] == ALL
+
+
+def test_the_greatest_depth():
+    assert [it.name for it in jp2_.read(io.BytesIO(jp2(DEEP))).found] == ["Exif"]
+
+
+@pytest.mark.parametrize("name", BROKEN)
+def test_broken(name):
+    octets, why = BROKEN[name]
+    with pytest.raises(Broken) as caught:
+        jp2_.read(io.BytesIO(octets))
+    assert str(caught.value) == why
+
+
+@needs("exiftool")
+def test_exiftools_blocks(tmp_path):
+    """ExifTool takes the same blocks out of each of these files, byte for byte."""
+    names = [it for it in READ if it not in ("without a length", "bare", "fragments", "in a header of a codestream")]
+    for name in names:
+        (tmp_path / f"{name}.jp2").write_bytes(READ[name][0])
+    found = blocks_of_exiftool(tmp_path)
+    for name in names:
+        assert sorted(found[f"{name}.jp2"]) == [(kind, data) for kind, _, data in READ[name][1]], name
+
+
+@needs("exiv2")
+def test_exiv2(tmp_path):
+    names = ["all", "Exif before the block"]
+    for name in names:
+        (tmp_path / name).write_bytes(READ[name][0])
+    assert makers_of_exiv2(tmp_path) == {it: ["Abc"] for it in names}
+
+
+def test_limits():
+    for what, spent in ((budgets.BOXES, 9), (budgets.BOX_BYTES, len(A + K + T))):
+        for most in (spent, spent - 1):
+            with mock.patch.dict(budgets.LIMITS, {what: most}):
+                stream = mock.Mock(wraps=io.BytesIO(jp2(E, I, X)), budget=budgets.Budget())
+                if most == spent:
+                    assert len(jp2_.read(stream).found) == 3
+                else:
+                    with pytest.raises(budgets.TooMuch, match=f"more than {most} {what}"):
+                        jp2_.read(stream)
+
+
+WHOLE = jp2(E, uuid(PHOTOSHOP, resource(0x0404, L)), I, box(b"xml ", b"<gml/>"), in_header=X, behind=box(b"xml ", U))
+
+
+@given(changed(WHOLE))
+def test_changed_files(octets):
+    """Blocks of bytes of the file, or a reason."""
+    try:
+        found = jp2_.read(io.BytesIO(octets))
+    except (Broken, budgets.TooMuch):
+        return
+    for it in found.found:
+        assert it.data in octets, it
+
+
+@needs("exiftool")
+def test_one_changed_byte(tmp_path):
+    hidden, number = hidden_by_one_byte(WHOLE, tmp_path, 300)
+    assert not hidden and number > 20
+
+
+PAIRS = {
+    "in another order": (
+        jp2(E, I, X),
+        jp2(uuid(XMP_UUID.hex(), T_OTHERWISE), I, uuid(PHOTOSHOPS_EXIF, turned(A)), behind=box(b"free", b"x")),
+        SAME,
+    ),
+    "beside a JPEG": (jp2(E, I, X), jpeg(app1(A), app13(resource(0x0404, K)), app1_xmp(T)), SAME),
+    "bare": (SMALL_J2C, jp2(), SAME),
+    "other Exif": (jp2(E), jp2(uuid(JPG_TIFF_EXIF, B)), DIFFERENT),
+    "other IPTC": (jp2(I), jp2(uuid(IPTC, L)), DIFFERENT),
+    "other XMP": (jp2(X), jp2(uuid(XMP_UUID.hex(), U)), DIFFERENT),
+    "other GeoTIFF": (
+        jp2(uuid(GEOTIFF, GEO)),
+        jp2(uuid(GEOTIFF, GEO.replace(b"\x87\xaf\0\3\0\0\0\1\0\1", b"\x87\xaf\0\3\0\0\0\1\0\2"))),
+        DIFFERENT,
+    ),
+    "GeoTIFF's Exif and the picture's": (jp2(uuid(GEOTIFF, A)), jp2(E), DIFFERENT),
+    "other XML": (jp2(E, box(b"xml ", b"<a/>")), jp2(E, box(b"xml ", b"<b/>")), UNDECIDED),
+    "the same XML": (jp2(E, box(b"xml ", b"<a/>"), box(b"free")), jp2(E, box(b"xml ", b"<a/>")), SAME),
+    "another box": (jp2(E, in_header=box(b"new ", b"a")), jp2(E, in_header=box(b"new ", b"b")), UNDECIDED),
+}
+
+
+@pytest.mark.parametrize("name", PAIRS)
+def test_pair(name, compared):
+    before, after, status = PAIRS[name]
+    assert compared(before, after)[0] == status
