@@ -60,26 +60,30 @@ class Body:
         path.write_text(text, encoding="utf-8")
 
 
-def body_of(entry: Any, number: int, proofs: Path) -> Body:
-    """A row of a table. Where the function has a proof by hand, which any other body might break, a control is needed."""
+def body_of(entry: Any, number: int) -> Body:
+    """A row of a table."""
     wanted = {"why", "file", "function", "goals", *({"body"} & set(entry) if number else ()), *({"control"} & set(entry))}
     wanted |= set() if "body" in wanted else {"changes"}
     if set(entry) != wanted or not all(entry.values()):
         raise Misspelled(f"{entry} must have the members {sorted(wanted)}, none of them empty")
-    if "control" not in entry and (proofs / entry["function"].replace("::", "/")).is_dir():
-        raise Misspelled(f"{entry['function']} has a proof in {proofs}: the body {entry['why']!r} needs a control")
     return Body(**entry, number=number)
 
 
-def read_table(path: Path, proofs: Path) -> Table:
+def read_table(path: Path) -> Table:
     """The groups of a table: first the bodies of functions beside the named ones, and then those of changed functions."""
     table = json.loads(path.read_text(encoding="utf-8"))
     if isinstance(table, list):
         return [[], *([Body(**it) for it in group] for group in table)]
     if set(table) != {"beside", "in place"} or not table["beside"] or not all(table["in place"]):
         raise Misspelled(f"{path.name} is empty, or a group of it is")
-    beside = [body_of(it, number, proofs) for number, it in enumerate(table["beside"], 1)]
-    return [beside, *([body_of(it, 0, proofs) for it in group] for group in table["in place"])]
+    beside = [body_of(it, number) for number, it in enumerate(table["beside"], 1)]
+    return [beside, *([body_of(it, 0) for it in group] for group in table["in place"])]
+
+
+def without_control(table: Table, proofs: Path) -> list[str]:
+    """The bodies of functions with a proof by hand, which any other body might break, that have no control."""
+    bodies = [it for group in table for it in group]
+    return [it.why for it in bodies if not it.control and (proofs / it.function.replace("::", "/")).is_dir()]
 
 
 @dataclass(frozen=True)

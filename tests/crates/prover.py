@@ -4,11 +4,12 @@ from __future__ import annotations
 
 import fcntl
 import os
+import re
 import shutil
 import tempfile
 from dataclasses import replace
 from pathlib import Path
-from typing import Iterable, Sequence
+from typing import Sequence
 
 from bodies import Body, Passed, Table, Verdict
 from compiler import Compiler
@@ -38,8 +39,10 @@ class Prover:
     def __init__(self, store: Store, compiler: Compiler, passed: Passed, folder: Path) -> None:
         self.store, self.crates, self.compiler, self.passed, self.folder = store, store.crates, compiler, passed, folder
 
-    def check(self, crate: str, bodies: Iterable[Body], kept: Path) -> str:
-        """What the compiler prints about a copy of a crate with these bodies. It takes what an earlier check has kept."""
+    def check(self, crate: str, bodies: Sequence[Body], kept: Path) -> str:
+        """What the compiler prints about a copy of a crate with these bodies: about their functions and those that they call, because `rt ci`
+        proves the others. It takes what an earlier check has kept."""
+        words = [*self.compiler.check(crate, kept), *(word for it in bodies for word in ("--only", it.planted))]
         with tempfile.TemporaryDirectory(dir=self.folder) as name:
             folder = Path(name)
             for part in PARTS:
@@ -48,14 +51,14 @@ class Prover:
             for it in bodies:
                 it.plant(folder)
             with open(folder / "log", "w", encoding="utf-8") as log:
-                self.compiler.call(self.compiler.check(crate, kept), folder, log)
+                self.compiler.call(words, folder, log)
             text = (folder / "log").read_text(encoding="utf-8", errors="replace")
-        assert text.rstrip("\n").rpartition("\n")[2].startswith(("logic=proved ", "logic=not-proved")), text[-1500:]
+        assert re.fullmatch(r"only=\d+ proved=\d+|logic=proved .*", text.rstrip("\n").rpartition("\n")[2]), text[-1500:]
         return text
 
     def first(self, crate: str, beside: Sequence[Body]) -> tuple[str, Path]:
-        """What the compiler prints about a crate with the bodies that stand beside its functions, and the folder of what it has kept. Nothing
-        calls these bodies, so all else of the crate is proved. It is checked once in a run; other processes wait for it."""
+        """What the compiler prints about a crate with the bodies that stand beside its functions, and the folder of what it has kept. Without
+        such bodies the whole crate is checked. It is checked once in a run; other processes wait for it."""
         kept, note = self.folder / crate, self.folder / f"{crate}.said"
         with open(self.folder / f"{crate}.lock", "w", encoding="ascii") as lock:
             fcntl.flock(lock, fcntl.LOCK_EX)

@@ -9,7 +9,7 @@ from pathlib import Path
 
 import planting
 import pytest
-from bodies import Body, Passed, Table, Verdict, read_table
+from bodies import HERE, Body, Passed, Table, Verdict, read_table, without_control
 from crates import Crates
 from planting import Misspelled
 from prover import Prover
@@ -147,22 +147,26 @@ def test_controls_have_notes_of_their_own(crates):
         ({"goals": []}, "none of them empty"),
         ({"more": "x"}, "must have the members"),
         ({"body": "a + 1"}, "must have the members"),
-        ({"function": "sums::twice"}, "needs a control"),
     ],
     ids=str,
 )
 def test_a_wrong_row_of_a_table(tmp_path, change, why):
-    (tmp_path / "proofs" / "sums" / "twice").mkdir(parents=True)
     row = {"why": "it adds too little", "file": "src/lib.rt", "changes": [["+ 2", "+ 1"]], "function": "sums::add", "goals": ["returns"]}
     (tmp_path / "px.json").write_text(json.dumps({"beside": [row], "in place": [[row]]}), encoding="utf-8")
-    assert [[it.planted for it in group] for group in read_table(tmp_path / "px.json", tmp_path / "proofs")] == [
+    assert [[it.planted for it in group] for group in read_table(tmp_path / "px.json")] == [
         ["sums::add_1"],
         ["sums::add"],
     ]
     for table in ({"beside": [{**row, **change}], "in place": []}, {"beside": [row], "in place": [[{**row, **change}]]}):
         (tmp_path / "px.json").write_text(json.dumps(table), encoding="utf-8")
         with pytest.raises(Misspelled, match=why):
-            read_table(tmp_path / "px.json", tmp_path / "proofs")
+            read_table(tmp_path / "px.json")
+
+
+@pytest.mark.parametrize("path", sorted(HERE.glob("px_*.json")), ids=lambda it: it.stem)
+def test_a_body_of_a_function_with_a_proof_by_hand_has_a_control(path):
+    table = read_table(path)
+    assert not table[0] or without_control(table, HERE.parent.parent / "crates" / path.stem / "proofs") == []
 
 
 def test_examples_of_planting():

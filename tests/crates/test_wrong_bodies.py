@@ -25,7 +25,7 @@ from store import Store
 
 TOP = HERE.parent.parent
 MEMORY = 6 << 30  # of the machine, for each process that checks; a check takes up to 4 GB
-TABLES = {path.stem: read_table(path, TOP / "crates" / path.stem / "proofs") for path in HERE.glob("px_*.json")}
+TABLES = {path.stem: read_table(path) for path in HERE.glob("px_*.json")}
 pytestmark = [pytest.mark.proof, pytest.mark.timeout(3600)]
 
 
