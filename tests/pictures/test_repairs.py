@@ -154,6 +154,72 @@ def test_at_most_a_hundred_steps(count, is_repaired):
     assert made is None or len(made.steps) == count
 
 
+def outside(what):
+    """A block that must grow to be accepted, since two texts are one; what lies behind its end would be found in what is appended."""
+    rows, following, image = [entry(tag, ASCII, 8, 84) for tag in (0x010F, 0x0110)], 0, b""
+    if what == "a value":
+        rows.append(entry(0x0131, ASCII, 8, 94))
+    elif what == "a directory":
+        rows.append(entry(0x8769, LONG, 1, 92))
+    elif what == "a thumbnail":
+        following, image = 40, table([entry(0x0201, LONG, 1, 92), entry(0x0202, LONG, 1, 30)])
+    made = (b"MM\0*\0\0\0\x08" + table(rows, following)).ljust(40, b"\0") + image
+    return made.ljust(84, b"\0") + b"one text\xff\xd8"
+
+
+@pytest.mark.parametrize("what", ["a value", "a thumbnail", "a directory"])
+def test_nothing_is_read_of_what_is_appended(what):
+    assert lossless(outside("nothing")) is not None
+    made = repairs.repaired(outside(what))
+    assert made is not None and steps.loses(made.steps), made
+    found = [(key, shown) for _, key, shown in fields_of(made)]
+    assert found[:2] == [("010f", '"one text"'), ("0110", '"one text"')]
+    assert [key for key, _ in found[2:]] == (["jpeg"] if what == "a thumbnail" else [])
+
+
+def read_by(block):
+    """The entries of each directory with their values, read by TIFF 6.0: without pointers, and as far as they are in the block."""
+    order = "<" if block[:2] == b"II" else ">"
+    found, waiting = set(), [("main", struct.unpack_from(order + "I", block, 4)[0])]
+    for name, at in waiting:
+        count = struct.unpack_from(order + "H", block, at)[0] if at + 2 <= len(block) else 0
+        for place in range(at + 2, min(at + 2 + 12 * count, len(block) - 11), 12):
+            tag, kind, elements, last = struct.unpack_from(order + "HHII", block, place)
+            size = {1: 1, 2: 1, 3: 2, 4: 4, 5: 8, 6: 1, 7: 1, 8: 2, 9: 4, 10: 8, 11: 4, 12: 8, 129: 1}.get(kind, 0) * elements
+            start = last if size > 4 else place + 8
+            if tag in (0x8769, 0x8825, 0xA005):
+                waiting += [(f"{name} {tag}", last)] if len(waiting) < 9 else []
+            else:
+                found.add((name, tag, elements, block[start : start + size]))
+    return found
+
+
+@pytest.mark.parametrize("name", REFUSED)
+def test_no_value_is_made_up(name):
+    """Blocks with a wrong bit in a directory, some of them cut too: whatever a repair leaves was in the block before it."""
+    block, looked_at = REFUSED[name], 0
+    for bit in range(8 * 10, 8 * 260):
+        turned = bytearray(block)
+        turned[bit // 8] ^= 1 << bit % 8
+        for refused in (bytes(turned), bytes(turned[:390])) if bit % 4 == 0 else (bytes(turned),):
+            made = repairs.repaired(refused)
+            if made and not any("read as LONG" in it.what for it in made.steps):
+                looked_at += 1
+                assert read_by(made.block) <= read_by(refused), (bit, made.steps)
+    assert looked_at > 500
+
+
+def test_a_hopeless_block_ends_soon(monkeypatch):
+    """More than a hundred entries of no type, or with values that aren't there: no step is tried for each."""
+    calls = []
+    normal = repairs.exifnorm.normal
+    monkeypatch.setattr(repairs.exifnorm, "normal", lambda block: calls.append(1) or normal(block))
+    for kind, elements, last in ((77, 1, 0), (ASCII, 9, 1 << 20)):
+        calls.clear()
+        assert repairs.repaired(b"MM\0*\0\0\0\x08" + table([entry(it, kind, elements, last) for it in range(1, 200)])) is None
+        assert len(calls) <= 2
+
+
 @pytest.mark.parametrize("length", range(0, 400, 7))
 def test_blocks_that_are_cut(length):
     """A repair ends, and its result is accepted."""

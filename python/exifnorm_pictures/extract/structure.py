@@ -5,6 +5,7 @@
 
 from __future__ import annotations
 
+import itertools
 import struct
 from typing import Dict, List, NamedTuple, Optional, Set, Tuple
 
@@ -70,12 +71,13 @@ class Walk:
             there = min(count, (len(block) - at - 2) // 12)
             start = at + 2
             found = self._pair.iter_unpack(self.block[start : start + 12 * there])
-            entries = [Entry(start + 12 * number, *it) for number, it in enumerate(found)]
+            new = tuple.__new__  # a refused block can have thousands of entries, and is walked after each step of its repair
+            entries = [new(Entry, (place, *it)) for place, it in zip(itertools.count(start, 12), found)]
             following = at + 2 + 12 * count
             self.directories.append(Directory(name, at, entries, following, count, named_at))
             for it in entries:
-                if (name, it.tag) in LINKS and it.type in (4, 9, 13) and it.elements == 1:
-                    waiting.append((LINKS[name, it.tag], it.last, it.place + 8))
+                if (name, it.tag) in LINKS and it.type in (3, 4, 8, 9, 13) and it.elements == 1:
+                    waiting.append((LINKS[name, it.tag], self.number(it), it.place + 8))
             if name == "main" and following + 4 <= len(block):
                 waiting.append(("thumb", self.four(following), following))
 
@@ -84,6 +86,24 @@ class Walk:
 
     def four(self, place: int) -> int:
         return int(self._four.unpack_from(self.block, place)[0])
+
+    def number(self, it: Entry) -> int:
+        """The number of an entry with one, of type SHORT or LONG."""
+        return self.two(it.place + 8) if it.type in (3, 8) else it.last
+
+    def value(self, it: Entry) -> bytes:
+        """The bytes of a value, as far as they are in the block."""
+        start = it.last if it.size > 4 else it.place + 8
+        return self.block[start : start + it.size]
+
+    def pictures(self) -> List[bytes]:
+        """The thumbnail's JPEG and its strips, as far as they are in the block."""
+        by = {one.tag: one for it in self.directories if it.name == "thumb" for one in it.entries}
+        pairs = [[self._numbers(by[tag]) for tag in pair if tag in by] for pair in ((0x0201, 0x0202), (0x0111, 0x0117))]
+        return [self.block[start : start + size] for pair in pairs if len(pair) == 2 for start, size in zip(*pair)]
+
+    def _numbers(self, it: Entry) -> List[int]:
+        return _numbers(self.block, self.order, it.place + 8, it.type, it.size, it.last)
 
 
 class Notes(NamedTuple):

@@ -1,7 +1,8 @@
 """Repairs of refused Exif blocks, in memory: one step after another, each for the first fault that the engine names, until it accepts.
 
 The repaired block is never written. Each step has words for people, and what it loses. A repair that loses anything may show fields,
-and never makes two pictures the same. That a repaired block says what was meant is tested against ExifTool, and not proved.
+and never makes two pictures the same. Steps change tables, whose bytes values can share: a value that isn't as the block had it is left
+out. That a repaired block says what was meant is tested against ExifTool, and not proved.
 """
 
 from __future__ import annotations
@@ -40,25 +41,50 @@ _Done = Optional[Tuple[bytearray, str, str]]
 
 def repaired(block: bytes) -> Optional[Repaired]:
     """The repaired block; none if no repair is known."""
-    now = bytes(block)
+    original = now = bytes(block)
     steps: List[Step] = []
     while len(steps) <= MOST:
+        form, cause = b"", ""
         try:
-            return Repaired(now, exifnorm.normal(now), tuple(steps))
+            form = exifnorm.normal(now)
         except exifnorm.Refused as refused:
             cause = refused.cause
         except (exifnorm.NormalTooLong, MemoryError):
             return None
-        step = _STEPS.get(cause) if len(steps) < MOST else None
         try:
-            done = step(now, Walk(now)) if step else None
+            done = _next(cause, original, now) if cause or steps else None
         except (struct.error, IndexError):
             return None
+        if done is None and not cause:
+            return Repaired(now, form, tuple(steps))
         if done is None or bytes(done[0]) == now:
             return None
         now = bytes(done[0])
-        steps.append(Step(cause, *done[1:]))
+        steps.append(Step(cause or "Overlap", *done[1:]))
     return None
+
+
+def _next(cause: str, original: bytes, now: bytes) -> _Done:
+    """The next step of a block that is refused, or, without a cause, of one that is accepted after some steps."""
+    if not cause:
+        return _changed_value(original, now, Walk(now))
+    step = _STEPS.get(cause)
+    return step(now, Walk(now)) if step else None
+
+
+def _changed_value(original: bytes, now: bytes, walk: Walk) -> _Done:
+    """Leaves out a value that the block didn't have: it shares bytes with a table, which other steps have changed."""
+    old = Walk(original)
+    known = {(it.name, one.tag, one.elements, old.value(one)) for it in old.directories for one in it.entries}
+    for it in walk.directories:
+        for one in it.entries:
+            if one.tag not in _POINTERS and (it.name, one.tag, one.elements, walk.value(one)) not in known:
+                return _without(now, walk, it, one.place), f"tag {one.tag:04x}, whose value other steps would change, left out", "a value"
+    pictures = old.pictures()
+    if all(any(one.startswith(it) for one in pictures) for it in walk.pictures()):
+        return None
+    pointers = [(it, one) for it in walk.directories for one in it.entries if it.name == "thumb" and one.tag in (0x0111, 0x0201)]
+    return _without(now, walk, pointers[0][0], pointers[0][1].place), "a thumbnail that other steps would change left out", "the thumbnail"
 
 
 # The steps, by the engine's causes
@@ -90,7 +116,14 @@ def _unsorted(block: bytes, walk: Walk) -> _Done:
 
 
 def _overlap(block: bytes, walk: Walk) -> _Done:
-    return _end_of_directory(block, walk) or _shared_values(block, walk)
+    """What isn't in the block is left out first: it must not lead to the bytes by which the block grows."""
+    return (
+        _cut_directory(block, walk)
+        or _value_outside(block, walk)
+        or _thumbnail_outside(block, walk)
+        or _end_of_directory(block, walk)
+        or _shared_values(block, walk)
+    )
 
 
 def _values(walk: Walk, it: Directory) -> List[Tuple[bool, int, int, int]]:
@@ -142,6 +175,11 @@ def _directory_outside(block: bytes, walk: Walk) -> _Done:
     for it in walk.directories:
         if it.is_whole and it.next + 4 > len(block) >= it.next:
             return bytearray(block) + bytes(it.next + 4 - len(block)), "the missing end of the block added", ""
+    return _cut_directory(block, walk)
+
+
+def _cut_directory(block: bytes, walk: Walk) -> _Done:
+    """Leaves out entries, or a whole directory, that aren't in the block."""
     for it in walk.directories:
         if not it.is_whole:
             out = bytearray(block)
@@ -150,7 +188,7 @@ def _directory_outside(block: bytes, walk: Walk) -> _Done:
     starts = {it.at for it in walk.directories}
     for it in walk.directories:
         for one in it.entries:
-            if (it.name, one.tag) in LINKS and one.last not in starts:
+            if (it.name, one.tag) in LINKS and walk.number(one) not in starts:
                 return (
                     _without(block, walk, it, one.place),
                     f"the pointer to the {_NAMES[LINKS[it.name, one.tag]]}, which isn't there, dropped",
@@ -195,13 +233,13 @@ def _doubled(block: bytes, walk: Walk) -> _Done:
 
 
 def _unknown_type(block: bytes, walk: Walk) -> _Done:
-    for it in walk.directories:
-        for one in it.entries:
-            if one.type == 13:
-                return _with_type(block, walk, one), "type 13 (IFD) read as LONG", ""
-            if one.type not in SIZE:
-                return _without(block, walk, it, one.place), f"tag {one.tag:04x} of type {one.type}, which there isn't, left out", "a value"
-    return None
+    wrong = [(it, one) for it in walk.directories for one in it.entries if one.type == 13 or one.type not in SIZE]
+    if not wrong or len(wrong) > MOST:  # one is left out in a step
+        return None
+    it, one = wrong[0]
+    if one.type == 13:
+        return _with_type(block, walk, one), "type 13 (IFD) read as LONG", ""
+    return _without(block, walk, it, one.place), f"tag {one.tag:04x} of type {one.type}, which there isn't, left out", "a value"
 
 
 def _with_type(block: bytes, walk: Walk, one: Entry, number: Optional[int] = None) -> bytearray:
@@ -235,11 +273,11 @@ def _misplaced(block: bytes, walk: Walk) -> _Done:
 
 
 def _value_outside(block: bytes, walk: Walk) -> _Done:
-    for it in walk.directories:
-        for one in it.entries:
-            if one.size > 4 and one.last + one.size > len(block):
-                return _without(block, walk, it, one.place), f"tag {one.tag:04x}, whose value isn't in the block, left out", "a value"
-    return None
+    outside = [(it, one) for it in walk.directories for one in it.entries if one.size > 4 and one.last + one.size > len(block)]
+    if not outside or len(outside) > MOST:  # one is left out in a step
+        return None
+    it, one = outside[0]
+    return _without(block, walk, it, one.place), f"tag {one.tag:04x}, whose value isn't in the block, left out", "a value"
 
 
 def _thumbnail_outside(block: bytes, walk: Walk) -> _Done:
