@@ -217,7 +217,7 @@ def test_an_earlier_export_is_replaced_and_no_other_file(exported, run, folder):
     os.link("c", "another name of c")
     for name in ("other", "database", "c", "another name of c", ".", "nowhere/t"):
         kept = Path(name).read_bytes() if Path(name).is_file() else None
-        assert "isn't written" in run("export", "c", name, status=4), name
+        assert f"exifnorm-pictures: {name} " in run("export", "c", name, status=4), name
         assert kept is None or Path(name).read_bytes() == kept
     run("export", "t", "u", status=4)
     assert Path("c").read_bytes() == before and not Path("u").exists()

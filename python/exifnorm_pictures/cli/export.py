@@ -69,4 +69,4 @@ def _put(made: str, arguments: argparse.Namespace) -> None:
             kept = (arguments.catalogue,)
             atomic.replace(os.fsencode(arguments.file), lambda file: shutil.copyfileobj(whole, file), head_is_ours, kept)
         except atomic.NotReplaced as error:
-            raise atomic.NotReplaced(f"{arguments.file} isn't written: {error}") from None
+            raise atomic.NotReplaced(atomic.not_written(arguments.file, error)) from None

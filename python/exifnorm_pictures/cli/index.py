@@ -84,5 +84,5 @@ def keep_old(catalogue: Catalogue, name: str, room: str) -> None:
         try:
             atomic.replace(os.fsencode(name), lambda file: shutil.copyfileobj(made, file), head_is_ours, (catalogue.name,))
         except atomic.NotReplaced as error:
-            raise atomic.NotReplaced(f"{name} isn't written: {error}") from None
+            raise atomic.NotReplaced(atomic.not_written(name, error)) from None
     os.unlink(copy)

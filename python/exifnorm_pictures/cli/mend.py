@@ -8,7 +8,7 @@ from typing import Iterator, List, Tuple
 
 from ..extract import exiftool, programs
 from ..extract.budgets import TooMuch
-from ..files import tempdir
+from ..files import atomic, tempdir
 from ..refusals import mend, steps
 from .exit_codes import DIFFERENCE, FAILURE, SUCCESS, UNKNOWN
 from .names import from_list
@@ -36,7 +36,7 @@ def _mend_one(arguments: argparse.Namespace, picture: bytes, out: bytes, room: s
     except (mend.NotWritten, programs.Failed, programs.Missing, TooMuch) as error:
         names = {mend.NotWritten: "NotWritten", TooMuch: "TooMuch", programs.TooSlow: "TooSlow", programs.Missing: "NeedsExifTool"}
         problem = names.get(type(error), "ToolFailed")
-        line = f"{shown_path(picture)}: {shown_path(out)} isn't written: {error}"
+        line = f"{shown_path(picture)}: {atomic.not_written(shown_path(out), error)}"
         output(arguments, [line], {**path_members(picture), "problem": problem, "detail": str(error)})
         return FAILURE if isinstance(error, mend.NotWritten) else UNKNOWN
     output(arguments, _mended_lines(picture, found), _mended_members(picture, found))

@@ -48,7 +48,7 @@ def _write_page(arguments: argparse.Namespace, octets: bytes) -> None:
         kept = (arguments.catalogue, arguments.since) if arguments.since else (arguments.catalogue,)
         atomic.replace(os.fsencode(arguments.html), lambda file: _write(file, octets), _is_page, kept)
     except atomic.NotReplaced as error:
-        raise atomic.NotReplaced(f"{arguments.html} isn't written: {error}") from None
+        raise atomic.NotReplaced(atomic.not_written(arguments.html, error)) from None
 
 
 def _write(file: BinaryIO, octets: bytes) -> None:

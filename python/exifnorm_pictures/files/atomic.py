@@ -22,6 +22,11 @@ class NotReplaced(Failure):
     """A file exists and must not be replaced. The text is the reason."""
 
 
+def not_written(name: str, why: object) -> str:
+    """The message for a file that is not written, and the reason."""
+    return f"{name} isn't written: {why}"
+
+
 def copy_new(source: bytes, out: bytes, like: os.stat_result) -> None:
     """Copies a file to `out`, with the mode and times of another one. Raises `FileExistsError` if `out` exists."""
 
