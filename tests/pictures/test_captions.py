@@ -37,19 +37,9 @@ TAGS = {
 
 
 @pytest.fixture
-def captions(folder, capsys, monkeypatch):
+def captions(called):
     """What `captions` prints of some files: the status, and the text."""
-    from exifnorm_pictures.cli import main
-
-    monkeypatch.chdir(folder)
-
-    def call(*words, **files):
-        for name, octets in files.items():
-            (folder / f"{name}.jpg").write_bytes(octets)
-        status = main._run(["captions", *words, *(f"{it}.jpg" for it in files)])
-        return status, capsys.readouterr().out
-
-    return call
+    return lambda *words, **files: called("captions", *words, *(f"{it}.jpg" for it in files), **files)[:2]
 
 
 def data_set(number, octets, record=2):

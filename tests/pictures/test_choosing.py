@@ -19,18 +19,12 @@ BUT = "the same but for the fields left out"
 
 
 @pytest.fixture
-def run(folder, capsys, monkeypatch):
+def run(called):
     """Runs a command in the test's folder: its status, its lines, and what it prints on standard error."""
-    from exifnorm_pictures.cli import main
-
-    monkeypatch.chdir(folder)
 
     def call(*words, **files):
-        for name, octets in files.items():
-            (folder / f"{name}.jpg").write_bytes(octets)
-        status = main._run(list(words))
-        printed = capsys.readouterr()
-        return status, printed.out.splitlines(), printed.err
+        status, out, messages = called(*words, **files)
+        return status, out.splitlines(), messages
 
     return call
 

@@ -14,19 +14,11 @@ RATIONAL = 5
 
 
 @pytest.fixture
-def run(folder, capsys, monkeypatch):
-    """Runs a command in a folder with two pictures: its status and what it prints."""
-    from exifnorm_pictures.cli import main
-
-    monkeypatch.chdir(folder)
+def run(called):
+    """Runs a command in a folder with two pictures, a.jpg and b.jpg: its status, what it prints, and its messages."""
 
     def call(*words, before=None, after=None):
-        for side, octets in (("a.jpg", before), ("b.jpg", after)):
-            if octets is not None:
-                (folder / side).write_bytes(octets)
-        status = main._run(list(words))
-        printed = capsys.readouterr()
-        return status, printed.out, printed.err
+        return called(*words, **{name: octets for name, octets in (("a", before), ("b", after)) if octets is not None})
 
     return call
 

@@ -96,19 +96,9 @@ def written(session_folder):
 
 
 @pytest.fixture
-def run(folder, capsys, monkeypatch):
+def run(called):
     """Runs `conflicts`: its status and what it prints."""
-    from exifnorm_pictures.cli import main
-
-    monkeypatch.chdir(folder)
-
-    def call(*words, **files):
-        for name, octets in files.items():
-            (folder / f"{name}.jpg").write_bytes(octets)
-        status = main._run(["conflicts", *words, *(f"{it}.jpg" for it in files)])
-        return status, capsys.readouterr().out
-
-    return call
+    return lambda *words, **files: called("conflicts", *words, *(f"{it}.jpg" for it in files), **files)[:2]
 
 
 @needs("exiftool")

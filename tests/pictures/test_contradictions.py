@@ -42,19 +42,14 @@ PICTURES = {
 
 
 @pytest.fixture
-def reported(folder, capsys, monkeypatch):
+def reported(folder, called):
     """Runs commands in a folder with the pictures: what they print, and the section of the page."""
-    from exifnorm_pictures.cli import main
-
-    monkeypatch.chdir(folder)
     (folder / "p").mkdir()
     for name, octets in PICTURES.items():
         (folder / "p" / f"{name}.jpg").write_bytes(octets)
 
     def run(*words):
-        capsys.readouterr()
-        main._run(list(words))
-        return capsys.readouterr().out
+        return called(*words)[1]
 
     def call(*words):
         run("report", "--catalogue", "c", "--html", "page.html", *words)

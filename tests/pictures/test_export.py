@@ -20,18 +20,13 @@ LONG = "Ein Gefäß aus Köln, zerbrochen und geklebt. " * 20
 
 
 @pytest.fixture
-def run(folder, capsys, monkeypatch):
+def run(called):
     """Runs a command in a folder: what it prints, and `status` is checked."""
-    from exifnorm_pictures.cli import main
-
-    monkeypatch.chdir(folder)
 
     def call(*words, status=0):
-        capsys.readouterr()
-        found = main._run(list(words))
-        printed = capsys.readouterr()
-        assert found == status, printed
-        return printed.out + printed.err
+        found, out, messages = called(*words)
+        assert found == status, out + messages
+        return out + messages
 
     return call
 

@@ -17,16 +17,12 @@ NAMES = [b"=1+1.jpg", b"@a.jpg", b"+b\xff\n.jpg", b"-c.jpg", "\uff1d1.jpg".encod
 
 
 @pytest.fixture
-def run(folder, capsys, monkeypatch):
+def run(called, folder):
     """Runs a command in a folder: its status and what it prints."""
-    from exifnorm_pictures.cli import main
-
-    monkeypatch.chdir(folder)
 
     def call(*words, names=()):
         (folder / "list").write_bytes(b"".join(it + b"\0" for it in names))
-        status = main._run([*words, *(["--files-from", "list", "-0"] if names else [])])
-        return status, capsys.readouterr().out
+        return called(*words, *(["--files-from", "list", "-0"] if names else []))[:2]
 
     return call
 

@@ -21,15 +21,12 @@ from exifnorm_pictures.fields.listing import Field
 
 
 @pytest.fixture
-def run(folder, capsys, monkeypatch):
+def run(called):
     """Runs a command in the test's folder: its status and its lines."""
-    from exifnorm_pictures.cli import main
-
-    monkeypatch.chdir(folder)
 
     def call(*words):
-        status = main._run(list(words))
-        return status, capsys.readouterr().out.splitlines()
+        status, out, _ = called(*words)
+        return status, out.splitlines()
 
     return call
 
