@@ -357,3 +357,122 @@ def test_changed_has_what_was_left_out(run, folder):
     assert run("changed", "before", "after", "--ignore", "Maek")[0] == 3
     found = json.loads(run("changed", "before", "after", "--ignore", "Make", "--all", "--json")[1][0])
     assert (found["result"], found["left_out"], found["fields"]) == (BUT, ["IFD0:Make"], [])
+
+
+# same
+
+
+def made_pictures():
+    """Pictures with Exif, IPTC and XMP in some combinations, also refused ones."""
+    exifs = [app1(exif(b"abc")), app1(exif(b"xyz")), app1(block([MAKE, entry(0x0112, 3, 1, 1 << 16)])), app1(BLOCKS["Doubled"]), b""]
+    exifs += [app1(numbers(10, 1250)), app1(numbers(1, 125))]
+    records = [with_record(iim(b"Vase")), with_record(iim(b"Krug")), with_record(iim(b"Vase") + b"\x1c\2\x50\0\4Anna"), b""]
+    packets = [app1_xmp(xmp("<dc:format>a</dc:format>")), app1_xmp(xmp("<dc:format>a</dc:format><dc:source>b</dc:source>")), b""]
+    chosen = [
+        (0, 0, 0),
+        (1, 0, 0),
+        (2, 0, 0),
+        (0, 1, 1),
+        (0, 2, 0),
+        (3, 0, 0),
+        (3, 0, 2),
+        (4, 0, 0),
+        (4, 3, 0),
+        (4, 1, 2),
+        (5, 3, 2),
+        (6, 3, 2),
+    ]
+    return [jpeg(*filter(None, (exifs[one], records[two], packets[three]))) for one, two, three in chosen]
+
+
+CHOICES = [
+    ["--ignore", "Make"],
+    ["--ignore", "Make", "--ignore", "IFD0:Orientation", "--ignore", "dc:source"],
+    ["--only", "IPTC:Keywords"],
+    ["--only", "Exif"],
+    ["--ignore", "Exif", "--ignore", "XMP"],
+    ["--ignore", "By-line", "--equal-numbers"],
+    ["--only", "ExposureTime", "--equal-numbers"],
+]
+
+
+@pytest.mark.parametrize("words", CHOICES, ids=" ".join)
+def test_groups_are_those_of_compare(words, run, folder):
+    """Two pictures are in a group exactly if `compare` has no difference for them by the fields that count."""
+    (folder / "p").mkdir()
+    for number, octets in enumerate(made_pictures()):
+        (folder / "p" / f"{number:02}.jpg").write_bytes(octets)
+    names = sorted(os.listdir(folder / "p"))
+    run("index", "p", "--catalogue", "c", "--quiet", "--jobs", "1")
+    *found, _ = (json.loads(it) for it in run("same", "--catalogue", "c", "--json", *words)[1])
+    together = {frozenset(os.path.basename(it["path"]) for it in one["pictures"]) for one in found if one["basis"] != "repair"}
+    pairs = {(one, other) for one in names for other in names if one < other}
+    same = {pair for pair in pairs if any({*pair} <= group for group in together)}
+    expected = set()
+    for one, other in pairs:
+        result = json.loads(run("compare", f"p/{one}", f"p/{other}", "--json", *words)[1][0])["result"]
+        if result in ("same", BUT, "the same but for how equal numbers are written", "refused, the same bytes"):
+            expected.add((one, other))
+    # pictures without any field that counts are in no group
+    empty = {
+        it for it in names if json.loads(run("compare", f"p/{it}", "a.jpg", "--json", *words, a=jpeg())[1][0])["result"] in ("same", BUT)
+    }
+    assert same == {pair for pair in expected if not {*pair} <= empty}
+
+
+def test_a_group_by_fields_is_never_proved_and_keeps_nothing(run, folder):
+    (folder / "p").mkdir()
+    for name, octets in {"a": b"abc", "b": b"xyz"}.items():
+        (folder / "p" / name).write_bytes(jpeg(app1(exif(octets)), with_record(iim(b"Vase"))))
+    (folder / "p" / "c").write_bytes(jpeg(app1(exif(b"abc")), with_record(iim(b"Vase"))))
+    run("index", "p", "--catalogue", "c", "--quiet")
+    group, last = (json.loads(it) for it in run("same", "--catalogue", "c", "--json", "--ignore", "Make")[1])
+    assert (group["basis"], group["digests"], group["wholly_read"]) == ("fields", {}, False)
+    assert group["description"] == "IPTC is the same in the same bytes, but for the fields left out"
+    assert [it["keep"] for it in group["pictures"]] == [None] * 3 and last["groups"] == 1
+    lines = run("same", "--catalogue", "c", "--ignore", "Make")[1]
+    assert lines[-1] == "Fields are left out by their listing, which is tested, and not proved."
+    (group, _) = (json.loads(it) for it in run("same", "--catalogue", "c", "--json", "--ignore", "Artist")[1])
+    assert (group["basis"], group["count"]) == ("meaning", 2)
+    for words, status in ((["--ignore", "*"], 3), (["--ignore", "Mkae"], 3), (["--kind", "iptc", "--only", "dc:title"], 3)):
+        assert run("same", "--catalogue", "c", *words)[0] == status, words
+
+
+def test_least_fields(run, folder):
+    """Pictures that share a copyright notice alone, and pictures that share more. The number is that of the listing."""
+    (folder / "p").mkdir()
+    few, many = exif(b"abc"), block([MAKE, entry(0x0112, 3, 1, 1 << 16), entry(0x013B, 2, 4, b"Ada\0")])
+    for name, octets in {"a": few, "b": few, "c": many, "d": many, "e": BLOCKS["HeaderCut"], "f": BLOCKS["HeaderCut"]}.items():
+        (folder / "p" / name).write_bytes(jpeg(app1(octets)))
+    run("index", "p", "--catalogue", "c", "--quiet")
+
+    def groups(*words):
+        *found, last = (json.loads(it) for it in run("same", "--catalogue", "c", "--json", *words)[1])
+        return [sorted(os.path.basename(it["path"]) for it in one["pictures"]) for one in found], last["small_groups"]
+
+    refused = ["e", "f"]  # whose fields nobody knows
+    assert groups("--least-fields", "1") == ([["a", "b"], ["c", "d"], refused], 0)
+    assert groups("--least-fields", "2") == groups("--least-fields", "3") == ([["c", "d"], refused], 1)
+    assert groups("--least-fields", "4") == ([refused], 2)
+    assert groups("--least-fields", "3", "--ignore", "Artist") == ([refused], 2)
+    assert "1 more, of pictures with fewer than 2 fields, is not listed" in run("same", "--catalogue", "c", "--least-fields", "2")[1]
+
+
+# report
+
+
+def test_a_report_without_some_fields(run, folder):
+    (folder / "p").mkdir()
+    for name, octets in {"a": b"abc", "b": b"xyz"}.items():
+        (folder / "p" / name).write_bytes(jpeg(app1(exif(octets)), with_record(iim(b"Vase"))))
+    run("index", "p", "--catalogue", "old", "--quiet")
+    (folder / "p" / "a").write_bytes(jpeg(app1(exif(b"new")), with_record(iim(b"Vase"))))
+    run("index", "p", "--catalogue", "c", "--quiet")
+    report = ("report", "--catalogue", "c", "--since", "old", "--html", "page.html", "--no-look")
+    assert run(*report)[0] == 0
+    page = (folder / "page.html").read_text()
+    assert "IFD0:Make" in page and "No two pictures have the same metadata" in page
+    assert run(*report, "--ignore", "Make", "--ignore", "GPS")[2] == "exifnorm-pictures: note: GPS fits no field of the catalogue\n"
+    page = (folder / "page.html").read_text()
+    assert "Left out though it differs: IFD0:Make (1 picture)." in page and "the same but for the fields left out" in page
+    assert run(*report, "--ignore", "Maek")[0] == 3

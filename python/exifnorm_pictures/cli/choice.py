@@ -13,6 +13,7 @@ from . import signals
 from .output import escaped, reason
 
 LONGEST_FILE = 1 << 20  # bytes of a file with names
+BY_LISTING = "Fields are left out by their listing, which is tested, and not proved."
 SHOWN = 6  # fields that are named in a line
 
 
@@ -75,7 +76,7 @@ def lines(choice: Choice, is_counted: bool = False) -> Iterator[str]:
         names = [escaped(name) + (f" ({count:,} picture{'s' * (count != 1)})" if is_counted else "") for name, count in counts[:SHOWN]]
         more = f" and {len(counts) - SHOWN:,} more" if len(counts) > SHOWN else ""
         yield f"Left out though {'they differ' if len(counts) > 1 else 'it differs'}: {', '.join(names)}{more}."
-        yield "Fields are left out by their listing, which is tested, and not proved."
+        yield BY_LISTING
 
 
 def say_unseen(choice: Choice, which: str) -> None:

@@ -164,7 +164,9 @@ def _merge_arguments(it: argparse.ArgumentParser) -> None:
 def _same_arguments(it: argparse.ArgumentParser) -> None:
     it.add_argument("--catalogue", required=True, type=_name, metavar="FILE")
     it.add_argument("--kind", choices=("all", *KIND_OF), default="all", help="the blocks that must mean the same (all)")
+    it.add_argument("--least-fields", type=_positive, default=0, metavar="N", help="leave out groups of pictures with fewer fields")
     it.add_argument("--no-look", action="store_true", help="don't look at the files, as for a catalogue from elsewhere")
+    _choice_arguments(it)
 
 
 def _forget_arguments(it: argparse.ArgumentParser) -> None:
@@ -254,6 +256,7 @@ def _report_arguments(it: argparse.ArgumentParser) -> None:
     it.add_argument("--html", type=_name, metavar="PAGE", help="the page to write")
     it.add_argument("--title", default="Pictures and their metadata", help="the page's title")
     it.add_argument("--no-look", action="store_true", help="don't look at the files, as for a catalogue from elsewhere")
+    _choice_arguments(it)
     _limit_arguments(it)
 
 
@@ -262,6 +265,7 @@ def _export_arguments(it: argparse.ArgumentParser) -> None:
     it.add_argument("catalogue", type=_name, metavar="CATALOGUE", help="the catalogue to read")
     it.add_argument("file", type=_name, metavar="FILE", help="the file to write, which may replace an earlier export and no other file")
     it.add_argument("--no-look", action="store_true", help="don't look at the files, as for a catalogue from elsewhere")
+    _choice_arguments(it)
     _limit_arguments(it)
 
 

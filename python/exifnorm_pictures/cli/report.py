@@ -12,6 +12,7 @@ from ..catalogue.store import Catalogue
 from ..extract import exiftool, programs
 from ..files import atomic, tempdir
 from ..report import contents, page
+from .choice import choice_of, listings_of, refuse_unknown, say_unseen
 from .exit_codes import SUCCESS
 from .names import chosen_paths
 from .parser import parser
@@ -26,7 +27,9 @@ def run(arguments: argparse.Namespace) -> int:
         catalogue = open_.enter_context(Catalogue(arguments.catalogue))
         old = open_.enter_context(Catalogue(arguments.since)) if arguments.since else None
         room = open_.enter_context(tempdir.room())
-        about = contents.About(catalogue, old, chosen, not arguments.no_look)
+        choice = choice_of(arguments)
+        refuse_unknown(choice, (it for one in (catalogue, old) if one for it in listings_of(one)))
+        about = contents.About(catalogue, old, chosen, not arguments.no_look, choice)
         programs.set_limit(arguments.limit)
         exiftool.begin(room)
         open_.callback(exiftool.finish)
@@ -36,6 +39,7 @@ def run(arguments: argparse.Namespace) -> int:
         if arguments.json:
             for members in contents.members(about):
                 print(json.dumps(members))
+        say_unseen(choice, "of the catalogue")
     return SUCCESS
 
 

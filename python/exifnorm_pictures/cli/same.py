@@ -12,6 +12,7 @@ from ..catalogue.store import Catalogue
 from ..compare import groups
 from ..extract import exiftool
 from ..files import tempdir
+from .choice import BY_LISTING, choice_of, listings_of, refuse_unknown, say_unseen
 from .exit_codes import SUCCESS
 from .names import chosen_paths
 from .objects import line_of, print_object
@@ -29,10 +30,13 @@ def run(arguments: argparse.Namespace) -> int:
         catalogue = open_.enter_context(Catalogue(arguments.catalogue))
         only = None if chosen is None else catalogue.choose(chosen)
         table = Table(_HEADS) if arguments.csv else None
-        count = grouped = 0
-        for it in groups.groups(catalogue, kinds, only, look=not arguments.no_look):
-            count, grouped = count + 1, grouped + it.count
-            keep = None if arguments.no_look or kinds != KINDS else it.to_keep()
+        choice = choice_of(arguments)
+        refuse_unknown(choice, listings_of(catalogue))
+        fewest = groups.Fewest(arguments.least_fields)
+        count = grouped = partial = 0
+        for it in groups.groups(catalogue, kinds, only, look=not arguments.no_look, choice=choice, fewest=fewest):
+            count, grouped, partial = count + 1, grouped + it.count, partial + it.is_partial
+            keep = None if arguments.no_look or kinds != KINDS or choice else it.to_keep()
             if arguments.json:
                 _print_group(count, it, keep)
             elif table:
@@ -41,21 +45,28 @@ def run(arguments: argparse.Namespace) -> int:
                 _print_lines(it, count)
         if not table:
             left = groups.left_out(catalogue, kinds, only)
-            totals = {"groups": count, "pictures": grouped, "undecided": left}
+            totals = {"groups": count, "pictures": grouped, "undecided": left, "small_groups": fewest.small}
             if arguments.json:
                 print_object("same", "summary", totals)
             else:
-                _print_totals(count, grouped, left)
+                _print_totals(count, grouped, left, fewest)
+                if partial:
+                    print_line(BY_LISTING)
+        say_unseen(choice, "of the catalogue")
     return SUCCESS
 
 
 # Lines
 
 
-def _print_totals(count: int, grouped: int, left: int) -> None:
+def _print_totals(count: int, grouped: int, left: int, fewest: groups.Fewest) -> None:
     if count > 1:
         print_line("")
     print_line(f"{count} group{'s' * (count != 1)} of {grouped} pictures")
+    if fewest.small:
+        print_line(
+            f"{fewest.small} more, of pictures with fewer than {fewest.fields} fields, {'are' if fewest.small > 1 else 'is'} not listed"
+        )
     if left:
         why = "can't be the same by meaning: a block is refused or unreadable, or a part was not read"
         print_line(f"{left} picture{'s' * (left > 1)} {why}")

@@ -43,8 +43,8 @@ class Difference(NamedTuple):
     @property
     def is_equal_number(self) -> bool:
         """Whether both have equal numbers, or the same bytes with another type."""
-        return bool(self.before and self.after and not self.note) and [_value(it) for it in self.before] == [
-            _value(it) for it in self.after
+        return bool(self.before and self.after and not self.note) and [equal_form(it) for it in self.before] == [
+            equal_form(it) for it in self.after
         ]
 
 
@@ -63,12 +63,12 @@ def bare(fields: Sequence[Field]) -> Optional[str]:
     return ", ".join(shortened(it.shown) if it.type in texts else exact([it]) or "" for it in fields) if fields else None
 
 
-def _value(it: Field) -> Tuple[object, ...]:
+def equal_form(it: Field) -> Tuple[object, ...]:
     """What is equal for fields that differ only in their form: numbers by value, and bytes whatever their type is.
 
-    >>> _value(Field("exif", "829a", "RATIONAL", 1, "10/80000")) == _value(Field("exif", "829a", "RATIONAL", 1, "1/8000"))
+    >>> equal_form(Field("exif", "829a", "RATIONAL", 1, "10/80000")) == equal_form(Field("exif", "829a", "RATIONAL", 1, "1/8000"))
     True
-    >>> _value(Field("exif", "a300", "BYTE", 1, "0x03")) == _value(Field("exif", "a300", "UNDEFINED", 1, "0x03"))
+    >>> equal_form(Field("exif", "a300", "BYTE", 1, "0x03")) == equal_form(Field("exif", "a300", "UNDEFINED", 1, "0x03"))
     True
     """
     if it.type in _OCTETS:

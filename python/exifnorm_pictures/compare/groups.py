@@ -8,17 +8,23 @@ one, so whoever keeps any one picture of each group loses nothing.
 from __future__ import annotations
 
 import os
-from dataclasses import dataclass, field
+from dataclasses import dataclass, field, replace
 from typing import Dict, Iterable, Iterator, List, NamedTuple, Optional, Sequence, Tuple
 
 from ..catalogue.records import KINDS, NOT_THERE, WORDS, Picture, Stamp, has, is_marked_as, picture_of_row
 from ..catalogue.store import PICTURE_COLUMNS, Catalogue
 from ..extract.formats.found import EXIF, NAMES
+from ..fields.choosing import EVERYTHING, Choice, UnknownField
+from ..fields.listing import unpacked
 from ..refusals import steps
 from .verdicts import SAME, clause, none_of
 
 MEANING, BYTES, MAKER_NOTE, REPAIR = "meaning", "bytes", "maker note", "repair"
-BASES = (MEANING, BYTES, MAKER_NOTE, REPAIR)
+FIELDS = "fields"  # the meaning but for the fields left out, by the listing of fields, which is tested and not proved
+BASES = (MEANING, FIELDS, BYTES, MAKER_NOTE, REPAIR)
+
+
+COUNTED = "temp.counted"  # the pictures without the fields that don't count
 
 
 class Link(NamedTuple):
@@ -52,6 +58,8 @@ class Group:
     others: Dict[int, int] = field(default_factory=dict)  # how many more pictures an earlier group has, of which this member is one
     not_read: str = ""  # the parts that were not read, and have the same bytes
     note: str = ""
+    is_partial: bool = False  # they are the same but for fields that are left out
+    has_choice: bool = False  # whether fields may be left out
 
     @property
     def count(self) -> int:
@@ -62,6 +70,8 @@ class Group:
     def digests(self) -> Dict[str, str]:
         """The digest of each kind that they have, as far as it is known."""
         first, found = self.members[0], {}
+        if self.is_partial:  # no digest is of what they have in common
+            return {}
         for kind, digest in zip(KINDS, first.said):
             if kind in self.kinds and digest != "":
                 found[kind] = digest or (first.repaired if kind == EXIF and self.basis == REPAIR else "") or ""
@@ -95,7 +105,8 @@ class Group:
         for it in refused:
             word = "unreadable" if WORDS[it] == "xmp" else "refused"
             parts.append(f"{NAMES[it]} is {word}, the same bytes" if self.basis == BYTES else f"{NAMES[it]} is the same after repair")
-        text = ", ".join([*parts, *none_of([it for it in self.kinds if by_kind[it] == ""])])
+        none = [] if self.has_choice else [it for it in self.kinds if by_kind[it] == ""]
+        text = ", ".join([*parts, *none_of(none)]) + ", but for the fields left out" * self.is_partial
         if self.not_read:
             text += f"; not read, but the same bytes: {self.not_read}"
         return text + self.note
@@ -132,29 +143,95 @@ def _queries(kinds: Sequence[str], only: Optional[str]) -> Iterator[_Query]:
         yield _Query(REPAIR, (*repaired, "not_read"), f"{base} AND {after}{chosen}", several)
 
 
+@dataclass
+class Fewest:
+    """The least number of fields of a group's pictures, and how many groups have fewer."""
+
+    fields: int = 0
+    small: int = 0
+
+    def is_enough(self, catalogue: Catalogue, group: Group, choice: Choice) -> bool:
+        """Whether the pictures of a group have so many fields, or nobody knows how many. The fields of one picture are counted."""
+        found = _fields_of(catalogue, group, choice) if self.fields else None
+        if found is None or found >= self.fields:
+            return True
+        self.small += 1
+        return False
+
+
+def _fields_of(catalogue: Catalogue, group: Group, choice: Choice) -> Optional[int]:
+    """The number of fields that count of the first picture, by its blocks; None if they aren't known."""
+    count = 0
+    for block, packed in [] if group.members[0].file else catalogue.blocks_of(group.members[0]):
+        if block.kind not in group.kinds:
+            continue
+        if not packed:
+            return None
+        count += len(choice.of(unpacked(packed), "" if block.name in NAMES.values() else block.name))
+    return None if group.members[0].file else count
+
+
 def groups(
-    catalogue: Catalogue, kinds: Sequence[str] = KINDS, only: Optional[str] = None, most: int = -1, look: bool = True
+    catalogue: Catalogue,
+    kinds: Sequence[str] = KINDS,
+    only: Optional[str] = None,
+    most: int = -1,
+    look: bool = True,
+    choice: Choice = EVERYTHING,
+    fewest: Optional[Fewest] = None,
 ) -> Iterator[Group]:
     """The groups of two and more different files, those that rest on meaning first, and the largest first.
 
-    With `look` each file is looked at: those that are gone or have changed are listed apart and don't count.
+    With `look` each file is looked at: those that are gone or have changed are listed apart and don't count. Fields that the choice leaves
+    out don't count. Raises `UnknownField` if it leaves out everything.
     """
-    count = 0
+    counted = [it for it in kinds if it in choice.kinds]
+    if not counted:
+        raise UnknownField("nothing is left to compare")
+    fewest = fewest or Fewest()
+    yielded = 0
+    for group in _all_groups(catalogue, counted, only, look, _table(catalogue, choice)):
+        if fewest.is_enough(catalogue, group, choice):
+            yield group
+            yielded += 1
+        if yielded == most:
+            return
+
+
+def _table(catalogue: Catalogue, choice: Choice) -> str:
+    """The table of pictures. A command has one choice, so its table is made once."""
+    if not choice:
+        return "pictures"
+    from .counted import make_table  # which is seldom needed
+
+    make_table(catalogue, choice, COUNTED)
+    return COUNTED
+
+
+def _all_groups(catalogue: Catalogue, kinds: Sequence[str], only: Optional[str], look: bool, table: str) -> Iterator[Group]:
+    """The groups of the pictures in a table."""
     for query in _queries(kinds, only):
         key = ", ".join(query.key)
-        heads = f"SELECT {key} FROM pictures WHERE {query.where} GROUP BY {key} HAVING {query.having} ORDER BY count(*) DESC, min(path)"
+        heads = f"SELECT {key} FROM {table} WHERE {query.where} GROUP BY {key} HAVING {query.having} ORDER BY count(*) DESC, min(path)"
         terms = " AND ".join(f"{it} = ?" for it in query.key)
         # the digests are compared again with those of the rows themselves, because an index of a damaged catalogue can have others
         own = " AND ".join(f"+({it}) = ?" for it in query.key)
-        ids = f"SELECT id FROM pictures WHERE {query.where} AND {terms}"
-        rows = f"SELECT {PICTURE_COLUMNS}, device FROM pictures WHERE id IN ({ids}) AND {own} ORDER BY +path"
+        ids = f"SELECT id FROM {table} WHERE {query.where} AND {terms}"
+        rows = f"SELECT {PICTURE_COLUMNS}, device FROM {table} WHERE id IN ({ids}) AND {own} ORDER BY +path"
+        kept = f"SELECT {_DIFFERENT} FROM {table} WHERE {query.where} AND {terms}"
         for row in catalogue.rows(heads, (), _key):
+            meanings, listings, places = next(catalogue.rows(kept, row)) if table == COUNTED else (1, 1, 1)
+            if meanings > listings:  # something differs that no field shows
+                continue
             found = catalogue.rows(rows, (*row, *row), lambda *it: (picture_of_row(it[0][:-1]), it[0][-1]))
-            for group in _groups_of(catalogue, _there(query.basis, tuple(kinds), found, look), look):
-                yield group
-                count += 1
-                if count == most:
-                    return
+            group = _there(query.basis, tuple(kinds), found, look)
+            group.has_choice = table == COUNTED
+            group.is_partial = meanings > 1 or (places > 1 and query.basis != MAKER_NOTE)
+            group.basis = FIELDS if group.is_partial and query.basis == MEANING else query.basis
+            yield from _groups_of(catalogue, group, look)
+
+
+_DIFFERENT = "count(DISTINCT whole), count(DISTINCT listing), count(DISTINCT place)"
 
 
 def _key(row: Tuple[str, ...]) -> Tuple[str, ...]:
@@ -272,7 +349,7 @@ def _by_reading(group: Group, look: bool) -> Iterator[Group]:
         here = {it.path for it in pictures}
         links = [it for it in group.links if it.of in here]
         note = _NOTES[len({it.maker_notes for it in pictures}) > 1] if group.basis == MAKER_NOTE else ""
-        yield Group(group.basis, group.kinds, pictures, links, group.gone, group.changed, note=note)
+        yield replace(group, members=pictures, links=links, note=note, reasons={}, others={})
 
 
 _NOTES = (
@@ -298,10 +375,10 @@ def _reason(catalogue: Catalogue, it: Picture, basis: str) -> str:
     return "; ".join(found) or (it.problem or "")
 
 
-def totals(catalogue: Catalogue, kinds: Sequence[str] = KINDS, only: Optional[str] = None) -> Tuple[int, int]:
+def totals(catalogue: Catalogue, kinds: Sequence[str] = KINDS, only: Optional[str] = None, choice: Choice = EVERYTHING) -> Tuple[int, int]:
     """The number of groups, and of pictures in them, by the catalogue alone: no file is looked at, and a link counts as a picture."""
-    query = next(_queries(kinds, only))
-    inner = f"SELECT count(*) AS n FROM pictures WHERE {query.where} GROUP BY {', '.join(query.key)} HAVING n > 1"
+    query = next(_queries([it for it in kinds if it in choice.kinds], only))
+    inner = f"SELECT count(*) AS n FROM {_table(catalogue, choice)} WHERE {query.where} GROUP BY {', '.join(query.key)} HAVING n > 1"
     found = next(catalogue.rows(f"SELECT count(*), ifnull(sum(n), 0) FROM ({inner})"))
     return int(found[0]), int(found[1])
 

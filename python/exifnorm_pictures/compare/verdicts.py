@@ -72,14 +72,15 @@ def side_of(ours: Sequence[Judged]) -> Side:
         return Side(ABSENT)
     if len(ours) == 1 and ours[0].status == ACCEPTED and ours[0].name == NAMES[ours[0].kind]:  # as of most pictures
         return Side(ACCEPTED, ours[0].digest or "", ours[0].octets)
-    octets = _joined([(it.name, it.octets) for it in ours])
+    octets = joined([(it.name, it.octets) for it in ours])
     if any(it.status != ACCEPTED for it in ours):
-        repaired = _joined([(it.name, it.meaning or "") for it in ours]) if all(it.meaning for it in ours) else ""
+        repaired = joined([(it.name, it.meaning or "") for it in ours]) if all(it.meaning for it in ours) else ""
         return Side(UNREADABLE if ours[0].kind == XMP else REFUSED, "", octets, repaired)
-    return Side(ACCEPTED, _joined([(it.name, it.digest or "") for it in ours]), octets)
+    return Side(ACCEPTED, joined([(it.name, it.digest or "") for it in ours]), octets)
 
 
-def _joined(named: Sequence[Tuple[str, str]]) -> str:
+def joined(named: Sequence[Tuple[str, str]]) -> str:
+    """One digest for several blocks, by their names; that of the first block of a kind if it is alone."""
     if len(named) == 1 and named[0][0] in NAMES.values():
         return named[0][1]
     return hashlib.sha256("\n".join(f"{name}: {digest}" for name, digest in named).encode("utf-8")).hexdigest()

@@ -163,6 +163,10 @@ class Choice:
             it.is_seen = True
         return is_rest(where, key) or (not ignored and (bool(wanted) or not self.only))
 
+    def of(self, fields: Iterable[Field], block: str = "") -> List[Field]:
+        """Those of some fields that count."""
+        return [it for it in fields if self.counts(it.where, it.key, block)]
+
     def see(self, fields: Iterable[Field], block: str = "") -> None:
         """Notes which patterns fit these fields."""
         for it in fields:

@@ -10,11 +10,13 @@ from typing import Any, Dict, Iterator, List, Optional, Sequence, Set, Tuple
 
 from ..catalogue.records import WORDS, Picture, has, kind_of
 from ..catalogue.store import Catalogue, Run
+from ..cli.choice import lines
 from ..cli.output import Members, path_members, shown_path
 from ..compare import changed, groups
 from ..compare.differing import bare
 from ..compare.wording import sides
 from ..compare.conflicts import Conflict
+from ..fields.choosing import EVERYTHING, Choice
 from .contradictions import Contradictions, checked, texts
 
 # what a page has of each list
@@ -29,6 +31,7 @@ class About:
     old: Optional[Catalogue] = None
     only: Optional[Set[bytes]] = None
     look: bool = True
+    choice: Choice = EVERYTHING
     _table: Optional[str] = None
 
     def table(self) -> Optional[str]:
@@ -84,6 +87,7 @@ class Gathered:
     all_changed: int = 0  # different changes
     fields: "Counter[str]" = field(default_factory=Counter)
     since: bool = False
+    left_out: List[str] = field(default_factory=list)  # lines about what differs and is left out
     runs: List[Run] = field(default_factory=list)
     roots: List[bytes] = field(default_factory=list)
 
@@ -108,8 +112,8 @@ def gather(about: About) -> Gathered:
         if len(kept_) < MOST_REFUSED:
             kept_.append(it)
     _gather_parts(found, about)
-    found.all_groups = groups.totals(catalogue, only=about.table())
-    for group in groups.groups(catalogue, only=about.table(), most=MOST_GROUPS, look=about.look):
+    found.all_groups = groups.totals(catalogue, only=about.table(), choice=about.choice)
+    for group in groups.groups(catalogue, only=about.table(), most=MOST_GROUPS, look=about.look, choice=about.choice):
         found.groups.append((group.count, group.sentence(), list(group.pictures(MOST_OF_GROUP))))
     for one in checked(catalogue, catalogue.pictures(about.table()), about.look):
         found.contradictions.add(one, MOST_CONTRADICTIONS)
@@ -159,7 +163,7 @@ def _part_of_row(row: Tuple[str, int]) -> Tuple[str, int]:
 def _gather_changes(found: Gathered, about: About) -> None:
     assert about.old is not None
     equal = changed.Equal()
-    for it in changed.changed(about.old, about.catalogue, found.results, about.only, ask=about.look):
+    for it in changed.changed(about.old, about.catalogue, found.results, about.only, ask=about.look, choice=about.choice):
         if it.result in changed.UNCHANGED:
             continue
         found.fields.update({change.name for change in it.changes})
@@ -176,6 +180,7 @@ def _gather_changes(found: Gathered, about: About) -> None:
 
     found.changed = [it[3] for it in heapq.nsmallest(MOST_CHANGES, heads(), key=lambda it: it[:3])]
     equal.close()
+    found.left_out = list(lines(about.choice, True))
 
 
 def members(about: About) -> Iterator[Members]:
@@ -190,7 +195,7 @@ def members(about: About) -> Iterator[Members]:
         "causes": dict(causes),
         **({"unproved": without_proof} if without_proof else {}),
     }
-    for group in groups.groups(catalogue, only=about.table(), look=about.look):
+    for group in groups.groups(catalogue, only=about.table(), look=about.look, choice=about.choice):
         wholly_read = not group.not_read and group.basis == groups.MEANING
         known = {"description": group.sentence(), "basis": group.basis, "same_bytes": group.same_bytes, "wholly_read": wholly_read}
         yield {"same": [path_members(it) for it in group.pictures()], **known}
@@ -216,11 +221,13 @@ def _changed_members(about: About) -> Iterator[Members]:
     assert about.old is not None
     results: "Counter[str]" = Counter()
     fields: "Counter[str]" = Counter()
-    for it in changed.changed(about.old, about.catalogue, results, about.only):
+    about.choice.left_out.clear()  # of the page
+    for it in changed.changed(about.old, about.catalogue, results, about.only, choice=about.choice):
         if it.result in changed.UNCHANGED:
             continue
         fields.update({change.change_name for change in it.changes})
         changes = [{"name": one.change_name, "before": bare(one.before), "after": bare(one.after)} for one in it.changes]
         moved = {} if it.moved_to is None else {"moved_to": path_members(it.moved_to)}
         yield {"changed": path_members(it.name), "result": it.result, "note": it.note, **moved, "fields": changes}
-    yield {"results": dict(results), "fields": dict(fields)}
+    left_out = {"left_out": about.choice.left_out} if about.choice.left_out else {}
+    yield {"results": dict(results), "fields": dict(fields), **left_out}

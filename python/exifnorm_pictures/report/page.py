@@ -156,6 +156,7 @@ def _changes(found: Gathered) -> str:
     parts.append(_more(found.all_changed, MOST_CHANGES, "differences"))
     if not found.changed:
         parts.append("<p>Nothing has changed.</p>")
+    parts += [f"<p>{_text(it)}</p>" for it in found.left_out]
     return "".join(parts) + "</section>\n"
 
 

@@ -1,0 +1,129 @@
+"""The pictures of a catalogue as they are without the fields that don't count: a temporary table, which `same` groups in place of the pictures."""
+
+from __future__ import annotations
+
+import hashlib
+from itertools import groupby
+from typing import Iterator, List, NamedTuple, Optional, Sequence, Tuple
+
+from ..catalogue.records import KINDS, WORDS, has, kind_of
+from ..catalogue.store import ALL_PICTURE_COLUMNS, Catalogue
+from ..extract.formats.found import EXIF, NAMES
+from ..fields.choosing import Choice
+from ..fields.listing import Field, unpacked
+from ..refusals import steps
+from .differing import equal_form
+from .verdicts import ACCEPTED, joined
+
+_BATCH = 1000  # rows that are written at once
+
+
+class _Counted(NamedTuple):
+    """A block by its fields that count."""
+
+    kind: str
+    name: str
+    digest: Optional[str]  # of the fields that count: empty without any, None if the block isn't accepted
+    repaired: Optional[str]  # the same after a repair that loses nothing
+    meaning: str  # of all of the block
+    listing: str  # of all its fields
+
+
+def make_table(catalogue: Catalogue, choice: Choice, table: str) -> None:
+    """Makes the temporary table, unless it is there. Its digests are those of the fields that count, and it has three columns more: `whole`, which
+    is equal for pictures that mean the same, `listing`, which is of all fields, and `place`, of MakerNotes and of what was not read."""
+    if next(catalogue.rows("SELECT 1 FROM sqlite_temp_master WHERE name = ?", (table.rpartition(".")[2],)), None):
+        return
+    with catalogue.guarded():
+        catalogue.base.execute("CREATE TEMP TABLE remaining (id INTEGER PRIMARY KEY, exif, iptc, xmp, repaired, whole, listing)")
+    waiting: List[Tuple[object, ...]] = []
+    for row in _rows(catalogue, choice):
+        waiting.append(row)
+        if len(waiting) == _BATCH:
+            _write(catalogue, waiting)
+    _write(catalogue, waiting)
+    with catalogue.guarded():
+        catalogue.base.execute(f"CREATE TABLE {table} AS SELECT pictures.id, {_columns(choice)}, {_MORE} FROM {_JOINED}")
+        catalogue.base.execute("CREATE UNIQUE INDEX temp.counted_by_id ON counted (id)")
+        catalogue.base.execute("CREATE INDEX temp.counted_by_content ON counted (exif, iptc, xmp, not_read)")
+        catalogue.base.execute("DROP TABLE remaining")
+
+
+_MORE = "whole, listing, pictures.maker_notes || ' ' || ifnull(pictures.not_read, '') AS place"
+_JOINED = "main.pictures LEFT JOIN temp.remaining USING (id)"
+
+
+def _columns(choice: Choice) -> str:
+    """The columns of a picture, with the digests of the fields that count."""
+    has_blocks = "remaining.id IS NOT NULL"
+    made = {it: f"CASE WHEN {has_blocks} THEN remaining.{it} ELSE pictures.{it} END" for it in WORDS.values()}
+    made["exif_repaired"] = f"CASE WHEN {has_blocks} THEN repaired ELSE exif_repaired END"
+    made.update({f"{it}_octets": f"CASE WHEN remaining.{it} = '' THEN '' ELSE {it}_octets END" for it in WORDS.values()})
+    if choice.leaves_out_maker_notes:
+        made.update(maker_notes="''", not_read="other_not_read")
+    return ", ".join(f"{made.get(it, f'pictures.{it}')} AS {it}" for it in ALL_PICTURE_COLUMNS.split(", "))
+
+
+def _write(catalogue: Catalogue, rows: List[Tuple[object, ...]]) -> None:
+    with catalogue.guarded():
+        catalogue.base.executemany("INSERT INTO temp.remaining VALUES (?, ?, ?, ?, ?, ?, ?)", rows)
+    rows.clear()
+
+
+def _rows(catalogue: Catalogue, choice: Choice) -> Iterator[Tuple[object, ...]]:
+    """A row for each picture with blocks."""
+    query = "SELECT picture, kind, name, status, ifnull(digest, repaired), octets, repair, fields FROM main.blocks ORDER BY picture, number"
+    blocks: Iterator[Tuple[int, _Counted]] = catalogue.rows(query, (), lambda row: (row[0], _counted(row[1:], choice)))
+    for picture, ours in groupby(blocks, key=_number):
+        yield (picture, *_row([it for _, it in ours], choice))
+
+
+def _number(it: Tuple[int, _Counted]) -> int:
+    return it[0]
+
+
+def _counted(row: Tuple[str, str, str, Optional[str], str, Optional[str], Optional[bytes]], choice: Choice) -> _Counted:
+    word, name, status, digest, octets, repair, packed = row
+    has(str, word, name, status, octets, *(it for it in (digest, repair) if it is not None))
+    if packed is None:
+        own = f"whole {digest}" if status == ACCEPTED else None  # its fields aren't kept, so all of it counts
+        return _Counted(kind_of(word), name, own, None, digest or octets, "")
+    fields = unpacked(packed)
+    block = "" if name in NAMES.values() else name
+    counted = _digest(choice.of(fields, block), choice)
+    is_repaired = repair is not None and not steps.loses(steps.unpacked(repair))
+    return _Counted(
+        kind_of(word), name, counted if status == ACCEPTED else None, counted if is_repaired else None, digest or octets, _sum(fields)
+    )
+
+
+def _digest(fields: Sequence[Field], choice: Choice) -> str:
+    """SHA-256 of the fields that count; empty without any."""
+    if not fields:
+        return ""
+    return _sum([(it.where, it.key, equal_form(it)) for it in fields] if choice.equal_numbers else fields)
+
+
+def _sum(fields: Sequence[Tuple[object, ...]]) -> str:
+    return hashlib.sha256(repr([tuple(it) for it in fields]).encode("utf-8", "surrogatepass")).hexdigest()
+
+
+def _row(blocks: Sequence[_Counted], choice: Choice) -> Tuple[object, ...]:
+    """The digest of each kind, of Exif after repairs, of all that the picture means, and of all its fields."""
+    digests: List[Optional[str]] = []
+    for kind in KINDS:
+        ours = [it for it in blocks if it.kind == kind and kind in choice.kinds and it.digest != ""]
+        digests.append(
+            None if any(it.digest is None for it in ours) else joined([(it.name, it.digest or "") for it in ours]) if ours else ""
+        )
+    exif = [(it.name, it.repaired if it.digest is None else it.digest) for it in blocks if it.kind == EXIF]
+    is_repaired = digests[0] is None and all(digest is not None for _, digest in exif)
+    repaired = (
+        joined([(name, digest or "") for name, digest in exif if digest != ""]) if is_repaired and any(it for _, it in exif) else None
+    )
+    whole, listing = (joined([(f"{it.kind} {it.name}", text) for it, text in zip(blocks, some)]) for some in _whole(blocks))
+    return (*digests, repaired, whole, listing)
+
+
+def _whole(blocks: Sequence[_Counted]) -> Tuple[List[str], List[str]]:
+    return [it.meaning for it in blocks], [it.listing for it in blocks]
