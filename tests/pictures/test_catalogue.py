@@ -126,7 +126,7 @@ class Archive(InFolder):
         self.assertEqual({it for it in named if named[it] == "Moved"}, {"a.jpg", "b.jpg", "sub/plain.jpg"})
         self.assertEqual(named["sub/c.jpg"], "Vanished")
         found = [json.loads(it) for it in self.asked("changed", "old", "c", "--json", status=1)]
-        moves = {it["path"]: it.get("moved_to", {}).get("path") for it in found[:-1]}
+        moves = {it["path"]: (it["moved_to"] or {}).get("path") for it in found[:-1]}
         self.assertEqual(moves, {"a.jpg": "sub/a.jpg", "b.jpg": "new.jpg", "sub/plain.jpg": "plain2.jpg", "sub/c.jpg": None})
         self.assertEqual(found[-1]["counts"], {"moved": 3, "missing after": 1})
         self.assertEqual(self.run_again()[1], {"unchanged": 3})
@@ -158,7 +158,7 @@ class Archive(InFolder):
         os.remove(self.path("p", "e", "1.jpg"))
         self.assertEqual(self.run_again()[1], {"unchanged": 6, "Vanished": 1})
         found = [json.loads(it) for it in self.asked("changed", "old", "c", "--json", status=1)]
-        moves = {it["path"]: it.get("moved_to", {}).get("path") for it in found[:-1]}
+        moves = {it["path"]: (it["moved_to"] or {}).get("path") for it in found[:-1]}
         self.assertEqual(moves, {"a/2.jpg": "d/2.jpg", "b/1.jpg": "c/1.jpg", "b/9.jpg": None})
 
     def test_a_file_with_two_new_names(self):
@@ -477,13 +477,15 @@ class Kinds(InFolder):
         found = self.compared(one, other)
         self.assertEqual(found["kinds"], dict.fromkeys(("exif", "iptc", "xmp"), "different"))
         self.assertCountEqual(
-            [(it["before"], it["after"]) for it in found["fields"]], [('"Abc"', '"Xyz"'), ('"one"', '"two"'), ('"eins"', '"zwei"')]
+            [(it["before"]["value"], it["after"]["value"]) for it in found["fields"]], [("Abc", "Xyz"), ("one", "two"), ("eins", "zwei")]
         )
 
     def test_fields_of_a_second_block(self):
         one, other = (SMALL_JPEG[:2] + with_exif(SMALL_JPEG, block([MAKE]))[2 : -len(SMALL_JPEG) + 2] + it[2:] for it in (ONE, OTHER))
         found = self.compared(one, other)
-        self.assertEqual(found["fields"], [{"name": "second Exif: main:Make", "before": '"One"', "after": '"Two"'}])
+        (field,) = found["fields"]
+        self.assertEqual((field["name"], field["block"]), ("IFD0:Make (second Exif)", "second Exif"))
+        self.assertEqual((field["before"]["value"], field["after"]["value"]), ("One", "Two"))
 
     def test_lines_of_fields(self):
         """A sign shows whether a field came, went or changed."""

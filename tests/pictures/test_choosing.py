@@ -353,7 +353,7 @@ def test_changed_has_what_was_left_out(run, folder):
         assert (status, err) == (0, "exifnorm-pictures: note: GPS fits no field that differs\n")
         assert "Left out though it differs: IFD0:Make (2 pictures)." in found and len(found) == lines
     *_, last = (json.loads(it) for it in run("changed", "before", "after", "--ignore", "Make", "--json")[1])
-    assert last == {"counts": {BUT: 2}, "left_out": {"IFD0:Make": 2}}
+    assert (last["counts"], last["left_out"]) == ({BUT: 2}, {"IFD0:Make": 2})
     assert run("changed", "before", "after", "--ignore", "Maek")[0] == 3
     found = json.loads(run("changed", "before", "after", "--ignore", "Make", "--all", "--json")[1][0])
     assert (found["result"], found["left_out"], found["fields"]) == (BUT, ["IFD0:Make"], [])

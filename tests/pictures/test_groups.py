@@ -257,8 +257,8 @@ def test_maker_notes(asked, folder, other, result, status, basis):
         (folder / side / "a.jpg").write_bytes(octets)
     (found, _) = asked("changed", "before", "after", "--all", "--each", status=status)
     assert found["result"] == result or (status == 1 and found["result"] in ("different", "only MakerNote differs"))
-    values = [it[1:] for it in found.get("maker_note", {}).get("values", [])]
-    assert (["Annette", "Ottilie"] in values) is (b"Ottilie" in other)
+    values = [(it["before"], it["after"]) for it in (found["maker_note"] or {"values": []})["values"]]
+    assert (("Annette", "Ottilie") in values) is (b"Ottilie" in other)
     indexed(asked, "before", "after")
     assert [it["basis"] for it in asked("same", "--catalogue", "c")[:-1]] == ([basis] if basis else [])
 
@@ -298,7 +298,7 @@ def test_what_exiftool_reads_is_kept(asked, folder):
     asked("index", "p", "--catalogue", "now", "--quiet")
     assert asked("changed", "with", "now", status=2)[0]["result"] == "the same but for a MakerNote that moved"
     (found, _) = asked("changed", "without", "now", status=1)
-    assert "the earlier picture" in found["fields"][0]["said"]
+    assert "the earlier picture" in found["fields"][0]["note"]
 
 
 def test_a_file_system_that_is_mounted_at_another_place(asked, folder):

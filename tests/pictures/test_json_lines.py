@@ -4,7 +4,9 @@ import copy
 import json
 import os
 import re
+import shutil
 import subprocess
+from collections import Counter
 from pathlib import Path
 
 import exifnorm_pictures
@@ -106,6 +108,26 @@ def test_comparisons(objects):
     assert {"same", "different", "different after repair", "not read"} <= {it["result"] for it in found}
     values = [field for it in found for field in it["fields"] if field["name"] == "IFD0:Copyright"]
     assert [(it["before"], it["after"]["value"]) for it in values][:1] == [(None, "Riverside Museum")]
+
+
+@needs("exiftool")
+def test_changes(objects, odd, folder):
+    shutil.copytree(SAMPLES, folder / "before")
+    shutil.copytree(SAMPLES.replace("before", "after"), folder / "after")
+    for one, other in (("repaired.jpg", "bare.jpg"), ("broken.jpg", "repaired.jpg"), ("notes.txt", "unreadable.jpg")):
+        shutil.copy(odd / one, folder / "before" / one)
+        shutil.copy(odd / other, folder / "after" / one)
+    with open(os.fsencode(folder) + b"/before/" + STRANGE, "wb") as file:
+        file.write(jpeg(app1(exif(b"xyz"))))
+    shutil.copy(odd / os.fsdecode(STRANGE), folder / "after")
+    *pictures, summary = objects("changed", "@/before", "@/after", "--all", "--ignore", "IFD0:Copyright", "--quiet")
+    assert summary["counts"] == dict(Counter(it["result"] for it in pictures)) and summary["left_out"] == {"IFD0:Copyright": 1}
+    assert {"moved", "different", "same"} <= set(summary["counts"])
+    named = {it["path"]: it for it in pictures}
+    assert bytes.fromhex(named[r"strange-\xff\n=1.jpg"]["path_hex"]) == STRANGE
+    (field,) = named["ceramics/2003-12-bowl.jpg"]["fields"]
+    assert (field["name"], field["key"], field["after"]["value"]) == ("IPTC:Caption-Abstract", "2:120", "Bowl, celadon glaze, 1280")
+    assert any(it["repairs"] for it in pictures)
 
 
 @needs("exiftool")

@@ -155,8 +155,8 @@ class Commands(InProcess):
             self.assertEqual(list(map(bool, found)), [False, True])
         self.printed("changed", "@/x", "@/y")
         write(self.path("y", "a.jpg"), hidden.replace(A, B))
-        self.assertEqual(self.objects("changed", "@/x", "@/y")[-1], {"counts": {"same": 1}})
-        self.assertEqual(self.objects("changed", "@/x", "@/y", "--whole", status=2)[-1], {"counts": {"not wholly read": 1}})
+        self.assertEqual(self.objects("changed", "@/x", "@/y")[-1]["counts"], {"same": 1})
+        self.assertEqual(self.objects("changed", "@/x", "@/y", "--whole", status=2)[-1]["counts"], {"not wholly read": 1})
 
     def test_limits_of_programs(self):
         """Each command that starts programs passes its --limit on."""

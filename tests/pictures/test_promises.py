@@ -431,7 +431,7 @@ class Pictures(Promises):
             self.files(folder, a=jpeg(with_record(octets)), b=jpeg(with_record(octets)))
         for name in ("a.jpg", self.path("p", "a.jpg")):
             lines = self.asked("changed", "p", "q", "--files-from", "-", "--json", given=os.fsencode(f"{name}\n"), status=1)
-            self.assertEqual(json.loads(lines[-1]), {"counts": {"different": 1}})
+            self.assertEqual(json.loads(lines[-1])["counts"], {"different": 1})
 
     def test_blocks_and_whole_files(self):
         write(self.path("block"), b"\x1c\x02\x78\0\x04Vase")
@@ -505,7 +505,7 @@ class Pictures(Promises):
         self.index("@/p")
         (group, _) = self.objects("same", "--catalogue", "@/c")
         (changed, *_) = self.objects("changed", "@/p", "@/later", status=1)
-        self.assertEqual((sorted(group["digests"]), [it["name"] for it in changed["fields"]]), (["exif", "iptc", "xmp"], ["main:Make"]))
+        self.assertEqual((sorted(group["digests"]), [it["name"] for it in changed["fields"]]), (["exif", "iptc", "xmp"], ["IFD0:Make"]))
         for command in ("show", "captions", "explain"):
             self.printed(command, "@/p/c.jpg", status=2)
         self.printed("report", "--catalogue", "@/c", "--html", "@/page")

@@ -249,7 +249,7 @@ def test_which_repairs_make_pictures_the_same(folder, capsys, monkeypatch):
         found = json.loads(capsys.readouterr().out.splitlines()[0])
         assert found["result"] == result
         if name == "edited":
-            assert [it["name"] for it in found["fields"]] == ["main:Model"]
+            assert [it["name"] for it in found["fields"]] == ["IFD0:Model"]
 
 
 @pytest.mark.parametrize(

@@ -115,6 +115,23 @@ def test_fields_that_differ(run, folder):
     assert run("compare", "a.jpg", "a.jpg", "--csv") == (0, "field,before,after,exact before,exact after,note\r\n")
 
 
+def test_changes(run, folder):
+    for side, octets, other in (("p", b"Anna", b"+1"), ("q", b"Otto", b"Museum")):
+        (folder / side).mkdir()
+        put(folder / side, jpeg(with_texts(artist=octets, copyright=other)))
+        (folder / side / "same.jpg").write_bytes(PICTURE)
+    (folder / "p" / "gone.jpg").write_bytes(jpeg(app1(exif(b"abc"))))
+    status, out = run("changed", "p", "q", "--csv")
+    found = rows(out)
+    assert status == 1 and [it["result"] for it in found if it["picture"] == "gone.jpg"] == ["missing after"]
+    assert len({it["picture"] for it in found}) == len(NAMES) + 1
+    fields = {it["field"]: (it["before"], it["after"]) for it in found if it["field"]}
+    assert fields == {"IFD0:Artist": ("Anna", "Otto"), "IFD0:Copyright": ("'+1", "Museum")}
+    assert {it["picture"] for it in rows(run("changed", "p", "q", "--csv", "--all")[1])} >= {"same.jpg"}
+    status, out = run("changed", "p", "q", "--csv", "--ignore", "Copyright")
+    assert {it["field"] for it in rows(out)} == {"", "IFD0:Artist"} and any("IFD0:Copyright" in it["note"] for it in rows(out))
+
+
 def test_an_open_answer_has_a_row(run, folder):
     """A table without a row would say that nothing differs."""
     (folder / "a.jpg").write_bytes(jpeg(app1(BLOCKS["UnknownKind"])))

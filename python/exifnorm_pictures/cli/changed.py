@@ -9,12 +9,10 @@ import json
 import os
 import sys
 from collections import Counter
-from typing import Iterable, Iterator, List, Sequence
+from typing import Iterable, Iterator, List
 
-from ..catalogue.records import WORDS
 from ..catalogue.store import Catalogue, NoCatalogue
 from ..compare import changed as changes
-from ..compare.differing import Difference, bare
 from ..compare.summary import Summary
 from ..compare.wording import NONE, line_of
 from ..extract import exiftool, programs
@@ -22,13 +20,13 @@ from ..fields.choosing import Choice
 from ..fields.listing import MAKER_NOTE
 from ..fields.plain_names import group_name
 from ..files import tempdir
-from ..refusals.steps import Step
 from ..scan.batches import How
 from ..scan.index import IndexOptions, index
+from . import changed_tables
 from .choice import choice_of, lines as lines_of_choice, listings_of, refuse_unknown, say_unseen
 from .exit_codes import DIFFERENCE, SUCCESS, UNKNOWN
 from .names import from_list, refuse_pictures
-from .output import Members, closed_folder, path_members, print_line, shown_path
+from .output import closed_folder, print_line, shown_path
 from .summary import lines
 
 
@@ -47,10 +45,13 @@ def run(arguments: argparse.Namespace) -> int:
         choice = choice_of(arguments)
         refuse_unknown(choice, itertools.chain(listings_of(before), listings_of(after)))
         found = changes.changed(before, after, counts, only, arguments.all, not arguments.no_exiftool, choice)
-        if arguments.json:
-            _print_objects(arguments, found, counts, choice)
+        listed = (it for it in found if it.result not in changes.UNCHANGED or arguments.all)
+        if arguments.csv:
+            changed_tables.print_table(listed, choice)
+        elif arguments.json:
+            changed_tables.print_objects(listed, counts, choice)
         elif arguments.each or arguments.all or arguments.exact:
-            _print_each(arguments, found, counts, choice)
+            _print_each(arguments, listed, counts, choice)
         else:
             _print_summary(found, counts, choice)
         say_unseen(choice, "that differs")
@@ -60,19 +61,11 @@ def run(arguments: argparse.Namespace) -> int:
 Found = Iterable[changes.Compared]
 
 
-def _print_objects(arguments: argparse.Namespace, found: Found, counts: "Counter[str]", choice: Choice) -> None:
-    for it in found:
-        if it.result not in changes.UNCHANGED or arguments.all:
-            print(json.dumps(changed_members(it)))
-    print(json.dumps({"counts": dict(counts), **({"left_out": choice.left_out} if choice.left_out else {})}))
-
-
 def _print_each(arguments: argparse.Namespace, found: Found, counts: "Counter[str]", choice: Choice) -> None:
     """Each picture with its fields."""
     with contextlib.closing(changes.Equal()) as equal:
         for it in found:
-            if it.result not in changes.UNCHANGED or arguments.all:
-                equal.add(json.dumps(_said(it, arguments.exact)), it.name, it.moved_to is not None)
+            equal.add(json.dumps(_said(it, arguments.exact)), it.name, it.moved_to is not None)
         _print_equal(equal)
     print_line(", ".join(f"{counts[it]} {it}" for it in changes.RESULTS if counts[it]) or "no picture")
     for text in lines_of_choice(choice, True):
@@ -141,28 +134,3 @@ def _print_equal(equal: changes.Equal) -> None:
                 print_line(f"{shown_path(name)}: {head}")
                 for line in lines:
                     print_line(f"  {line}")
-
-
-def changed_members(it: changes.Compared) -> Members:
-    """A picture that was compared as a JSON object."""
-    found: Members = {**path_members(it.name), "result": it.result, "note": it.note}
-    if it.moved_to is not None:
-        found["moved_to"] = path_members(it.moved_to)
-    found["kinds"] = {WORDS[one.kind]: one.result for one in it.verdicts}
-    if it.maker_note is not None:
-        reads = "otherwise" if it.maker_note else "the same"
-        found["maker_note"] = {"reads": reads, "values": [list(one) for one in it.maker_note]}
-    if it.repairs:
-        found["repairs"] = [_repair_members(*one) for one in it.repairs]
-    if it.left_out:
-        found["left_out"] = it.left_out
-    return {**found, "fields": [_field_members(one) for one in it.changes]}
-
-
-def _repair_members(name: str, before: Sequence[Step], after: Sequence[Step]) -> Members:
-    return {"name": name, "before": [one._asdict() for one in before], "after": [one._asdict() for one in after]}
-
-
-def _field_members(it: Difference) -> Members:
-    known: Members = {"name": it.change_name, "before": bare(it.before), "after": bare(it.after)}
-    return {**known, "said": it.note} if it.note else known

@@ -168,6 +168,8 @@ def _print_table(found: Comparison, rows: Sequence[Row], names: Sequence[bytes])
         table.row(it.name, *it.plain, *it.exact, it.note or ("equal number" if it.is_equal_number else None))
     problems = [f"{shown_path(name)}: {it.problem}: {it.detail}" for name, it in zip(names, found.records) if it.problem]
     note = "" if problems or not found.found.note else f" ({found.found.note})"
+    if found.left_out:
+        table.row(None, None, None, None, None, f"left out though they differ: {', '.join(found.left_out)}")
     if _status(found) == UNKNOWN:
         table.row(None, None, None, None, None, "; ".join([_sentence(found, rows) + note, *problems]))
 

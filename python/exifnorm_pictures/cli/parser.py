@@ -278,6 +278,7 @@ def _mend_arguments(it: argparse.ArgumentParser) -> None:
 
 # The commands with --csv, and what a row of their tables is
 _TABLES = {
+    "changed": "a row for each field that differs",
     "same": "a row for each picture of a group",
     "compare": "a row for each field that differs",
     "show": "a row for each field",

@@ -10,7 +10,7 @@ from typing import List, NamedTuple, Optional, Sequence, Tuple
 
 from ..fields.listing import MAKER_NOTE, Field
 from ..fields.plain_texts import quoted, text_of, xmp_texts
-from ..fields.plain_values import in_line
+from ..fields.plain_values import in_line, plain
 from .differing import Difference, exact
 
 NONE = "(none)"  # in place of a value that isn't there
@@ -39,6 +39,16 @@ def sides(it: Difference, exactly: bool = False) -> Tuple[Optional[str], Optiona
     if exactly or plain[0] == plain[1]:
         return exact(it.before), exact(it.after)
     return plain[0], plain[1]
+
+
+def plain_sides(it: Difference) -> Tuple[Optional[str], Optional[str]]:
+    """Both values as they are, without quotes and escapes, for tables and programs; exact if both look alike.
+
+    >>> plain_sides(Difference("main", "013b", (), (Field("main", "013b", "ASCII", 5, '"Otto"'),)))
+    (None, 'Otto')
+    """
+    values = ["; ".join(map(plain, one)) if one else None for one in (it.before, it.after)]
+    return (values[0], values[1]) if values[0] != values[1] else (exact(it.before), exact(it.after))
 
 
 def line_of(it: Difference, exactly: bool = False) -> str:

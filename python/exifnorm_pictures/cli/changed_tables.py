@@ -1,0 +1,76 @@
+"""The results of `changed` as a table (--csv) and as objects (--json), picture by picture."""
+
+from __future__ import annotations
+
+from collections import Counter
+from typing import Iterable, Optional, Sequence, Tuple
+
+from ..catalogue.records import WORDS
+from ..compare.changed import Compared
+from ..compare.differing import Difference, exact
+from ..compare.wording import plain_sides
+from ..fields.choosing import Choice
+from ..fields.listing import MAKER_NOTE, Field
+from ..fields.plain_names import exact_key, group_name
+from ..fields.typed import together
+from ..refusals.steps import Step
+from .choice import lines
+from .objects import print_object
+from .output import Members, path_members
+from .tables import Table
+
+Found = Iterable[Compared]
+
+_MAKER_NOTE = group_name(*MAKER_NOTE)
+_HEADS = ("picture", "result", "moved to", "field", "before", "after", "exact before", "exact after", "note")
+
+
+def print_table(found: Found, choice: Choice) -> None:
+    """A row for each field that differs, and one for each other picture."""
+    table = Table(_HEADS)
+    for it in found:
+        about = (it.name, it.result, it.moved_to)
+        for one in it.changes:
+            values = (None,) * 4 if one.note else (*plain_sides(one), exact(one.before), exact(one.after))
+            table.row(*about, one.name, *values, one.note or it.note)
+        for value in it.maker_note or ():
+            table.row(*about, f"{_MAKER_NOTE} {value.name}", value.before, value.after, None, None, "as ExifTool reads it")
+        if not it.changes:
+            table.row(*about, *(None,) * 5, it.note)
+    for text in lines(choice, True):
+        table.row(*(None,) * 8, text)
+
+
+def print_objects(found: Found, counts: "Counter[str]", choice: Choice) -> None:
+    """An object for each picture, and one for all."""
+    for it in found:
+        print_object("changed", "picture", _members(it))
+    print_object("changed", "summary", {"counts": dict(counts), "left_out": dict(choice.left_out)})
+
+
+def _members(it: Compared) -> Members:
+    """A picture that was compared."""
+    found: Members = {**path_members(it.name), "result": it.result, "note": it.note or None}
+    found["moved_to"] = None if it.moved_to is None else path_members(it.moved_to)
+    found["kinds"] = {WORDS[one.kind]: one.result for one in it.verdicts}
+    found["maker_note"] = None
+    if it.maker_note is not None:
+        values = [{"name": one.name, "before": one.before, "after": one.after} for one in it.maker_note]
+        found["maker_note"] = {"reads": "otherwise" if values else "the same", "values": values}
+    found["repairs"] = [_repair_members(*one) for one in it.repairs]
+    return {**found, "fields": [_field_members(one) for one in it.changes], "left_out": it.left_out}
+
+
+def _repair_members(name: str, before: Sequence[Step], after: Sequence[Step]) -> Members:
+    return {"name": name, "before": [one._asdict() for one in before], "after": [one._asdict() for one in after]}
+
+
+def _field_members(it: Difference) -> Members:
+    plain = plain_sides(it)
+    sides = {"before": _side_members(plain[0], it.before), "after": _side_members(plain[1], it.after)}
+    name = {"name": it.name, "directory": it.where, "key": exact_key(it.where, it.key), "block": it.block or None}
+    return {**name, **sides, "equal_number": it.is_equal_number, "note": it.note or None}
+
+
+def _side_members(plain: Optional[str], fields: Tuple[Field, ...]) -> Optional[Members]:
+    return {"plain": plain, "exact": exact(fields), "value": together(fields)} if fields else None
