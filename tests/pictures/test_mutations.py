@@ -186,7 +186,8 @@ def meanings(found):
     """The meanings, 0 to 2, of the pictures of each group in an output of same --json."""
     for line in found.splitlines():
         group = json.loads(line)
-        yield {int(os.path.basename(it["path"])[0]) % 3 for it in group.get("pictures", ())}
+        pictures = group["pictures"] if group["record"] == "group" else ()
+        yield {int(os.path.basename(it["path"])[0]) % 3 for it in pictures}
 
 
 def see_no_false_group(found):

@@ -72,18 +72,13 @@ def _with_notes(it: Block, block: bytes, blocks: Blocks) -> Block:
 
 def judge_all(blocks: Blocks, with_fields: bool = False) -> List[Block]:
     """Judges all blocks of a picture, in their order. Extended XMP is judged with the packet that refers to it. Raises `TooMuch`."""
-    found = []
     if any(map(_says_nothing, blocks.found)):
         blocks.found = [it for it in blocks.found if not _says_nothing(it)]
-    known: Dict[Tuple[str, bytes], Block] = {}
-    every: Dict[str, Dict[str, bytes]] = {}  # by the part of the file, since a packet's extension is beside it
-    for it in blocks.found:
-        if it.extends:
-            every.setdefault(_part(it), {}).setdefault(it.extends, it.data)
-    remaining = {part: dict(some) for part, some in every.items()}
-    named = {part: xmp.Extensions(some, blocks.budget) for part, some in every.items()}
+    extended = _Extended(blocks) if any(it.extends for it in blocks.found) else None
     none = xmp.Extensions({}, blocks.budget)
+    known: Dict[Tuple[str, bytes], Block] = {}
     many = len(blocks.found) > FEW
+    found = []
     for it in blocks.found:
         if it.extends:
             continue
@@ -92,8 +87,7 @@ def judge_all(blocks: Blocks, with_fields: bool = False) -> List[Block]:
             found.append(block._replace(name=it.name, source=it.where, extractor=it.extractor))
             continue
         if it.kind == XMP and not it.data.startswith(COMPRESSED):
-            part = _part(it) if every else ""
-            block = _judge_xmp(it, named.get(part, none), remaining.get(part, {}), with_fields)
+            block = extended.judge(it, with_fields) if extended else _judge_xmp(it, none, {}, with_fields)
         else:
             block = judge(it.kind, it.data, with_fields, it)
             if it.kind == EXIF and with_fields and (block.digest or block.repaired):
@@ -102,10 +96,30 @@ def judge_all(blocks: Blocks, with_fields: bool = False) -> List[Block]:
             blocks.budget.check_time()
             known[it.kind, it.data] = block
         found.append(block)
-    for it in blocks.found if every else ():
-        if it.extends and (it.extends in remaining[_part(it)] or it.data != every[_part(it)][it.extends]):
-            found.append(_unreadable(XMP, it, len(it.data), hashlib.sha256(it.data).hexdigest(), "ExtensionNotNamed"))
-    return found
+    return found + extended.not_named() if extended else found
+
+
+class _Extended:
+    """The extended XMP of a picture by the part of the file, since a packet's extension is beside it."""
+
+    def __init__(self, blocks: Blocks) -> None:
+        self.found = [it for it in blocks.found if it.extends]
+        self.every: Dict[str, Dict[str, bytes]] = {}
+        for it in self.found:
+            self.every.setdefault(_part(it), {}).setdefault(it.extends, it.data)
+        self.remaining = {part: dict(some) for part, some in self.every.items()}
+        self.named = {part: xmp.Extensions(some, blocks.budget) for part, some in self.every.items()}
+        self.none = xmp.Extensions({}, blocks.budget)
+
+    def judge(self, it: FoundBlock, with_fields: bool) -> Block:
+        """A packet with its extended XMP."""
+        part = _part(it)
+        return _judge_xmp(it, self.named.get(part, self.none), self.remaining.get(part, {}), with_fields)
+
+    def not_named(self) -> List[Block]:
+        """What no packet beside it named."""
+        left = [it for it in self.found if it.extends in self.remaining[_part(it)] or it.data != self.every[_part(it)][it.extends]]
+        return [_unreadable(XMP, it, len(it.data), hashlib.sha256(it.data).hexdigest(), "ExtensionNotNamed") for it in left]
 
 
 def _part(it: FoundBlock) -> str:

@@ -59,7 +59,8 @@ def look(it: FoundFile, how: How) -> PictureRecord:
         return failed(it, "out of memory")
     except Exception as error:  # an error of a reader affects only this file
         return PictureRecord.of(it.path, it.root, it.stamp, extraction.failed_here(error))
-    return PictureRecord.of(it.path, it.root, _unless_changed(it, began), blocks, judged, whole_file)._replace(notes=notes)
+    found = PictureRecord.of(it.path, it.root, _unless_changed(it, began), blocks, judged, whole_file)
+    return found._replace(notes=notes) if notes else found
 
 
 def _read(path: bytes, how: How) -> Tuple[Blocks, List[Block]]:
