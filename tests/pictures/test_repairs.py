@@ -12,7 +12,7 @@ from exifnorm_pictures.extract.formats.found import EXIF, FoundBlock
 from exifnorm_pictures.fields import normal_form
 from exifnorm_pictures.refusals import repaired_file, repairs, steps
 from made_blocks import ASCII, BLOCKS, LONG, SHORT, entry, table
-from made_files import app1, chunk, exif, jpeg, png, webp
+from made_files import app1, chunk, exif, jpeg, page, png, tiff, webp
 from studio import needs
 
 RATIONAL = 5
@@ -285,8 +285,13 @@ def test_mend_without_exiftool(folder, capsys, monkeypatch):
     (folder / "b.jpg").write_bytes(jpeg(app1(BLOCKS["Doubled"])))
     assert main._run(["mend", "a.jpg", "out.jpg"]) == 0
     assert main._run(["explain", "out.jpg"]) == 0
-    assert main._run(["mend", "b.jpg", "other.jpg"]) == 2
-    assert not os.path.exists("other.jpg") and "libimage-exiftool-perl" in capsys.readouterr().out
+    (folder / "c.tif").write_bytes(tiff(page((0x010F, ASCII, b"Maker\0"), (0x010F, ASCII, b"Maker\0"))))
+    capsys.readouterr()
+    for name, why in (("b.jpg", "loses"), ("c.tif", "TIFF")):
+        assert main._run(["mend", name, "other", "--json"]) == 2
+        found = json.loads(capsys.readouterr().out.splitlines()[0])
+        assert found["problem"] == "NeedsExifTool" and why in found["detail"] and "libimage-exiftool-perl" in found["detail"]
+        assert not os.path.exists("other")
 
 
 def test_shown_fields_of_a_refused_block(folder, capsys, monkeypatch):

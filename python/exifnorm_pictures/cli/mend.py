@@ -4,7 +4,7 @@ from __future__ import annotations
 
 import argparse
 import os
-from typing import Iterator, List, Tuple
+from typing import Dict, Iterator, List, Tuple, Type
 
 from ..extract import exiftool, programs
 from ..extract.budgets import TooMuch
@@ -34,7 +34,8 @@ def _mend_one(arguments: argparse.Namespace, picture: bytes, out: bytes, room: s
     try:
         found = mend.mend(picture, out, room, bool(arguments.files_from))
     except (mend.NotWritten, programs.Failed, programs.Missing, TooMuch) as error:
-        names = {mend.NotWritten: "NotWritten", TooMuch: "TooMuch", programs.TooSlow: "TooSlow", programs.Missing: "NeedsExifTool"}
+        names: Dict[Type[Exception], str] = {mend.NotWritten: "NotWritten", TooMuch: "TooMuch", programs.TooSlow: "TooSlow"}
+        names.update({programs.Missing: "NeedsExifTool", mend.NeedsExifTool: "NeedsExifTool"})
         problem = names.get(type(error), "ToolFailed")
         line = f"{shown_path(picture)}: {atomic.not_written(shown_path(out), error)}"
         output(arguments, [line], {**path_members(picture), "problem": problem, "detail": str(error)})

@@ -17,7 +17,7 @@ from ..extract.extraction import blocks_of
 from ..extract.formats.found import EXIF, Blocks
 from ..extract.judge import judge_all
 from ..files import atomic, opening
-from .repaired_file import repaired_file
+from .repaired_file import KINDS, repaired_file
 from .steps import Step, loses
 
 COPY, NONE = "copy", "none"
@@ -36,6 +36,18 @@ class NotWritten(Exception):
     """The copy can't be written: it exists already, or the file system refused."""
 
 
+class NeedsExifTool(programs.Failed):
+    """Only ExifTool can mend a picture, and isn't installed. The text says why a repair isn't enough, and which package has it."""
+
+    def __init__(self, kind: str, repair: "Optional[_Repair]") -> None:
+        if repair is not None:
+            why = f"the repair of its block loses {' and '.join(loses(repair.steps))}, and ExifTool, which shows what that is,"
+        else:
+            known = "no repair of its block is known" if kind in KINDS else f"in a {kind} file no block is repaired"
+            why = f"{known}, and ExifTool, which writes it again,"
+        super().__init__(f"{why} isn't installed. In Debian: apt-get install libimage-exiftool-perl")
+
+
 @dataclass
 class Mended:
     """The result: the refusals before, the step that worked, and the printed values that were lost or changed."""
@@ -49,7 +61,7 @@ class Mended:
 
 
 def mend(picture: bytes, out: bytes, room: str, with_folders: bool = False) -> Mended:
-    """Writes a copy with accepted blocks to the new file `out`. Raises `NotWritten`, `programs.Missing` and `programs.Failed`.
+    """Writes a copy with accepted blocks to the new file `out`. Raises `NotWritten`, `NeedsExifTool` and `programs.Failed`.
 
     The steps are tried in the order of `STEPS`. The first that changes no printed value is used; if none is, the one that loses
     the fewest values and, among equals, adds the fewest. The values are those that ExifTool prints, without offsets. Without ExifTool
@@ -73,8 +85,7 @@ def mend(picture: bytes, out: bytes, room: str, with_folders: bool = False) -> M
         elif repair is not None and not loses(repair.steps):
             best = ("repair", repair.file, [], [])
         else:
-            programs.needed("exiftool")
-            best = None
+            raise NeedsExifTool(taken.type, repair)
         if best is None:
             return Mended(NONE, before)
         step, made, lost, gained = best
