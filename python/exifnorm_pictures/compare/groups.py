@@ -11,7 +11,7 @@ import os
 from dataclasses import dataclass, field, replace
 from typing import Dict, Iterable, Iterator, List, NamedTuple, Optional, Sequence, Tuple
 
-from ..catalogue.records import KINDS, NOT_THERE, WORDS, Picture, Stamp, has, is_marked_as, picture_of_row
+from ..catalogue.records import KINDS, NOT_THERE, WORDS, Picture, Stamp, is_marked_as, picture_of_row
 from ..catalogue.store import PICTURE_COLUMNS, Catalogue
 from ..extract.formats.found import EXIF, NAMES
 from ..fields.choosing import EVERYTHING, Choice, UnknownField
@@ -219,7 +219,7 @@ def _all_groups(catalogue: Catalogue, kinds: Sequence[str], only: Optional[str],
         ids = f"SELECT id FROM {table} WHERE {query.where} AND {terms}"
         rows = f"SELECT {PICTURE_COLUMNS}, device FROM {table} WHERE id IN ({ids}) AND {own} ORDER BY +path"
         kept = f"SELECT {_DIFFERENT} FROM {table} WHERE {query.where} AND {terms}"
-        for row in catalogue.rows(heads, (), _key):
+        for row in catalogue.rows(heads):
             meanings, listings, places = next(catalogue.rows(kept, row)) if table == COUNTED else (1, 1, 1)
             if meanings > listings:  # something differs that no field shows
                 continue
@@ -232,12 +232,6 @@ def _all_groups(catalogue: Catalogue, kinds: Sequence[str], only: Optional[str],
 
 
 _DIFFERENT = "count(DISTINCT whole), count(DISTINCT listing), count(DISTINCT place)"
-
-
-def _key(row: Tuple[str, ...]) -> Tuple[str, ...]:
-    """What the pictures of a group have in common."""
-    has(str, *row)
-    return row
 
 
 def _there(basis: str, kinds: Tuple[str, ...], found: Iterable[Tuple[Picture, int]], look: bool) -> Group:
