@@ -19,7 +19,7 @@ Table = List[List["Body"]]  # the bodies beside functions, and then groups of ch
 FUNCTION = re.compile(r"^(?:fn|impl) [^\s:]+::(\S+): (.*)$", re.M)
 WAITS = re.compile(r"it calls .* not proved|it waits for the proof")
 LACKING = re.compile(r"`search` did not prove (.*)")
-REFUSED = re.compile(r"^\./proofs/(\S+)/\w+\.antt:\d+:\d+: error: `([^`]+)`(.*)", re.M)
+REFUSED = re.compile(r"^\./proofs/(\S+)/\w+\.antt:\d+:\d+: error: `([^`]+)`(.*(?:\n +.*)*)", re.M)  # with the lines that go on
 NAMELESS = re.compile(r"has no field `|has no `[^`]+` that can be named")  # of a proof by hand that names what the changed body lacks
 
 
@@ -95,10 +95,10 @@ class Verdict:
     proved: set[str]
 
     @classmethod
-    def read(cls, text: str) -> Verdict:
-        """Reads what the compiler printed."""
+    def read(cls, text: str, with_nameless: bool = False) -> Verdict:
+        """Reads what the compiler printed. Errors of names count only for the tables whose entries have no controls yet."""
         refused, waiting, proved = {}, set(), set()
-        errors = [(path, goal) for path, goal, why in REFUSED.findall(text) if not NAMELESS.search(why)]
+        errors = [(path, goal) for path, goal, why in REFUSED.findall(text) if with_nameless or not NAMELESS.search(why)]
         for name, outcome in FUNCTION.findall(text):
             if outcome == "proved":
                 proved.add(name)

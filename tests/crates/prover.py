@@ -77,7 +77,7 @@ class Prover:
         with tempfile.TemporaryDirectory(dir=self.folder) as folder:
             kept = Path(folder) / "kept"
             link(first, kept)
-            return Verdict.read(self.check(crate, planted(table[number], controls), kept))
+            return Verdict.read(self.check(crate, planted(table[number], controls), kept), with_nameless=not table[0])
 
     def try_group(self, crate: str, table: Table, number: int, controls: bool, again: bool) -> Verdict | None:
         """The verdict on a group or on its controls; None if it has passed with the same sum."""

@@ -88,7 +88,8 @@ def test_another_toolchain_checks_again(crates):
         (OUTPUT.replace("`returns`", "`loop-1`"), "the goals of sums::add that are not proved are ['loop-1']"),
         (OUTPUT.replace("error: `returns`", "note: `returns`"), "the goals of sums::add that are not proved are []"),
         # the proof by hand names what only the old body had: the goal itself was not tried
-        (OUTPUT.replace("the types differ", "record `Rt.Then1` has no field `count`"), "the goals of sums::add that are not proved are []"),
+        (OUTPUT.replace("the types differ", "record `Then1` has no field `count`"), "the goals of sums::add that are not proved are []"),
+        (OUTPUT.replace("the types differ", "record `Then1`\n  has no field `count`"), "the goals of sums::add that are not proved are []"),
         (
             OUTPUT.replace("sums::add: not proved", "sums::add: no proof: it calls `px::sums::zero`, which is not proved"),
             "sums::add calls a function that is refused too: move it to another group",
