@@ -10,9 +10,9 @@ from pathlib import Path
 import pytest
 from made_blocks import BLOCKS, with_exif
 from made_files import app1, app1_xmp, exif, jpeg, xmp
-from studio import SMALL_JPEG, TOP, needs
+from studio import SMALL_JPEG, TOP, needs, tool
 from test_captions import data_set, with_record, with_texts
-from test_groups import FILES as TWINS
+from test_groups import FILES as TWINS, with_short_note
 
 SAMPLES = os.path.join(TOP, "samples", "before")
 PAGE = (Path(TOP) / "docs" / "CATALOGUE.md").read_text(encoding="utf-8")
@@ -102,6 +102,57 @@ def test_each_table_has_what_the_other_commands_print(exported, run, folder):
     ]
     assert asked(base, "SELECT count(*) FROM not_read")[0][0] == 2, "the bytes behind two pictures"
     assert asked(base, "PRAGMA integrity_check") == [("ok",)] and asked(base, "PRAGMA foreign_key_check") == []
+
+
+WRITTEN = {  # by ExifTool
+    "languages": ["-XMP-dc:Title-de=Krug", "-XMP-dc:Title=Vase", "-XMP-dc:Description-fr=Vase", "-XMP-dc:Creator=A", "-XMP-dc:Creator=B"],
+    "dates": [
+        "-DateTimeOriginal=2003:05:24 22:21:01",
+        "-SubSecTimeOriginal=25",
+        "-OffsetTimeOriginal=+02:00",
+        "-IPTC:DateCreated=2003:05:24",
+    ]
+    + ["-IPTC:TimeCreated=22:21:01+02:00", "-XMP-photoshop:DateCreated=2003:05:24 22:21:01+02:00"],
+    "Windows": ["-IFD0:XPTitle=Krüge", "-IFD0:XPKeywords=a;b", "-IFD0:XPComment=x", "-IFD0:XPAuthor=Anna"],
+    "comments": ["-UserComment=a comment", "-IFD0:ImageDescription= blanks  ", "-IFD0:Artist=Zürich"],
+    "UTF-8": ["-IPTC:CodedCharacterSet=UTF8", "-IPTC:ObjectName=Köln", "-IPTC:Keywords=b", "-IPTC:Keywords=a", "-XMP-dc:Subject=b"],
+    "Latin-1": ["-IPTC:ObjectName=Köln", "-IPTC:City=Köln", "-XMP-photoshop:City=Koln", "-XMP-xmpRights:UsageTerms=none"],
+    "escapes": ['-IPTC:Headline=a "b" \\n c\\', '-XMP-photoshop:Headline=a "b" \\n c\\', "-IFD0:Copyright=A\u2028B"],
+}
+
+
+@needs("exiftool")
+def test_captions_are_those_of_the_files(run, folder):
+    """Though the catalogue has them in another form, which is all that --no-look reads."""
+    (folder / "p").mkdir()
+    (folder / "bare.jpg").write_bytes(SMALL_JPEG)
+    for name, words in WRITTEN.items():
+        tool(folder, "exiftool", "-q", "-codedcharacterset=", *words, "-o", f"p/{name}.jpg", "bare.jpg")
+    items = "<rdf:li xml:lang='de'>Krug</rdf:li><rdf:li xml:lang='x-default'>Vase</rdf:li>"
+    (folder / "p" / "order.jpg").write_bytes(jpeg(app1_xmp(xmp(f"<dc:title><rdf:Alt>{items}</rdf:Alt></dc:title>"))))
+    found = [json.loads(it) for it in run("captions", "--json", "p").splitlines()]
+    expected = {
+        (os.path.basename(it["path"]), one["label"], one["field"], text, one["guess"])
+        for it in found
+        for one in it["captions"]
+        for text in one["texts"]
+    }
+    assert {name for name, *_ in expected} == {f"{it}.jpg" for it in (*WRITTEN, "order")}
+    run("index", "p", "--catalogue", "c", "--quiet")
+    run("export", "c", "t", "--no-look")
+    query = "SELECT replace(path, ? || '/p/', ''), label, field, text, guess FROM captions JOIN pictures ON id = picture"
+    assert set(asked(sqlite3.connect("t"), query, str(folder))) == expected
+
+
+@needs("exiftool")
+def test_groups_by_maker_notes(run, folder):
+    """ExifTool is asked, as by `same`."""
+    (folder / "p").mkdir()
+    for number, moved in enumerate((0, 64)):
+        (folder / "p" / f"{number}.jpg").write_bytes(with_short_note(moved))
+    run("index", "p", "--catalogue", "c", "--quiet")
+    run("export", "c", "t")
+    assert asked(sqlite3.connect("t"), "SELECT kind, keep FROM groups") == [("maker note", 1), ("maker note", 0)]
 
 
 # The page

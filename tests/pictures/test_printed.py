@@ -169,6 +169,7 @@ class Commands(InProcess):
             ("index", "@/p/e.jpg", "--catalogue", "@/d", "--quiet"),
             ("changed", "@/p", "@/c"),
             ("report", "--catalogue", "@/c", "--html", "@/page.html"),
+            ("export", "@/c", "@/tables"),
         ):
             with mock.patch.object(programs, "set_limit") as found:
                 self.printed(*words, "--limit", "7.5")
