@@ -455,7 +455,7 @@ class Markers(unittest.TestCase):
     def test_markers_beside_a_plain_search(self, size, octets, at):
         at %= len(octets) + 1
         with mock.patch.object(jpeg_tail, "CHUNK", size):
-            markers = jpeg_tail._Markers(io.BytesIO(octets), at, len(octets))
+            markers = jpeg_tail.Markers(io.BytesIO(octets), at, len(octets))
             self.assertEqual(jpeg_tail._scanned(markers)[:3], plain_search(octets, at))
 
 

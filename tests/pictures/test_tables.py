@@ -712,6 +712,7 @@ class Statuses(unittest.TestCase):
             "the same but for a MakerNote that moved": 2,
             "only bytes that a MakerNote can reach differ": 2,
             "moved": 1,
+            "moved and edited": 1,
             "missing before": 1,
             "missing after": 1,
             "refused": 2,

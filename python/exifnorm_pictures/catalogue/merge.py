@@ -5,9 +5,9 @@ from __future__ import annotations
 import os
 from typing import Sequence
 
-from .store import Catalogue, NoCatalogue, check_schema
+from .store import Catalogue, NoCatalogue, check_schema, unlike
 
-_RUNS = "INSERT INTO main.runs SELECT id + ?, started, ended, exifnorm, exiftool, exiv2 FROM other.runs"
+_RUNS = "INSERT INTO main.runs SELECT id + ?, started, ended, exifnorm, exiftool, exiv2, sidecars FROM other.runs"
 
 
 def merge(all_: Catalogue, names: Sequence[str]) -> int:
@@ -18,8 +18,9 @@ def merge(all_: Catalogue, names: Sequence[str]) -> int:
     for name in names:
         if os.path.exists(name) and os.path.samefile(name, all_.name):
             raise NoCatalogue(f"{name} is the catalogue to be written")
-        with Catalogue(name):  # it is one, and isn't damaged at first sight
-            pass
+        with Catalogue(name) as other:  # it is one, and isn't damaged at first sight
+            if not all_.is_empty() and other.has_sidecars() != all_.has_sidecars():
+                raise unlike(all_, other)
     for name in names:
         _add(all_, name)
     return int(next(all_.rows("SELECT count(*) FROM pictures"))[0])

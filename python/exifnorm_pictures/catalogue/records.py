@@ -130,6 +130,8 @@ class PictureRecord(NamedTuple):
     digests: "Optional[Digests]" = None  # what `digests` returns, if it was already called
     file: str = ""  # SHA-256 of the whole file, if nothing else can be compared
     notes: Optional[bytes] = None  # what ExifTool reads of its MakerNotes, if it was asked
+    coded_picture: Optional[str] = None  # the digest of the coded picture, empty if it isn't known; None: it was not requested
+    sidecars: str = ""  # the marks of its XMP sidecars
 
     @classmethod
     def of(
@@ -164,6 +166,8 @@ class Picture:
     repaired: Optional[str] = None  # the digest of what its Exif means after repairs that lose nothing; None: no need, or no such repair
     maker_notes: str = ""  # where the MakerNotes begin in their blocks; empty: there is none
     file: str = ""  # SHA-256 of the whole file, if nothing else can be compared
+    coded_picture: str = ""  # the digest of the coded picture; empty: not known
+    sidecars: str = ""  # the marks of its XMP sidecars
 
     @property
     def state(self) -> str:
@@ -241,12 +245,30 @@ def kind_of(word: str) -> str:
 
 def picture_of_row(row: Tuple[Any, ...]) -> Picture:
     """A picture of a row in the order of `store.PICTURE_COLUMNS`."""
-    number, path, root, kind, extractor, problem, detail, size, modified, changed, inode, unread, *by_kind, repaired, notes, file = row
+    (
+        number,
+        path,
+        root,
+        kind,
+        extractor,
+        problem,
+        detail,
+        size,
+        modified,
+        changed,
+        inode,
+        unread,
+        *by_kind,
+        repaired,
+        notes,
+        file,
+        coded,
+        sidecars,
+    ) = row
     has(int, number, *(it for it in (size, modified, changed, inode) if it is not None))
     has(bytes, path, root)
-    has(
-        str, kind, extractor, detail, notes, file, *by_kind[3:], *(it for it in (problem, unread, repaired, *by_kind[:3]) if it is not None)
-    )
+    has(str, kind, extractor, detail, notes, file, sidecars, *by_kind[3:])
+    has(str, *(it for it in (problem, unread, repaired, coded, *by_kind[:3]) if it is not None))
     return Picture(
         number,
         path,
@@ -263,6 +285,8 @@ def picture_of_row(row: Tuple[Any, ...]) -> Picture:
         repaired,
         notes,
         file,
+        coded or "",
+        sidecars,
     )
 
 

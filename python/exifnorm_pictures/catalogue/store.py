@@ -23,7 +23,7 @@ from ..files import mounts, opening as files
 from .records import Block, Damaged, Picture, PictureRecord, Stamp, block_of_row, digests, has, not_read_of_row, picture_of_row
 
 APPLICATION = 0x45584E50  # 'EXNP', which distinguishes a catalogue from other SQLite files
-VERSION = 3
+VERSION = 4
 CACHE = 32_000  # kB of a catalogue that is written to: digests go into its index in no order
 PATIENCE = 200  # milliseconds that closing waits for other programs; while they read, the write-ahead log stays
 
@@ -34,7 +34,8 @@ CREATE TABLE runs (
     ended TEXT,                     -- missing where the run was stopped
     exifnorm TEXT,                  -- the version of the library that made the digests; it ends with -unproved if that was not proved
     exiftool TEXT,                  -- versions of the programs
-    exiv2 TEXT
+    exiv2 TEXT,
+    sidecars INTEGER NOT NULL       -- 1: XMP files beside pictures are blocks of them
 );
 CREATE TABLE pictures (
     id INTEGER PRIMARY KEY,
@@ -60,6 +61,8 @@ CREATE TABLE pictures (
     exif_repaired TEXT,             -- SHA-256 of what the Exif blocks mean after repairs that lose nothing, if one is refused
     maker_notes TEXT NOT NULL,      -- where the MakerNotes begin in their blocks, which decides what they mean; empty if there is none
     file TEXT NOT NULL,             -- SHA-256 of the whole file, if nothing else of it can be compared; else empty
+    coded_picture TEXT,             -- BLAKE2b of the coded picture; empty: not known of this file; NULL: not requested
+    sidecars TEXT NOT NULL,         -- names, sizes, times and inodes of its XMP sidecars; empty if there is none
     run INTEGER NOT NULL REFERENCES runs(id)
 );
 CREATE TABLE blocks (
@@ -93,17 +96,18 @@ CREATE TABLE maker_notes (
     readings BLOB NOT NULL          -- what ExifTool reads of its MakerNotes: JSON, compressed by zlib
 );
 CREATE INDEX pictures_by_content ON pictures (exif, iptc, xmp, not_read) WHERE problem IS NULL;
+CREATE INDEX pictures_by_coded_picture ON pictures (coded_picture) WHERE coded_picture != '';
 """
 
 _OCTETS = "exif_octets, iptc_octets, xmp_octets"
-_MORE = "exif_repaired, maker_notes, file"
+_MORE = "exif_repaired, maker_notes, file, coded_picture, sidecars"
 PICTURE_COLUMNS = (
     f"id, path, root, type, extractor, problem, detail, size, modified, changed, inode, not_read, exif, iptc, xmp, {_OCTETS}, {_MORE}"
 )
 BLOCK_COLUMNS = "number, kind, name, source, extractor, status, digest, cause, place, length, octets, repair, repaired, note"
 ALL_PICTURE_COLUMNS = f"path, root, size, modified, changed, inode, device, type, extractor, problem, detail, exif, iptc, xmp, not_read, other_not_read, {_OCTETS}, {_MORE}"
 # A row that replaces another of the same path takes the other's blocks and parts with it, by ON DELETE CASCADE.
-_PUT_PICTURE = f"INSERT OR REPLACE INTO pictures (id, {ALL_PICTURE_COLUMNS}, run) VALUES (?{', ?' * 23})"
+_PUT_PICTURE = f"INSERT OR REPLACE INTO pictures (id, {ALL_PICTURE_COLUMNS}, run) VALUES (?{', ?' * 25})"
 _PUT_BLOCK = f"INSERT INTO blocks (picture, {BLOCK_COLUMNS}, fields) VALUES (?{', ?' * 15})"
 _ADD_ROWS = (
     "DELETE FROM main.pictures WHERE path IN (SELECT path FROM {other}.pictures)",
@@ -137,6 +141,8 @@ class Known(NamedTuple):
     id: int
     stamp: Optional[Stamp]
     problem: Optional[str]
+    coded_picture: Optional[str] = None
+    sidecars: str = ""
 
 
 def head_is_ours(head: bytes) -> bool:
@@ -322,10 +328,14 @@ class Catalogue:
 
     # Writing
 
-    def begin_run(self, started: str) -> int:
+    def begin_run(self, started: str, sidecars: bool = False) -> int:
         """A new run; its number."""
         with self.guarded():
-            return int(self.base.execute("INSERT INTO runs (started) VALUES (?)", (started,)).lastrowid or 0)
+            return int(self.base.execute("INSERT INTO runs (started, sidecars) VALUES (?, ?)", (started, sidecars)).lastrowid or 0)
+
+    def has_sidecars(self) -> bool:
+        """Whether XMP files beside pictures are blocks of them here, as in one of its runs."""
+        return next(self.rows("SELECT 1 FROM runs WHERE sidecars LIMIT 1"), None) is not None
 
     def set_versions(self, run: int, exifnorm: str, exiftool: Optional[str], exiv2: Optional[str]) -> None:
         """Keeps which library makes the digests of a run, and with which programs it takes blocks."""
@@ -424,7 +434,7 @@ class Catalogue:
 
     def known(self, path: bytes) -> Optional[Known]:
         """The record of one picture."""
-        query = "SELECT id, size, modified, changed, inode, device, problem FROM pictures WHERE path = ?"
+        query = "SELECT id, size, modified, changed, inode, device, problem, coded_picture, sidecars FROM pictures WHERE path = ?"
         with self.guarded():
             row = self.base.execute(query, (path,)).fetchone()
         return None if row is None else _known(row)
@@ -472,6 +482,11 @@ class Catalogue:
                 "DELETE FROM pictures WHERE path = ? OR (path > ? AND path < ?)", (name, start, start[:-1] + b"0")
             ).rowcount
 
+    def forget_pictures(self, numbers: Iterable[int]) -> None:
+        """Removes some pictures, by their numbers."""
+        with self.transaction():
+            self.base.executemany("DELETE FROM pictures WHERE id = ?", ((it,) for it in numbers))
+
     def set_devices(self, devices: Iterable[Tuple[int, int]]) -> None:
         """Keeps on which file system some pictures are now: each a device and a picture's number."""
         with self.transaction():
@@ -490,6 +505,12 @@ class Catalogue:
                 other.execute("PRAGMA journal_mode = DELETE")
             finally:
                 other.close()
+
+
+def unlike(one: Catalogue, other: Catalogue) -> NoCatalogue:
+    """The error for two catalogues of which only one has XMP sidecars."""
+    has, has_not = (one, other) if one.has_sidecars() else (other, one)
+    return NoCatalogue(f"{has.name} was made by `index --sidecars`, and {has_not.name} without; make both alike")
 
 
 def make_rows(base: sqlite3.Connection) -> None:
@@ -511,7 +532,7 @@ def put_rows(base: sqlite3.Connection, run: int, first: int, entries: Iterable[P
 def _row(it: PictureRecord) -> Tuple[object, ...]:
     """A picture as a row, without its number and run."""
     stamp = it.stamp or (None, None, None, None, None)
-    return (it.path, it.root, *stamp, it.type, it.extractor, it.problem, it.detail, *digests(it), it.file)
+    return (it.path, it.root, *stamp, it.type, it.extractor, it.problem, it.detail, *digests(it), it.file, it.coded_picture, it.sidecars)
 
 
 def _block_with_fields(row: Tuple[Any, ...]) -> Tuple[Block, bytes]:
@@ -531,6 +552,6 @@ def _run_of_row(row: Run) -> Run:
     return row
 
 
-def _known(row: Tuple[int, Optional[int], int, int, int, int, Optional[str]]) -> Known:
-    number, size, modified, changed, inode, device, problem = row
-    return Known(number, None if size is None else Stamp(size, modified, changed, inode, device), problem)
+def _known(row: Tuple[int, Optional[int], int, int, int, int, Optional[str], Optional[str], str]) -> Known:
+    number, size, modified, changed, inode, device, problem, coded, sidecars = row
+    return Known(number, None if size is None else Stamp(size, modified, changed, inode, device), problem, coded, sidecars)

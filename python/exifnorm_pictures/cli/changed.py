@@ -37,6 +37,7 @@ def run(arguments: argparse.Namespace) -> int:
     only = None if names is None else {*names, *(os.path.abspath(it) for it in names)}
     counts: "Counter[str]" = Counter()
     with contextlib.ExitStack() as open_:
+        _go_on_with_sidecars(arguments)
         before, after = (open_.enter_context(_side(it, arguments, open_)) for it in (arguments.before, arguments.after))
         room = open_.enter_context(tempdir.room())
         programs.set_limit(arguments.limit)
@@ -85,6 +86,14 @@ def status_of(counts: "Counter[str]") -> int:
     if any(counts[it] for it in changes.OPEN):
         return UNKNOWN
     return DIFFERENCE if any(counts[it] for it in changes.DIFFERENCES) else SUCCESS
+
+
+def _go_on_with_sidecars(arguments: argparse.Namespace) -> None:
+    """A folder is read with XMP sidecars if the catalogue that it is compared with has them."""
+    for name in (arguments.before, arguments.after):
+        if not arguments.sidecars and not os.path.isdir(name):
+            with Catalogue(name) as it:
+                arguments.sidecars = it.has_sidecars()
 
 
 def _side(name: str, arguments: argparse.Namespace, open_: contextlib.ExitStack) -> Catalogue:

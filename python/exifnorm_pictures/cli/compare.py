@@ -36,7 +36,7 @@ def run(arguments: argparse.Namespace) -> int:
     with tempdir.room() as room:
         exiftool.begin(room)
         try:
-            how = How(1, False, arguments.whole, arguments.limit, room)
+            how = How(1, whole=arguments.whole, seconds=arguments.limit, room=room)
             one, other = (read(os.fsencode(it), how) for it in (arguments.before, arguments.after))
             choice = _choice(arguments, one, other)
             found = compare(one, other, arguments.exact, not arguments.no_exiftool, arguments.whole, choice)

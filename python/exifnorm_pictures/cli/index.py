@@ -22,6 +22,21 @@ from .output import kind_of_part, print_line, record_lines, shown_path
 NOT_READABLE = ("Unreadable", "ToolFailed", "InternalError", "TooMuch", "TooSlow", "NeedsExifTool", "NeedsExiv2")
 
 
+class NoSidecars(Failure):
+    """A catalogue can't have XMP sidecars."""
+
+    status = USAGE
+
+
+def _check_sidecars(arguments: argparse.Namespace, catalogue: Catalogue) -> None:
+    """Goes on with XMP sidecars in a catalogue that has them. Raises `NoSidecars`."""
+    if arguments.sidecars and not catalogue.has_sidecars() and not catalogue.is_empty():
+        raise NoSidecars(f"{catalogue.name} was made without --sidecars: make a new catalogue")
+    arguments.sidecars = arguments.sidecars or catalogue.has_sidecars()
+    if arguments.sidecars and arguments.scheduler:
+        raise NoSidecars("XMP sidecars are read here only, not on the workers of a cluster: leave out --scheduler")
+
+
 class NothingThere(Failure):
     """No name leads to a folder or a file, and there is no catalogue yet: a mistyped name makes none."""
 
@@ -38,6 +53,7 @@ def run(arguments: argparse.Namespace) -> int:
     with tempdir.room() as room, Catalogue(arguments.catalogue, make=True) as catalogue:
         if arguments.keep_old:
             keep_old(catalogue, arguments.keep_old, room)
+        _check_sidecars(arguments, catalogue)
         lines = objects.record_lines if arguments.json else record_lines
         options = IndexOptions(names, arguments.again, arguments.quiet, How.of(arguments, room, lines), print_line)
         if arguments.scheduler:

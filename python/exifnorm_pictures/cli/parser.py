@@ -10,6 +10,7 @@ from ..catalogue.records import KIND_OF
 from .exit_codes import USAGE
 from .output import safe
 
+PIXELS = "pixels"  # the kind of groups with the same coded picture
 SECONDS = 60.0  # that a program may take for one file
 
 _STATUSES = """Statuses:
@@ -143,6 +144,13 @@ def _many_arguments(it: argparse.ArgumentParser) -> None:
     it.add_argument("--quiet", action="store_true", help="no progress on standard error")
 
 
+def _more_arguments(it: argparse.ArgumentParser) -> None:
+    words = "XMP files beside a picture are blocks of it: NAME.EXT.xmp and NAME.xmp"
+    it.add_argument("--sidecars", action="store_true", help=words)
+    words = "also a digest of each coded picture, which recognises pictures that were moved and edited, and is for same --kind pixels"
+    it.add_argument("--pixels", action="store_true", help=words)
+
+
 def _index_arguments(it: argparse.ArgumentParser) -> None:
     it.add_argument("folders", nargs="*", type=_name, metavar="FOLDER", help="a folder, with all below it, or a picture")
     it.add_argument("--catalogue", required=True, type=_name, metavar="FILE", help="the catalogue; created if it is missing")
@@ -151,6 +159,7 @@ def _index_arguments(it: argparse.ArgumentParser) -> None:
     it.add_argument(
         "--maker-notes", action="store_true", help="also keep what ExifTool reads of MakerNotes, so that changed needs no earlier files"
     )
+    _more_arguments(it)
     it.add_argument("--scheduler", metavar="tcp://HOST:PORT", help="look at the pictures on the workers of this Dask cluster")
     it.add_argument("--elsewhere", type=_name, metavar="PATH", help="the path of FOLDER on the workers")
     _many_arguments(it)
@@ -163,7 +172,8 @@ def _merge_arguments(it: argparse.ArgumentParser) -> None:
 
 def _same_arguments(it: argparse.ArgumentParser) -> None:
     it.add_argument("--catalogue", required=True, type=_name, metavar="FILE")
-    it.add_argument("--kind", choices=("all", *KIND_OF), default="all", help="the blocks that must mean the same (all)")
+    words = "the blocks that must mean the same (all); pixels: the coded picture must be the same, by the digests of index --pixels"
+    it.add_argument("--kind", choices=("all", *KIND_OF, PIXELS), default="all", help=words)
     it.add_argument("--least-fields", type=_positive, default=0, metavar="N", help="leave out groups of pictures with fewer fields")
     it.add_argument("--no-look", action="store_true", help="don't look at the files, as for a catalogue from elsewhere")
     _choice_arguments(it)
@@ -210,6 +220,7 @@ def _changed_arguments(it: argparse.ArgumentParser) -> None:
         "--no-exiftool", action="store_true", help="don't ask ExifTool whether MakerNotes that differ or have moved read the same"
     )
     _choice_arguments(it)
+    _more_arguments(it)
     _many_arguments(it)
 
 

@@ -5,38 +5,42 @@ from __future__ import annotations
 import argparse
 import contextlib
 import json
-from typing import Dict, Iterator, List, Optional, Tuple
+from typing import Dict, Iterator, List, Optional, Sequence, Tuple
 
 from ..catalogue.records import KIND_OF, KINDS, WORDS, Picture
 from ..catalogue.store import Catalogue
 from ..compare import groups
 from ..extract import exiftool
+from ..fields.choosing import Choice
 from ..files import tempdir
 from .choice import BY_LISTING, choice_of, listings_of, refuse_unknown, say_unseen
-from .exit_codes import SUCCESS
+from .exit_codes import SUCCESS, USAGE
 from .names import chosen_paths
 from .objects import line_of, print_object
 from .output import Members, path_members, print_line, shown_path
+from .parser import PIXELS
+from .signals import Failure
 from .tables import Table
 
 
 def run(arguments: argparse.Namespace) -> int:
     """Lists the groups of pictures that mean the same."""
-    kinds = KINDS if arguments.kind == "all" else (KIND_OF[arguments.kind],)
+    kinds = KINDS if arguments.kind in ("all", PIXELS) else (KIND_OF[arguments.kind],)
     chosen = chosen_paths(arguments)
     with contextlib.ExitStack() as open_:
         exiftool.begin(open_.enter_context(tempdir.room()))
         open_.callback(exiftool.finish)
         catalogue = open_.enter_context(Catalogue(arguments.catalogue))
         only = None if chosen is None else catalogue.choose(chosen)
+        has_keep = arguments.kind == "all" and not arguments.no_look
         table = Table(_HEADS) if arguments.csv else None
         choice = choice_of(arguments)
         refuse_unknown(choice, listings_of(catalogue))
         fewest = groups.Fewest(arguments.least_fields)
         count = grouped = partial = 0
-        for it in groups.groups(catalogue, kinds, only, look=not arguments.no_look, choice=choice, fewest=fewest):
+        for it in _groups(catalogue, arguments, kinds, only, choice, fewest):
             count, grouped, partial = count + 1, grouped + it.count, partial + it.is_partial
-            keep = None if arguments.no_look or kinds != KINDS or choice else it.to_keep()
+            keep = it.to_keep() if has_keep and not choice else None
             if arguments.json:
                 _print_group(count, it, keep)
             elif table:
@@ -44,7 +48,7 @@ def run(arguments: argparse.Namespace) -> int:
             else:
                 _print_lines(it, count)
         if not table:
-            left = groups.left_out(catalogue, kinds, only)
+            left = 0 if arguments.kind == PIXELS else groups.left_out(catalogue, kinds, only)
             totals = {"groups": count, "pictures": grouped, "undecided": left, "small_groups": fewest.small}
             if arguments.json:
                 print_object("same", "summary", totals)
@@ -52,8 +56,36 @@ def run(arguments: argparse.Namespace) -> int:
                 _print_totals(count, grouped, left, fewest)
                 if partial:
                     print_line(BY_LISTING)
+                if arguments.kind == PIXELS:
+                    _print_without_digest(groups.without_coded_picture(catalogue, only)[1])
         say_unseen(choice, "of the catalogue")
     return SUCCESS
+
+
+class NoDigests(Failure):
+    """No digests of coded pictures, or options that have nothing to do with them."""
+
+    status = USAGE
+
+
+def _groups(
+    catalogue: Catalogue,
+    arguments: argparse.Namespace,
+    kinds: Sequence[str],
+    only: Optional[str],
+    choice: Choice,
+    fewest: groups.Fewest,
+) -> Iterator[groups.Group]:
+    """The groups of the kind that is asked for. Raises `NoDigests`."""
+    if arguments.kind != PIXELS:
+        return groups.groups(catalogue, kinds, only, look=not arguments.no_look, choice=choice, fewest=fewest)
+    if choice or arguments.least_fields:
+        raise NoDigests("--kind pixels compares coded pictures and no fields: leave out the options for fields")
+    count = groups.without_coded_picture(catalogue, only)[0]
+    if count:
+        have = "1 picture has" if count == 1 else f"{count:,} pictures have"
+        raise NoDigests(f"{have} no digest of the coded picture yet: `index --pixels` adds it")
+    return groups.of_coded_pictures(catalogue, only, not arguments.no_look)
 
 
 # Lines
@@ -70,6 +102,12 @@ def _print_totals(count: int, grouped: int, left: int, fewest: groups.Fewest) ->
     if left:
         why = "can't be the same by meaning: a block is refused or unreadable, or a part was not read"
         print_line(f"{left} picture{'s' * (left > 1)} {why}")
+
+
+def _print_without_digest(count: int) -> None:
+    if count:
+        have = "1 picture has" if count == 1 else f"{count:,} pictures have"
+        print_line(f"{have} no digest of the coded picture: the file is of another format than JPEG, PNG, TIFF and WebP, or is damaged")
 
 
 def _print_lines(it: groups.Group, number: int) -> None:

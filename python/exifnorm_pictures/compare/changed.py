@@ -52,8 +52,19 @@ if TYPE_CHECKING:
     from . import maker_notes
 
 MISSING_BEFORE, MISSING_AFTER, MOVED, NOT_READ = "missing before", "missing after", "moved", "not read"
+MOVED_EDITED = "moved and edited"  # which the digest of its coded picture shows
 FILE_SAME, FILE_DIFFERENT = "not read, the same bytes", "not read, different bytes"
-DIFFERENCES = (DIFFERENT, DIFFERENT_REPAIRED, ONLY_MAKER_NOTE, ONLY_NUMBERS, FILE_DIFFERENT, MOVED, MISSING_BEFORE, MISSING_AFTER)
+DIFFERENCES = (
+    DIFFERENT,
+    DIFFERENT_REPAIRED,
+    ONLY_MAKER_NOTE,
+    ONLY_NUMBERS,
+    FILE_DIFFERENT,
+    MOVED,
+    MOVED_EDITED,
+    MISSING_BEFORE,
+    MISSING_AFTER,
+)
 OPEN = (MOVED_NOTE, SAME_REPAIRED, ONLY_REACHED, REFUSED, UNREADABLE, NOT_WHOLLY_READ, NOT_READ)  # it isn't wholly decided
 UNCHANGED = (SAME, SAME_BUT, SAME_NUMBERS, REFUSED_SAME, UNREADABLE_SAME, FILE_SAME)  # nothing is reported to differ
 RESULTS = (
@@ -138,6 +149,9 @@ def compared(pair: Pair, pairs: Sides, ask: bool, choice: Choice = EVERYTHING) -
     if not choice.leaves_out_maker_notes:
         parts = _judge_maker_notes(it, one, other, pairs, parts, ask)
     it.note = _sentence(tuple(it.verdicts), tuple(parts)) + it.note
+    if place is not None:
+        it.result = MOVED if it.result in UNCHANGED else MOVED_EDITED
+        it.moved_to, it.note = place, f"the coded picture is the same; {it.note}"
     return it
 
 

@@ -14,14 +14,16 @@ from typing import Dict, Iterable, Iterator, List, NamedTuple, Optional, Sequenc
 from ..catalogue.records import KINDS, NOT_THERE, WORDS, Picture, Stamp, is_marked_as, picture_of_row
 from ..catalogue.store import PICTURE_COLUMNS, Catalogue
 from ..extract.formats.found import EXIF, NAMES
+from ..extract.sidecars import Folders
 from ..fields.choosing import EVERYTHING, Choice, UnknownField
 from ..fields.listing import unpacked
 from ..refusals import steps
-from .verdicts import SAME, clause, none_of
+from .verdicts import ABSENT, DIFFERENT, SAME, clause, none_of
 
 MEANING, BYTES, MAKER_NOTE, REPAIR = "meaning", "bytes", "maker note", "repair"
 FIELDS = "fields"  # the meaning but for the fields left out, by the listing of fields, which is tested and not proved
 BASES = (MEANING, FIELDS, BYTES, MAKER_NOTE, REPAIR)
+CODED_PICTURE = "coded picture"  # what groups of another kind rest on, whose metadata may differ
 
 
 COUNTED = "temp.counted"  # the pictures without the fields that don't count
@@ -70,7 +72,7 @@ class Group:
     def digests(self) -> Dict[str, str]:
         """The digest of each kind that they have, as far as it is known."""
         first, found = self.members[0], {}
-        if self.is_partial:  # no digest is of what they have in common
+        if self.is_partial or self.basis == CODED_PICTURE:  # no digest is of what they have in common
             return {}
         for kind, digest in zip(KINDS, first.said):
             if kind in self.kinds and digest != "":
@@ -95,6 +97,8 @@ class Group:
 
     def sentence(self) -> str:
         """What is the same, such as `Exif and IPTC are the same in the same bytes, no XMP`."""
+        if self.basis == CODED_PICTURE:
+            return f"the coded picture is the same; {_metadata_of(self.members)}"
         first = self.members[0]
         if first.file:
             return f"the files are the same byte for byte, and not read ({first.problem or self.not_read})"
@@ -110,6 +114,19 @@ class Group:
         if self.not_read:
             text += f"; not read, but the same bytes: {self.not_read}"
         return text + self.note
+
+
+def _metadata_of(members: Sequence[Picture]) -> str:
+    """What is true of the metadata of pictures that may have different ones."""
+    known: Dict[str, List[str]] = {SAME: [], DIFFERENT: [], "refused or unreadable": [], ABSENT: []}
+    for number, kind in enumerate(KINDS):
+        said = {it.said[number] for it in members}
+        word = ABSENT if said == {""} else "refused or unreadable" if None in said else SAME if len(said) == 1 else DIFFERENT
+        known[word].append(kind)
+    none = none_of(known.pop(ABSENT))
+    text = ", ".join([*(clause(kinds, word, False) for word, kinds in known.items() if kinds), *none])
+    unread = {it.unread for it in members}
+    return text if unread != {None} and len(unread) == 1 else f"{text}; a part that was not read may differ"
 
 
 class _Query(NamedTuple):
@@ -190,7 +207,7 @@ def groups(
         raise UnknownField("nothing is left to compare")
     fewest = fewest or Fewest()
     yielded = 0
-    for group in _all_groups(catalogue, counted, only, look, _table(catalogue, choice)):
+    for group in _all_groups(catalogue, _queries(counted, only), counted, look, _table(catalogue, choice)):
         if fewest.is_enough(catalogue, group, choice):
             yield group
             yielded += 1
@@ -208,9 +225,25 @@ def _table(catalogue: Catalogue, choice: Choice) -> str:
     return COUNTED
 
 
-def _all_groups(catalogue: Catalogue, kinds: Sequence[str], only: Optional[str], look: bool, table: str) -> Iterator[Group]:
+def of_coded_pictures(catalogue: Catalogue, only: Optional[str] = None, look: bool = True) -> Iterator[Group]:
+    """The groups of files with the same coded picture, the largest first."""
+    return _all_groups(catalogue, [_Query(CODED_PICTURE, ("coded_picture",), _coded("!= ''", only))], KINDS, look, "pictures")
+
+
+def without_coded_picture(catalogue: Catalogue, only: Optional[str] = None) -> Tuple[int, int]:
+    """How many pictures have no digest of their coded picture, because it wasn't requested, and because there is none."""
+    counts = [next(catalogue.rows(f"SELECT count(*) FROM pictures WHERE {_coded(it, only)}"))[0] for it in ("IS NULL", "= ''")]
+    return int(counts[0]), int(counts[1])
+
+
+def _coded(words: str, only: Optional[str]) -> str:
+    return f"problem IS NULL AND coded_picture {words}" + (f" AND path IN {only}" if only else "")
+
+
+def _all_groups(catalogue: Catalogue, queries: Iterable[_Query], kinds: Sequence[str], look: bool, table: str) -> Iterator[Group]:
     """The groups of the pictures in a table."""
-    for query in _queries(kinds, only):
+    folders = Folders() if look and catalogue.has_sidecars() else None
+    for query in queries:
         key = ", ".join(query.key)
         heads = f"SELECT {key} FROM {table} WHERE {query.where} GROUP BY {key} HAVING {query.having} ORDER BY count(*) DESC, min(path)"
         terms = " AND ".join(f"{it} = ?" for it in query.key)
@@ -224,7 +257,7 @@ def _all_groups(catalogue: Catalogue, kinds: Sequence[str], only: Optional[str],
             if meanings > listings:  # something differs that no field shows
                 continue
             found = catalogue.rows(rows, (*row, *row), lambda *it: (picture_of_row(it[0][:-1]), it[0][-1]))
-            group = _there(query.basis, tuple(kinds), found, look)
+            group = _there(query.basis, tuple(kinds), found, look, folders)
             group.has_choice = table == COUNTED
             group.is_partial = meanings > 1 or (places > 1 and query.basis != MAKER_NOTE)
             group.basis = FIELDS if group.is_partial and query.basis == MEANING else query.basis
@@ -234,13 +267,17 @@ def _all_groups(catalogue: Catalogue, kinds: Sequence[str], only: Optional[str],
 _DIFFERENT = "count(DISTINCT whole), count(DISTINCT listing), count(DISTINCT place)"
 
 
-def _there(basis: str, kinds: Tuple[str, ...], found: Iterable[Tuple[Picture, int]], look: bool) -> Group:
+def _there(
+    basis: str, kinds: Tuple[str, ...], found: Iterable[Tuple[Picture, int]], look: bool, folders: Optional[Folders] = None
+) -> Group:
     """The different files of some pictures that are there; the further names of each, and those that are gone or have changed."""
     group = Group(basis, kinds, [])
     places: Dict[object, Dict[object, int]] = {}  # of each file among the members, by device and inode
     further: Dict[int, List[Picture]] = {}
     for it, device in found:
         state, (device, inode) = _state(it) if look else ("", (device, it.marks[3]))
+        if not state and folders and not folders.is_marked_as(it.path, it.sidecars):
+            state = "changed"
         if state:
             (group.gone if state == "gone" else group.changed).append(it.path)
             continue
@@ -264,7 +301,7 @@ _SHARED = ("root", "type", "extractor", "detail", "unread", "said", "octets", "r
 def _shrink(it: Picture, before: Sequence[Picture]) -> None:
     """Drops the marks, which were needed to look at the file, and takes what is equal in the picture before it from there: a group may have
     all pictures of an archive, and is in memory."""
-    it.marks = ()
+    it.marks, it.sidecars = (), ""
     for other in before:
         for name in _SHARED:
             if getattr(it, name) == getattr(other, name):
@@ -295,7 +332,7 @@ def _groups_of(catalogue: Catalogue, found: Group, look: bool) -> Iterator[Group
         if group.count < 2 or (group.basis == REPAIR and all(None not in it.said for it in group.members)):
             continue
         first = group.members[0]
-        if first.unread != "" and group.basis != MAKER_NOTE:
+        if first.unread != "" and group.basis not in (MAKER_NOTE, CODED_PICTURE):
             group.not_read = ", ".join(it.what for it in catalogue.not_read_of(first))
         texts: Dict[str, str] = {}
         for it in group.members if group.basis in (BYTES, REPAIR) else ():
@@ -322,7 +359,7 @@ def _by_reading(group: Group, look: bool) -> Iterator[Group]:
     written: Dict[Tuple[str, str], Picture] = {}
     for it in group.members:
         written.setdefault(_note_of(it), it)
-    if len(written) < 2 or EXIF not in group.kinds or group.basis == BYTES or not any(place for place, _ in written):
+    if len(written) < 2 or EXIF not in group.kinds or group.basis in (BYTES, CODED_PICTURE) or not any(place for place, _ in written):
         if group.basis != MAKER_NOTE:
             yield group
         return

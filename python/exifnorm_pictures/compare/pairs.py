@@ -9,7 +9,7 @@ import sqlite3
 from typing import Callable, Iterator, List, NamedTuple, Optional, Set, Tuple, TypeVar
 
 from ..catalogue.records import NOT_THERE, Block, Damaged, Picture, block_of_row, not_read_of_row, picture_of_row
-from ..catalogue.store import BLOCK_COLUMNS, PICTURE_COLUMNS, Catalogue, NoCatalogue, address, check_schema, connect
+from ..catalogue.store import BLOCK_COLUMNS, PICTURE_COLUMNS, Catalogue, NoCatalogue, address, check_schema, connect, unlike
 from ..cli import signals
 from ..extract.formats.found import NotRead
 from ..fields.listing import Field, unpacked
@@ -23,7 +23,7 @@ _WIDTH = PICTURE_COLUMNS.count(",") + 1
 _TABLES = """
 CREATE TABLE alone_before (id INTEGER PRIMARY KEY);
 CREATE TABLE alone_after (id INTEGER PRIMARY KEY);
-CREATE TABLE moved (old INTEGER PRIMARY KEY, new INTEGER UNIQUE);
+CREATE TABLE moved (old INTEGER PRIMARY KEY, new INTEGER UNIQUE, is_edited INTEGER NOT NULL);
 CREATE TABLE chosen (name BLOB PRIMARY KEY) WITHOUT ROWID;
 PRAGMA main.journal_mode = OFF;
 PRAGMA main.synchronous = OFF;
@@ -35,15 +35,17 @@ _SAME = """(typeof(old.path) = 'blob' AND old.problem IS NULL AND new.problem IS
     AND (old.exif_octets = new.exif_octets OR old.maker_notes = '' OR new.maker_notes = '')) IS NOT TRUE"""
 
 # The new names of pictures, the surest first: the same file under the same name, the same file, the same blocks under the same name, ..
-_FILE, _CONTENT = "size, modified, inode", "content(size, not_read, exif_octets, iptc_octets, xmp_octets)"
+# A file by itself doesn't show whether its sidecars are the same, so its XMP counts, too.
+_FILE, _CONTENT = "size, modified, inode, xmp_octets", "content(size, not_read, exif_octets, iptc_octets, xmp_octets)"
 _ROUNDS = (f"{_FILE}, last(path)", _FILE, f"{_CONTENT}, last(path)", _CONTENT)
+_CODED = ("coded_picture, last(path)", "coded_picture")  # then of pictures that were edited too, if they have only one new name
 _HAS_KEY = " AND ".join([*(f"typeof({it}) = 'integer'" for it in ("size", "modified", "inode")), "typeof(path) = 'blob'"])
 
 Made = TypeVar("Made")
 
 
 class Pair(NamedTuple):
-    """A picture that was there before, what it is now, and where it is now if it has moved."""
+    """A picture that was there before, what it is now, and where it is now if it has moved. It has both pictures if it was edited too."""
 
     name: bytes
     old: Optional[Picture]  # None if the other one is: then no more is known than the name
@@ -60,6 +62,8 @@ class Pairs:
     def __init__(self, before: Catalogue, after: Catalogue, only: Optional[Set[bytes]] = None) -> None:
         """Pairs all pictures; `differing` and `came` return only some, by name or by path."""
         self.catalogues = (before, after)
+        if before.has_sidecars() != after.has_sidecars() and not (before.is_empty() or after.is_empty()):
+            raise unlike(before, after)
         roots = [it.roots() for it in self.catalogues]
         by_root = all(len(it) <= 1 for it in roots)
         self.heads = [(it[0].rstrip(b"/") + b"/" if by_root and it else b"") for it in roots]
@@ -132,16 +136,19 @@ class Pairs:
                 f"INSERT INTO alone_{_BASES[side]} SELECT {mine}.id FROM {_BASES[side]}.pictures AS {mine}"
                 f" WHERE {_is_there(mine)} AND NOT EXISTS ({paired})"
             )
-        for key in _ROUNDS:
+        for key in (*_ROUNDS, *_CODED):
             left = [self._alone(BEFORE, key), self._alone(AFTER, key)]
-            self.base.executemany("INSERT INTO moved VALUES (?, ?)", _equal(*left))
+            self.base.executemany(f"INSERT INTO moved VALUES (?, ?, {int(key in _CODED)})", _equal(*left))
 
     def _alone(self, side: int, key: str) -> Iterator[Tuple[object, ...]]:
         """The number and key of each picture that isn't paired yet, by key and path. SQLite has sorted them before the first is fetched."""
-        query = (
-            f"SELECT id, {key} FROM alone_{_BASES[side]} JOIN {_BASES[side]}.pictures USING (id) WHERE problem IS NULL"
+        left = (
+            f"FROM alone_{_BASES[side]} JOIN {_BASES[side]}.pictures USING (id) WHERE problem IS NULL"
             f" AND {_HAS_KEY} AND id NOT IN (SELECT {_ALIASES[side]} FROM moved)"
         )
+        query = f"SELECT id, {key} {left}"
+        if key in _CODED:
+            query += f" AND coded_picture != '' AND ({key}) IN (SELECT {key} {left} GROUP BY {key} HAVING count(*) = 1)"
         if key.startswith("content"):
             query += " AND not_read IS NOT NULL AND NOT (exif_octets = '' AND iptc_octets = '' AND xmp_octets = '')"
         return self.base.execute(f"{query} ORDER BY {key}, path")
@@ -152,7 +159,7 @@ class Pairs:
         """The pictures before that aren't known to be the same, or all of them, in the order of their paths."""
         columns = ", ".join(f"{alias}.{it.strip()}" for alias in _ALIASES for it in PICTURE_COLUMNS.split(","))
         query = (
-            f"SELECT {columns}, place.path FROM before.pictures AS old"
+            f"SELECT {columns}, place.path, moved.new, moved.is_edited FROM before.pictures AS old"
             f" LEFT JOIN after.pictures AS new ON new.path = {self._other_path(BEFORE)} AND {_is_there('new')}"
             " LEFT JOIN main.moved ON moved.old = old.id LEFT JOIN after.pictures AS place ON place.id = moved.new"
             f" WHERE {_is_there('old')} AND {self._is_chosen(BEFORE)} AND {'TRUE' if every else _SAME} ORDER BY old.path"
@@ -160,10 +167,14 @@ class Pairs:
         yield from self._rows(query, self._pair_of_row)
 
     def _pair_of_row(self, row: Tuple[object, ...]) -> Pair:
-        name, place = self._named(BEFORE, row[1]), row[-1]
-        if row[_WIDTH] is None:
+        name, (place, moved, is_edited) = self._named(BEFORE, row[1]), row[-3:]
+        if row[_WIDTH] is None and not is_edited:
             return Pair(name, None, None, None if place is None else self._named(AFTER, place))
-        return Pair(name, self._made(BEFORE, picture_of_row, row[:_WIDTH]), self._made(AFTER, picture_of_row, row[_WIDTH:-1]), None)
+        new = row[_WIDTH : 2 * _WIDTH]
+        if is_edited:
+            new = self.base.execute(f"SELECT {PICTURE_COLUMNS} FROM after.pictures WHERE id = ?", (moved,)).fetchone()
+        pictures = self._made(BEFORE, picture_of_row, row[:_WIDTH]), self._made(AFTER, picture_of_row, new)
+        return Pair(name, *pictures, self._named(AFTER, place) if is_edited else None)
 
     def came(self) -> Iterator[bytes]:
         """The names of pictures that are only there afterwards and aren't moved ones, in the order of their paths."""

@@ -28,6 +28,8 @@ class How:
     jobs: int = 0  # processes; 0 for as many as there are processors
     maker_notes: bool = False  # ask ExifTool for their values
     whole: bool = False  # every byte of a JPEG, not only its head and tail
+    pixels: bool = False  # also a digest of the coded picture
+    sidecars: bool = False  # XMP files beside pictures are blocks of them
     seconds: float = SECONDS  # that a program may take for one file
     room: str = ""  # a folder for temporary files
     lines: Optional[Lines] = None  # makes the lines that are printed about a picture
@@ -35,8 +37,8 @@ class How:
     @classmethod
     def of(cls, arguments: argparse.Namespace, room: str, lines: Optional[Lines] = None) -> "How":
         """As the arguments of a command have it."""
-        notes = getattr(arguments, "maker_notes", False)
-        return cls(arguments.jobs, notes, arguments.whole, arguments.limit, room, lines)
+        notes, pixels, sidecars = (getattr(arguments, it, False) for it in ("maker_notes", "pixels", "sidecars"))
+        return cls(arguments.jobs, notes, arguments.whole, pixels, sidecars, arguments.limit, room, lines)
 
     @property
     def processes(self) -> int:

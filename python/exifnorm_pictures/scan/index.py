@@ -15,6 +15,7 @@ from ..catalogue.store import Catalogue, Known
 from ..compare.moved import Departed
 from ..extract import programs
 from ..extract.formats.found import PROBLEMS, UNREAD_TRAILER
+from ..extract.sidecars import marks
 from .batches import LONGEST_WAIT, Batch, How, Result
 from .progress import Progress
 from .walk import FoundFile, Unlisted, below
@@ -55,6 +56,8 @@ class Work:
     unlisted: List[Unlisted] = field(default_factory=list)
     counts: "Counter[str]" = field(default_factory=Counter)
     devices: List[Tuple[int, int]] = field(default_factory=list)  # of unchanged pictures, on which file system they are now
+    sidecars: Set[bytes] = field(default_factory=set)  # the XMP files that belong to pictures
+    taken: List[int] = field(default_factory=list)  # the numbers of those that were files by themselves before
     unfinished: Set[int] = field(default_factory=set)  # the numbers of pictures for which a program was missing that is there now
     seen: Dict[int, int] = field(default_factory=dict)  # a set of row numbers, 4,096 in a number
 
@@ -64,12 +67,14 @@ def index(options: IndexOptions, catalogue: Catalogue) -> "Counter[str]":
 
     A picture that was looked at with this size, these times and this inode is skipped, unless `again` is set.
     """
-    run = catalogue.begin_run(_now())
+    run = catalogue.begin_run(_now(), options.how.sidecars)
     with catalogue.reading():
         work = _work(options, catalogue)
     if work.devices:
         catalogue.set_devices(work.devices)
     gone, departed = _gone(options.names, work, catalogue)
+    if work.taken:
+        catalogue.forget_pictures(work.taken)
     if gone:
         catalogue.put(run, gone)
     at_work = _Looking(options, catalogue, run, work)
@@ -97,7 +102,7 @@ def _work(options: IndexOptions, catalogue: Catalogue) -> Work:
     many, first = len(options.names) > 1, catalogue.is_empty()
     if not first:
         work.unfinished.update(_unfinished(catalogue))
-    for it in below(options.names, work.unlisted.append, _own_files(catalogue.name)):
+    for it in below(options.names, work.unlisted.append, _own_files(catalogue.name), work.sidecars if options.how.sidecars else None):
         if many:
             if it.path in named:
                 continue
@@ -107,7 +112,7 @@ def _work(options: IndexOptions, catalogue: Catalogue) -> Work:
             work.new.add(it.path)
         elif known is not None:
             work.seen[known.id >> 12] = work.seen.get(known.id >> 12, 0) | 1 << (known.id & 4095)
-        if options.again or not _is_unchanged(it, known) or (known and known.id in work.unfinished):
+        if options.again or not _is_unchanged(it, known, options.how) or (known and known.id in work.unfinished):
             work.to_read.append(it)
         else:
             work.counts["unchanged"] += 1
@@ -132,8 +137,10 @@ def _first(row: Tuple[int]) -> int:
     return row[0]
 
 
-def _is_unchanged(it: FoundFile, known: Optional[Known]) -> bool:
-    if known is None or known.stamp is None or it.stamp is None:
+def _is_unchanged(it: FoundFile, known: Optional[Known], how: How = How()) -> bool:
+    if known is None or known.stamp is None or it.stamp is None or (how.pixels and known.coded_picture is None):
+        return False
+    if known.sidecars != (marks(it.path, it.sidecars) if it.sidecars else ""):
         return False
     return is_as_before(known.stamp, it.stamp) and not _worth_another(known.problem)
 
@@ -157,7 +164,9 @@ def _gone(names: Iterable[bytes], work: Work, catalogue: Catalogue) -> Tuple[Lis
         for number, path, problem in catalogue.below(top):
             if work.seen.get(number >> 12, 0) >> (number & 4095) & 1 or problem in GONE or path.startswith(hidden):
                 continue
-            if not os.path.lexists(path):
+            if path in work.sidecars:
+                work.taken.append(number)
+            elif not os.path.lexists(path):
                 gone.append(PictureRecord(path, b"", problem="Vanished", detail=PROBLEMS["Vanished"]))
                 departed.add(catalogue, number, path)
     return gone, departed

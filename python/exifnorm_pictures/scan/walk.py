@@ -5,12 +5,13 @@ from __future__ import annotations
 import os
 import stat
 import sys
-from typing import BinaryIO, Callable, Collection, Iterable, Iterator, List, NamedTuple, Optional
+from typing import BinaryIO, Callable, Collection, Iterable, Iterator, List, NamedTuple, Optional, Set, Tuple
 
 from ..catalogue.records import Stamp
 from ..cli.exit_codes import USAGE
 from ..cli.output import reason
 from ..cli.signals import Failure
+from ..extract.sidecars import Folder, Folders, Sidecar
 
 
 class FoundFile(NamedTuple):
@@ -19,6 +20,7 @@ class FoundFile(NamedTuple):
     path: bytes
     root: bytes
     stamp: Optional[Stamp]  # None if the file system has none
+    sidecars: Tuple[Sidecar, ...] = ()  # if they are asked for
 
 
 class Unlisted(NamedTuple):
@@ -37,12 +39,16 @@ class BadList(Failure):
 OnUnlisted = Callable[[Unlisted], None]
 
 
-def below(names: Iterable[bytes], unlisted: OnUnlisted, leave_out: Collection[bytes] = ()) -> Iterator[FoundFile]:
+def below(
+    names: Iterable[bytes], unlisted: OnUnlisted, leave_out: Collection[bytes] = (), sidecars: Optional[Set[bytes]] = None
+) -> Iterator[FoundFile]:
     """Each file of the arguments, and all files below each folder, in the order of their names.
 
     Paths are absolute. Links to folders aren't followed. Hidden files and folders are included; the files of `leave_out` are not.
     A folder that can't be read, and a name without a file, are passed to `unlisted`, and the other files are still returned.
+    With a set `sidecars` the XMP files that belong to pictures go into it, and to their pictures; a name that is given is always returned.
     """
+    folders = Folders()
     for name in names:
         top = os.path.abspath(name)
         try:
@@ -54,12 +60,12 @@ def below(names: Iterable[bytes], unlisted: OnUnlisted, leave_out: Collection[by
                 unlisted(Unlisted(top, reason(error)))
             continue
         if stat.S_ISDIR(now.st_mode):
-            yield from _below(top, unlisted, leave_out)
+            yield from _below(top, unlisted, leave_out, sidecars)
         elif top not in leave_out:
-            yield FoundFile(top, os.path.dirname(top), Stamp.of(now))
+            yield FoundFile(top, os.path.dirname(top), Stamp.of(now), () if sidecars is None else folders.of(top))
 
 
-def _below(top: bytes, unlisted: OnUnlisted, leave_out: Collection[bytes]) -> Iterator[FoundFile]:
+def _below(top: bytes, unlisted: OnUnlisted, leave_out: Collection[bytes], sidecars: Optional[Set[bytes]]) -> Iterator[FoundFile]:
     waiting = [top]
     while waiting:
         folder = waiting.pop()
@@ -70,9 +76,13 @@ def _below(top: bytes, unlisted: OnUnlisted, leave_out: Collection[bytes]) -> It
             unlisted(Unlisted(folder, reason(error)))
             continue
         waiting += [it.path for it in reversed(found) if it.is_dir(follow_symlinks=False)]
-        for it in found:
-            if not _leads_to_folder(it) and it.path not in leave_out:
-                yield FoundFile(it.path, top, _stamp(it))
+        files = [it for it in found if not _leads_to_folder(it) and it.path not in leave_out]
+        known = Folder([] if sidecars is None else [it.name for it in files])
+        for it in files:
+            if sidecars is not None and it.name in known.files:
+                sidecars.add(it.path)
+            else:
+                yield FoundFile(it.path, top, _stamp(it), known.of(it.name))
 
 
 def _leads_to_folder(it: "os.DirEntry[bytes]") -> bool:

@@ -24,7 +24,7 @@ from exifnorm import LibraryMissing
 from ..catalogue.records import RACY, Block, PictureRecord, Stamp
 from ..cli import signals
 from ..cli.output import reason
-from ..extract import exiftool, extraction, judge, programs
+from ..extract import exiftool, extraction, judge, programs, sidecars
 from ..extract.budgets import WHOLE_FILE, TooMuch
 from ..extract.formats.found import PROBLEMS, Blocks
 from ..extract.formats.streams import digest_of_file
@@ -44,9 +44,13 @@ def look(it: FoundFile, how: How) -> PictureRecord:
     """The result for one file. An error of any kind affects only this file."""
     began = _now()
     try:
-        blocks, judged = _read(it.path, how)
+        marks = sidecars.marks(it.path, it.sidecars, lambda when: _is_racy(when, began)) if it.sidecars else ""
+        blocks, judged = _read(it, how)
         whole_file = file_digest(it.path, blocks, how.whole)
+        if it.sidecars:
+            whole_file = sidecars.with_sidecars(whole_file, it.path, it.sidecars)
         notes = _maker_notes(it.path, judged) if how.maker_notes else None
+        coded = _coded_picture(it.path, blocks, how.whole) if how.pixels else None
     except LibraryMissing:  # an OSError too, but not of this file
         raise
     except programs.Failed as error:
@@ -60,15 +64,17 @@ def look(it: FoundFile, how: How) -> PictureRecord:
     except Exception as error:  # an error of a reader affects only this file
         return PictureRecord.of(it.path, it.root, it.stamp, extraction.failed_here(error))
     found = PictureRecord.of(it.path, it.root, _unless_changed(it, began), blocks, judged, whole_file)
-    return found._replace(notes=notes) if notes else found
+    return found._replace(notes=notes, coded_picture=coded, sidecars=marks) if notes or marks or how.pixels else found
 
 
-def _read(path: bytes, how: How) -> Tuple[Blocks, List[Block]]:
-    """The blocks of a file, and what they mean. A file over a limit has a problem, and so has one for which a program takes too long."""
+def _read(it: FoundFile, how: How) -> Tuple[Blocks, List[Block]]:
+    """The blocks of a file and its sidecars, and what they mean. A file over a limit has a problem, and so has one for which a program takes too long."""
     try:
-        blocks = extraction.blocks_of(path, how.whole)
+        blocks = extraction.blocks_of(it.path, how.whole)
         if blocks.problem == "NoFile":  # which was there when its folder was listed
             blocks = Blocks(problem="Vanished", detail=PROBLEMS["Vanished"])
+        if it.sidecars:
+            sidecars.add(blocks, it.path, it.sidecars)
         return blocks, [] if blocks.problem else judge.judge_all(blocks, with_fields=True)
     except TooMuch as why:
         return extraction.too_much(why), []
@@ -83,6 +89,13 @@ def _maker_notes(path: bytes, judged: Sequence[Block]) -> Optional[bytes]:
     from ..compare import maker_notes
 
     return maker_notes.packed(maker_notes.values_of([path])[0])
+
+
+def _coded_picture(path: bytes, blocks: Blocks, whole: bool) -> str:
+    """The digest of the coded picture; empty if there is none, as of a file that can't be read."""
+    from ..extract import coded_picture
+
+    return "" if blocks.problem else coded_picture.digest_of(path, whole)
 
 
 def file_digest(path: bytes, blocks: Blocks, whole: bool) -> str:
@@ -124,10 +137,12 @@ def _unless_changed(it: FoundFile, began: int) -> Optional[Stamp]:
         return it.stamp
     if not began:
         return it.stamp._replace(changed=RACY)
-    for time_ in times:
-        if -COARSE < began - time_ < COARSE and (not time_ % 1_000_000_000 or -FINE < began - time_ < FINE):
-            return it.stamp._replace(changed=RACY)
-    return it.stamp
+    return it.stamp._replace(changed=RACY) if any(_is_racy(time_, began) for time_ in times) else it.stamp
+
+
+def _is_racy(when: int, began: int) -> bool:
+    """Whether a file with this time may have been changed again since without another time."""
+    return -COARSE < began - when < COARSE and (not when % 1_000_000_000 or -FINE < began - when < FINE)
 
 
 def looked(work: Sequence[FoundFile], how: How) -> Iterator[Result]:

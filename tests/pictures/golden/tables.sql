@@ -1,4 +1,4 @@
--- version 3
+-- version 4
 CREATE TABLE blocks (
     picture INTEGER NOT NULL REFERENCES pictures(id) ON DELETE CASCADE,
     number INTEGER NOT NULL,        -- the order in the file
@@ -53,8 +53,11 @@ CREATE TABLE pictures (
     exif_repaired TEXT,             -- SHA-256 of what the Exif blocks mean after repairs that lose nothing, if one is refused
     maker_notes TEXT NOT NULL,      -- where the MakerNotes begin in their blocks, which decides what they mean; empty if there is none
     file TEXT NOT NULL,             -- SHA-256 of the whole file, if nothing else of it can be compared; else empty
+    coded_picture TEXT,             -- BLAKE2b of the coded picture; empty: not known of this file; NULL: not requested
+    sidecars TEXT NOT NULL,         -- names, sizes, times and inodes of its XMP sidecars; empty if there is none
     run INTEGER NOT NULL REFERENCES runs(id)
 );
+CREATE INDEX pictures_by_coded_picture ON pictures (coded_picture) WHERE coded_picture != '';
 CREATE INDEX pictures_by_content ON pictures (exif, iptc, xmp, not_read) WHERE problem IS NULL;
 CREATE TABLE runs (
     id INTEGER PRIMARY KEY,
@@ -62,5 +65,6 @@ CREATE TABLE runs (
     ended TEXT,                     -- missing where the run was stopped
     exifnorm TEXT,                  -- the version of the library that made the digests; it ends with -unproved if that was not proved
     exiftool TEXT,                  -- versions of the programs
-    exiv2 TEXT
+    exiv2 TEXT,
+    sidecars INTEGER NOT NULL       -- 1: XMP files beside pictures are blocks of them
 );

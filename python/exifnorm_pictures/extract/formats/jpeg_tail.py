@@ -35,14 +35,14 @@ def tail(stream: Stream, start: int, end: int, whole: bool) -> Tail:
         first = end - WINDOW
         stream.seek(first - 1)
         first -= stream.read(1) == b"\xff"
-        if _is_plain(_Markers(stream, first, end)):
+        if _is_plain(Markers(stream, first, end)):
             return Tail([], end, True)
     if not budget_of(stream).may_digest(end - start):
         return Tail([], start, False, False)
-    return _scanned(_Markers(stream, start, end))
+    return _scanned(Markers(stream, start, end))
 
 
-class _Markers:
+class Markers:
     """The markers of a part of a file, in their order. Each piece of the file is read once."""
 
     def __init__(self, stream: Stream, at: int, end: int) -> None:
@@ -82,7 +82,7 @@ class _Markers:
         return length
 
 
-def _is_plain(markers: _Markers) -> bool:
+def _is_plain(markers: Markers) -> bool:
     """Whether a part contains only picture data and its tables, and ends with the end mark."""
     while True:
         marker = markers.following()
@@ -93,7 +93,7 @@ def _is_plain(markers: _Markers) -> bool:
         markers.pass_over()
 
 
-def _scanned(markers: _Markers) -> Tail:
+def _scanned(markers: Markers) -> Tail:
     """Reads all bytes after the first scan's header."""
     places: "List[tuple[int, int]]" = []
     budget = budget_of(markers.stream)

@@ -69,7 +69,7 @@ class _Page(NamedTuple):
 
 def read(stream: Stream, whole: bool = False) -> Blocks:
     """The blocks of a TIFF, or of a raw picture in its structure. Raises `Broken`."""
-    reader = _Reader(Directories(stream), whole)
+    reader = Reader(Directories(stream), whole)
     for page in reader.pages():
         reader.take(page)
     reader.directories.check()
@@ -89,7 +89,7 @@ def _type_of(head: bytes) -> str:
     return "RW2" if head[:4] == RW2_HEAD else "CR2" if head[8:] == b"CR" else "TIFF"
 
 
-class _Reader:
+class Reader:
     """The pages of one file."""
 
     def __init__(self, directories: Directories, whole: bool) -> None:

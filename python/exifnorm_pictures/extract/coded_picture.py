@@ -1,0 +1,221 @@
+"""A digest of the coded picture of a file: of the bytes that its pixels are decoded from, and of what says how to decode them.
+
+Files with the same digest show the same picture, whatever their metadata are. Files with different ones may show the same picture too, if
+it was coded again. Colour profiles don't count.
+
+JPEG: all segments but those of applications and comments, of which Adobe's APP14 counts, and all data of the scans. PNG: the chunks of
+`_PNG`. WebP: the chunks of `_WEBP`, and of an animation the size in VP8X. TIFF, and raw pictures in its structure: of each page and SubIFD the tags of
+`_CODING`, and the strips and tiles in their order.
+"""
+
+from __future__ import annotations
+
+import contextlib
+import hashlib
+from typing import Dict, Iterator, List, Optional, Tuple
+
+from ..files import opening
+from .budgets import CHUNKS, SEGMENTS, STRIPS, Budget, TooMuch
+from .formats import jpeg, png, tiff, webp
+from .formats.found import Broken
+from .formats.jpeg_segments import EOI, SOI, SOS
+from .formats.jpeg_tail import Markers
+from .formats.streams import File, Stream, pieces, read_at, size_of
+from .formats.tiff_directories import Directories, Directory, Entry
+
+
+def digest_of(path: bytes, whole: bool = False) -> str:
+    """BLAKE2b of the coded picture of a file in 64 hexadecimal digits; empty if its format has none here, or if it is damaged."""
+    with contextlib.suppress(Broken, TooMuch, OSError):
+        file = File(*opening.opened(path), Budget(whole))
+        try:
+            return digest(file, file.budget)
+        finally:
+            file.close()
+    return ""
+
+
+def digest(stream: Stream, budget: Budget) -> str:
+    """The same of a file that is open. Raises `Broken` and `TooMuch`."""
+    stream.seek(0)
+    head = stream.read(12)
+    found = hashlib.blake2b(digest_size=32)
+    if head.startswith(jpeg.START):
+        _jpeg(stream, found, budget)
+    elif head.startswith(png.START):
+        _png(stream, found, budget)
+    elif webp.is_webp(head):
+        _webp(stream, found, budget)
+    elif head[:4] in tiff.HEADS:
+        _tiff(stream, found, budget)
+    else:
+        return ""
+    return found.hexdigest()
+
+
+def _add(stream: Stream, found: "hashlib.blake2b", start: int, end: int) -> None:
+    for data in pieces(stream, start, end):
+        found.update(data)
+
+
+# JPEG
+
+_METADATA = frozenset((*range(0xE0, 0xEE), 0xEF, 0xFE))  # APP0 to APP13, APP15 and COM
+_ALONE = frozenset((0x01, *range(0xD0, 0xD8)))  # markers without a segment
+
+
+def _jpeg(stream: Stream, found: "hashlib.blake2b", budget: Budget) -> None:
+    at = 2
+    while True:
+        budget.spend(SEGMENTS)
+        mark, marker, *length = read_at(stream, at, 4)
+        if mark != 0xFF or marker in (0, SOI, EOI):
+            raise Broken(f"no segment at {at}")
+        if marker == 0xFF:
+            at += 1
+        elif marker in _ALONE:
+            at += 2
+        elif marker == SOS:
+            _scans(stream, found, at, budget)
+            return
+        else:
+            end = at + 2 + int.from_bytes(bytes(length), "big")
+            if marker not in _METADATA:
+                _add(stream, found, at, end)
+            at = end
+
+
+def _scans(stream: Stream, found: "hashlib.blake2b", at: int, budget: Budget) -> None:
+    """Adds all from the first scan to the end mark but the segments of metadata between the scans."""
+    markers = Markers(stream, at, size_of(stream))
+    start, passed = at, 0
+    while True:
+        passed += 1
+        if not passed & 4095:
+            budget.check_time()
+        marker = markers.following()
+        if marker == 0:
+            raise Broken("the picture has no end mark")
+        if marker == EOI:
+            _add(stream, found, start, markers.at)
+            return
+        if marker >= 0xC0 and marker not in _ALONE and marker != SOI:
+            here = markers.at - 2
+            markers.pass_over()
+            if marker in _METADATA:
+                _add(stream, found, start, here)
+                start = markers.at
+
+
+# PNG and WebP
+
+_PNG = frozenset((b"IHDR", b"PLTE", b"tRNS", b"IDAT", b"acTL", b"fcTL", b"fdAT"))
+_WEBP = frozenset((b"VP8 ", b"VP8L", b"ALPH", b"ANIM", b"ANMF"))
+_MOVES = 0x02  # the bit of VP8X that says so; a picture that doesn't move has VP8X only if it has metadata or ALPH
+
+
+def _png(stream: Stream, found: "hashlib.blake2b", budget: Budget) -> None:
+    at, size, last = len(png.START), size_of(stream), b""
+    while True:
+        budget.spend(CHUNKS)
+        head = read_at(stream, at, 8)
+        length, kind = int.from_bytes(head[:4], "big"), head[4:]
+        if at + 12 + length > size:
+            raise Broken(f"the file ends inside the chunk at {at}")
+        if kind == b"IEND":
+            return
+        if kind in _PNG:
+            if kind != b"IDAT" or last != b"IDAT":  # the data of these chunks are one stream
+                found.update(kind if kind == b"IDAT" else kind + head[:4])
+            _add(stream, found, at + 8, at + 8 + length)
+            last = kind
+        at += 12 + length
+
+
+def _webp(stream: Stream, found: "hashlib.blake2b", budget: Budget) -> None:
+    end = 8 + int.from_bytes(read_at(stream, 4, 4), "little")
+    at = 12
+    if end > size_of(stream):
+        raise Broken("the file is shorter than its header says")
+    while at + 8 <= end:
+        budget.spend(CHUNKS)
+        head = read_at(stream, at, 8)
+        length = int.from_bytes(head[4:], "little")
+        if at + 8 + length > end:
+            raise Broken(f"the chunk at {at} is longer than the file")
+        if head[:4] == b"VP8X":
+            flags, *size = read_at(stream, at + 8, min(length, 10)) or b"\0"
+            if flags & _MOVES:
+                found.update(head[:4] + bytes(size))
+        elif head[:4] in _WEBP:
+            found.update(head)
+            _add(stream, found, at + 8, at + 8 + length)
+        at += 8 + length + length % 2
+
+
+# TIFF
+
+_CODING = (
+    *(0x0100, 0x0101, 0x0102, 0x0103, 0x0106, 0x010A, 0x0115, 0x0116, 0x011C, 0x0124, 0x0125, 0x013D, 0x0140, 0x0142, 0x0143, 0x014C),
+    *(0x0152, 0x0153, 0x015B, 0x0200, 0x0203, 0x0205, 0x0206, 0x0211, 0x0212, 0x0214),
+)
+_OFFSETS = {0x0111: 0x0117, 0x0144: 0x0145, 0x0201: 0x0202}  # of strips, tiles and JPEGs, each with the tag of their lengths
+_OLD_TABLES = (0x0207, 0x0208, 0x0209)  # of JPEG in TIFF 6.0, whose lengths aren't in the file's directories
+
+
+def _tiff(stream: Stream, found: "hashlib.blake2b", budget: Budget) -> None:
+    directories = Directories(stream)
+    left, strips = directories.size, 0  # strips may share bytes in a made file
+    for page in tiff.Reader(directories, False).pages():
+        by_tag: Dict[int, Entry] = {it.tag: it for it in page.directory.entries}
+        if any(tag in by_tag for tag in _OLD_TABLES):
+            raise Broken("old tables of JPEG")
+        for tag in _CODING:
+            if tag in by_tag:
+                found.update(b"%d:%s " % (tag, _value(directories, by_tag[tag])))
+        for start, end in _joined(_strips(directories, page.directory, by_tag, found)):
+            strips += 1
+            left -= end - start
+            if left < 0 or strips > STRIPS:
+                raise Broken("the strips are more than the file")
+            budget.check_time()
+            _add(stream, found, start, end)
+
+
+def _value(directories: Directories, it: Entry) -> bytes:
+    """A value: numbers as texts, so that SHORT and LONG are alike."""
+    numbers = directories.numbers(it)
+    return b",".join(b"%d" % number for number in numbers) if numbers else directories.value(it)
+
+
+def _strips(directories: Directories, page: Directory, by_tag: Dict[int, Entry], found: "hashlib.blake2b") -> Iterator[Tuple[int, int]]:
+    """The ranges of the strips, tiles and JPEGs of a page, after their lengths, which are added. Raises `Broken`."""
+    for tag, of_lengths in _OFFSETS.items():
+        if tag not in by_tag:
+            continue
+        starts, lengths = (directories.numbers(by_tag[it]) if it in by_tag else [] for it in (tag, of_lengths))
+        if len(starts) != len(lengths) or not starts:
+            raise Broken(f"the strips of the directory at {page.at} have no lengths")
+        found.update(b"%d:%s " % (of_lengths, b",".join(b"%d" % it for it in lengths)))
+        for start, length in zip(starts, lengths):
+            if start + length > directories.size:
+                raise Broken("a strip isn't in the file")
+            yield start, start + length
+
+
+def _joined(ranges: Iterator[Tuple[int, int]]) -> Iterator[Tuple[int, int]]:
+    """The same bytes in the same order, in fewer ranges.
+
+    >>> list(_joined(iter([(2, 5), (5, 9), (1, 2)])))
+    [(2, 9), (1, 2)]
+    """
+    last: Optional[List[int]] = None
+    for start, end in ranges:
+        if last and start == last[1]:
+            last[1] = end
+            continue
+        if last:
+            yield last[0], last[1]
+        last = [start, end]
+    if last:
+        yield last[0], last[1]

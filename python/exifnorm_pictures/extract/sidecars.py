@@ -1,0 +1,163 @@
+"""XMP sidecars: which files NAME.xmp of a folder belong to which picture, and the marks that show an edit of them.
+
+NAME.EXT.xmp belongs to the picture NAME.EXT, as darktable and digiKam name it. NAME.xmp, as Adobe's programs name it, belongs to the raw
+pictures called NAME, and if there is none, to each picture called NAME. NAME_01.EXT.xmp is darktable's further version of NAME.EXT.
+Letters count in either case. What belongs to no picture is a file by itself.
+"""
+
+from __future__ import annotations
+
+import hashlib
+import os
+import re
+from typing import Callable, Dict, Iterable, List, NamedTuple, Optional, Sequence, Set, Tuple
+
+from ..catalogue.records import RACY, Stamp
+from ..files import opening
+from .budgets import LIMITS, PACKET_BYTES, XMP_BYTES
+from .formats.found import XMP, Blocks, FoundBlock, NotRead, ordinal
+
+NAME = "XMP sidecar"
+_RAW = b"dng nef nrw cr2 cr3 crw arw arq sr2 srf srw orf pef rw2 rwl raf 3fr iiq erf mef mos mrw dcr kdc k25 gpr fff raw x3f".split()
+_RAW_NAME = re.compile(rb"\.(?:%s)\Z" % b"|".join(_RAW))
+_PICTURE_NAME = re.compile(
+    rb"\.(?:%s|jpe?g|jpe|jfif|tiff?|png|webp|heic|heif|hif|avif|psd|psb|jxl|jp2|j2k|jpf|jpx|gif|bmp)\Z" % b"|".join(_RAW)
+)
+_VERSION = re.compile(rb"(.*)_(\d\d)(\.[^.]+)\Z", re.S)
+
+
+class Sidecar(NamedTuple):
+    """A sidecar of a picture: the name of its block, and its file's name in the picture's folder."""
+
+    block: str
+    file: bytes
+
+
+class Folder:
+    """The sidecars of the pictures of one folder."""
+
+    def __init__(self, names: Iterable[bytes]) -> None:
+        """Takes the names of all files of the folder."""
+        self._of: Dict[bytes, List[Tuple[str, bytes]]] = {}
+        self.files: Set[bytes] = set()  # the sidecars that belong to a picture
+        every = sorted(names)
+        sidecars = [it for it in every if it.lower().endswith(b".xmp")]
+        if sidecars:
+            self._pictures: Dict[bytes, List[bytes]] = {}  # by their names, and by their names without an extension
+            for it in every:
+                low = it.lower()
+                if _PICTURE_NAME.search(low):
+                    self._pictures.setdefault(low, []).append(it)
+                    self._pictures.setdefault(low[: low.rindex(b".")], []).append(it)
+            for it in sidecars:
+                self._give(it)
+
+    def _give(self, sidecar: bytes) -> None:
+        """Gives a sidecar to its pictures."""
+        bare = sidecar.lower()[: -len(b".xmp")]
+        what, found = NAME, self._pictures.get(bare, [])
+        if _PICTURE_NAME.search(bare):
+            found = [it for it in found if it.lower() == bare]
+            version = _VERSION.match(bare)
+            if not found and version:
+                what = f"{NAME} of version {int(version[2])}"
+                found = [it for it in self._pictures.get(version[1] + version[3], ()) if it.lower() == version[1] + version[3]]
+        else:
+            found = [it for it in found if it.lower() != bare]
+            found = [it for it in found if _RAW_NAME.search(it.lower())] or found
+        for it in found:
+            self._of.setdefault(it, []).append((what, sidecar))
+            self.files.add(sidecar)
+
+    def of(self, picture: bytes) -> Tuple[Sidecar, ...]:
+        """The sidecars of a picture, in a fixed order. The names of their blocks don't depend on that of the picture."""
+        found: List[Sidecar] = []
+        counts: Dict[str, int] = {}
+        for what, file in sorted(self._of.get(picture, ())):
+            counts[what] = counts.get(what, 0) + 1
+            found.append(Sidecar(what if counts[what] == 1 else f"{ordinal(counts[what])} {what}", file))
+        return tuple(found)
+
+
+class Folders:
+    """The sidecars of pictures anywhere, with the folders that were listed last."""
+
+    _MOST = 64
+
+    def __init__(self) -> None:
+        self._folders: Dict[bytes, Folder] = {}
+
+    def of(self, path: bytes) -> Tuple[Sidecar, ...]:
+        """The sidecars of a picture; none if its folder can't be listed."""
+        folder, name = os.path.split(path)
+        if folder not in self._folders:
+            if len(self._folders) == self._MOST:
+                self._folders.clear()
+            try:
+                self._folders[folder] = Folder(os.listdir(folder or b"."))
+            except OSError:
+                return ()
+        return self._folders[folder].of(name)
+
+    def is_marked_as(self, path: bytes, then: str) -> bool:
+        """Whether a picture has the sidecars that it had, as they were; the ctime of a fresh one isn't known."""
+        now, before = (it.split("\n") if it else [] for it in (marks(path, self.of(path)), then))
+        return len(now) == len(before) and all(map(_is_as_before, now, before))
+
+
+def _is_as_before(now: str, then: str) -> bool:
+    one, other = now.split(" "), then.split(" ")
+    return one == other or (len(other) == 5 and other[_CHANGED] == str(RACY) and one[:_CHANGED] + one[4:] == other[:_CHANGED] + other[4:])
+
+
+def add(blocks: Blocks, path: bytes, sidecars: Sequence[Sidecar]) -> None:
+    """Adds the sidecars of a picture to its blocks. One that can't be read is named. Raises `TooMuch`."""
+    left = LIMITS[XMP_BYTES]
+    for it in sidecars:
+        data = _content(os.path.join(os.path.dirname(path), it.file), min(PACKET_BYTES, left))
+        if data is None:
+            blocks.name(NotRead(f"{it.block} that can't be read", ""))
+        else:
+            left -= len(data)
+            blocks.check()
+            blocks.found.append(FoundBlock(XMP, data, it.block, f"file {it.file.decode('utf-8', 'backslashreplace')}"))
+
+
+def with_sidecars(digest: str, path: bytes, sidecars: Sequence[Sidecar]) -> str:
+    """The digest of a whole file, made into one of the file with its sidecars; empty if one of them can't be read."""
+    found = hashlib.sha256(digest.encode("ascii"))
+    for it in sidecars:
+        data = _content(os.path.join(os.path.dirname(path), it.file), PACKET_BYTES)
+        if data is None:
+            return ""
+        found.update(hashlib.sha256(data).digest())
+    return found.hexdigest() if digest and sidecars else digest
+
+
+def _content(path: bytes, most: int) -> Optional[bytes]:
+    """The bytes of a file; None if it can't be read, or has more than this."""
+    try:
+        with opening.reading(path) as file:
+            data = file.read(most + 1)
+    except OSError:
+        return None
+    return data if len(data) <= most else None
+
+
+_CHANGED = 3  # which number of a mark is the ctime
+
+
+def marks(path: bytes, sidecars: Sequence[Sidecar], is_racy: Callable[[int], bool] = lambda _: False) -> str:
+    """The name, size, times and inode of each sidecar of a picture, as a text for the catalogue: empty without any.
+
+    A file with a time for which `is_racy` holds may be edited again without another mark; it gets a ctime that no file has.
+    """
+    found = []
+    for it in sidecars:
+        try:
+            now = Stamp.of(os.stat(os.path.join(os.path.dirname(path), it.file)))
+        except OSError:
+            now = Stamp(0, 0, RACY, 0)
+        changed = RACY if is_racy(now.modified) or is_racy(now.changed) else now.changed
+        found.append(f"{it.file.hex()} {now.size} {now.modified} {changed} {now.inode}")
+    return "\n".join(found)
