@@ -6,7 +6,9 @@ import struct
 import zlib
 
 from made_blocks import ASCII, segment
+from made_boxes import PICTURE, RDF, box, cr3, full, heif, jxl
 from made_files import EXTENSION_HEAD, SPACES, app1_xmp, app13, chunk, jpeg, page, png, png_xmp, profile, tiff, webp, xmp
+from made_more_files import gif, psd
 from studio import SMALL_JPEG
 
 SHARED = 8  # where the value begins that the pages of `sharing` share
@@ -117,6 +119,15 @@ FILES = {
     ),
     "record.jpg": (written(lambda: jpeg_record(b"\x1c\2\x19\0\1a" * 2_700_000)), ""),
     "entries.tif": (written(lambda: b"MM\0*" + entries(20, 65_000)), "TooMuch"),
+    "items.heic": (written(lambda: sharing_items(65_000, 1, 1)), "TooMuch"),
+    "shared-items.heic": (written(lambda: sharing_items(1000, 1, 1 << 20)), "TooMuch"),
+    "extents.heic": (written(lambda: sharing_items(10, 65_000, 1)), "TooMuch"),
+    "sparse.heic": (sparse(heif(PICTURE)), "trailer"),
+    "samples.cr3": (written(lambda: cr3(box(b"CMT1", tiff(ONE_PAGE)), samples=(b"",) * 250_000)), "TooMuch"),
+    "boxes.jxl": (written(lambda: jxl(box(b"free") * 1_000_000)), "TooMuch"),
+    "resources.psd": (written(lambda: psd(resources(2_600_000))), "TooMuch"),
+    "sparse.psd": (sparse(psd()), "trailer"),
+    "extensions.gif": (written(lambda: gif(b"\x21\xfe\0" * 1_000_000)), "TooMuch"),
     "scans.jpg": (written(lambda: SMALL_JPEG[:-2] + b"\xff\xc0\0\2" * 1_500_000), ""),
 }
 
@@ -131,6 +142,17 @@ def jpeg_record(record):
     whole = b"8BIM\4\4\0\0" + struct.pack(">I", len(record)) + record + bytes(len(record) % 2)
     size = 65_000
     return jpeg(*(segment(0xED, b"Photoshop 3.0\0" + whole[at : at + size]) for at in range(0, len(whole), size)))
+
+
+def sharing_items(items, parts, length):
+    """A HEIF of many packets, each of so many parts, which all are the same bytes."""
+    head = box(b"ftyp", b"heic\0\0\0\0mif1")
+    infes = [full(b"infe", 2, struct.pack(">HH4s", it, 0, b"mime"), b"\0", RDF) for it in range(1, items + 1)]
+    places = (struct.pack(">HHHH", it, 0, 0, parts) + struct.pack(">II", 36, length) * parts for it in range(1, items + 1))
+    handler = full(b"hdlr", 0, bytes(4), b"pict", bytes(12), b"\0")
+    listed = full(b"iinf", 0, struct.pack(">H", items), *infes)
+    located = full(b"iloc", 1, b"\x44\0", struct.pack(">H", items), *places)
+    return head + box(b"mdat", bytes(8), b"<" * length) + full(b"meta", 0, handler, listed, located)
 
 
 def entries(directories, number):

@@ -1,6 +1,7 @@
 """Picture files made of boxes, written by hand: HEIF, CR3, JPEG XL and JPEG 2000."""
 
 import struct
+from itertools import accumulate
 from typing import NamedTuple, Tuple
 
 CANON = bytes.fromhex("85c0b687820f11e08111f4ce462b6a48")
@@ -124,7 +125,7 @@ def cr3(
     after = (box(b"uuid", XMP_UUID, packet) if packet is not None else b"") + box(b"uuid", PREVIEW_UUID, bytes(8), box(b"PRVW", bytes(24)))
 
     def moov(start):
-        starts = [start + sum(map(len, samples[:number])) for number in range(len(samples))]
+        starts = [start + before for before in accumulate(map(len, samples), initial=0)][:-1]
         places = [b"\0" * 4, struct.pack(f">I{len(starts)}{'Q' if long else 'I'}", len(starts), *starts)]
         sizes = [
             b"\0" * 4,

@@ -16,7 +16,7 @@ from studio import SMALL_JPEG, Studio, WithPictures, needs, read, run, tool, wri
 from exifnorm_pictures.extract.formats.found import PROBLEMS
 
 ONE, OTHER, THIRD = (with_exif(SMALL_JPEG, block([MAKE[:-4] + it])) for it in (b"One\0", b"Two\0", b"Ten\0"))
-GIF = b"GIF89a\x01\0\x01\0\0\0\0;"
+EXV = b"\xff\x01Exiv2\xff\xd9"  # exiv2's own format, which has no reader here
 
 
 class Archive(InFolder):
@@ -73,11 +73,11 @@ class Archive(InFolder):
 
     @needs("exiftool")
     def test_a_program_that_was_installed_since(self):
-        write(self.path("p", "g.gif"), GIF)
+        write(self.path("p", "g.exv"), EXV)
         bare = os.path.join(Studio.room, "bin")
-        self.assertEqual(self.run_again(status=2, PATH=bare), ({"g.gif": "NeedsExifTool"}, {"unchanged": 4, "NeedsExifTool": 1}))
+        self.assertEqual(self.run_again(status=2, PATH=bare), ({"g.exv": "NeedsExifTool"}, {"unchanged": 4, "NeedsExifTool": 1}))
         self.assertEqual(self.run_again(PATH=bare), ({}, {"unchanged": 5}))
-        self.assertEqual(self.run_again(), ({"g.gif": "looked at"}, {"unchanged": 4, "no block": 1}))
+        self.assertEqual(self.run_again(), ({"g.exv": "looked at"}, {"unchanged": 4, "no block": 1}))
 
     def test_an_edit_that_keeps_size_and_time(self):
         for edit in ("in place", "replaced", "by exiftool -P"):

@@ -249,9 +249,9 @@ class Words(WithPictures):
         return asked
 
     def test_without_exiftool(self):
-        write(self.path("a.gif"), b"GIF89a\x01\0\x01\0\0\0\0;")
+        write(self.path("a.exv"), b"\xff\x01Exiv2\xff\xd9")  # exiv2's own format, which has no reader here
         asked = self.without()
-        for words in (["index", "a.gif", "--catalogue", "c"], ["show", "a.gif"], ["mend", "a.gif", "b.gif"]):
+        for words in (["index", "a.exv", "--catalogue", "c"], ["show", "a.exv"], ["mend", "a.exv", "b.exv"]):
             done = asked(*words)
             self.assertEqual(done.returncode, 2, done)
             self.assertIn(b"apt-get install libimage-exiftool-perl", done.stdout + done.stderr)

@@ -21,7 +21,7 @@ from exifnorm_pictures.scan.batches import How
 from exifnorm_pictures.catalogue.records import PictureRecord, Stamp
 from exifnorm_pictures.scan.walk import FoundFile
 
-GIF = b"GIF89a\x01\0\x01\0\0\0\0;"
+EXV = b"\xff\x01Exiv2\xff\xd9"  # exiv2's own format, which has no reader here
 GOOD = with_exif(SMALL_JPEG, block([MAKE]))
 PATIENCE = 120  # seconds that a process of the cluster may take to begin
 
@@ -101,17 +101,17 @@ class Cluster(WithPictures):
         return self.path("bin") + os.pathsep + Studio.environment()["PATH"]
 
     def test_a_worker_that_is_killed_loses_nothing(self):
-        write(self.path("p", "a.gif"), GIF)
+        write(self.path("p", "a.exv"), EXV)
         path = self.deadly(f'mkdir "{self.path("once")}" 2>/dev/null')
         self.assertEqual(self.index("p", "--scheduler", self.cluster(PATH=path))[-1], "150 accepted, 1 no block")
         self.assertTrue(os.path.exists(self.path("once")), "no worker was killed")
         self.assertEqual(self.index("p"), ["151 unchanged"])
 
     def test_a_picture_that_kills_workers_is_a_line(self):
-        write(self.path("p", "a.gif"), GIF)
+        write(self.path("p", "a.exv"), EXV)
         lines = self.index("p", "--scheduler", self.cluster(PATH=self.deadly("true"), failures="0"), status=2)
         self.assertEqual(
-            lines, [f"{self.path('p', 'a.gif')}: ToolFailed: the workers that looked at it died", "150 accepted, 1 ToolFailed"]
+            lines, [f"{self.path('p', 'a.exv')}: ToolFailed: the workers that looked at it died", "150 accepted, 1 ToolFailed"]
         )
 
     def test_another_path_of_the_folder_on_the_workers(self):

@@ -10,11 +10,12 @@ import sys
 
 from in_process import InFolder
 from made_blocks import BLOCKS, MAKE, block, with_exif
+from made_files import app1_xmp
 from studio import SMALL_JPEG, Studio, WithPictures, needs, read, run, write
 
 from exifnorm_pictures.catalogue.store import VERSION
 
-GIF = b"GIF89a\x01\0\x01\0\0\0\0;"
+EXV = b"\xff\x01Exiv2\xff\xd9"  # exiv2's own format, which has no reader here
 GOOD = with_exif(SMALL_JPEG, block([MAKE]))
 PAGE = b"<!DOCTYPE html>an earlier page"
 
@@ -22,7 +23,7 @@ PAGE = b"<!DOCTYPE html>an earlier page"
 ANSWERS = {
     "a text": ("echo this is no JSON", "no JSON"),
     "an object without a name": ('echo \'[{"EXIF":"x"}]\'', "another file"),
-    "another file": ('echo \'[{"SourceFile":"/other.gif"}]\'', "another file"),
+    "another file": ('echo \'[{"SourceFile":"/other.exv"}]\'', "another file"),
     "a number for a name": ("echo '[{\"SourceFile\":7}]'", "another file"),
     "a file twice": ('printf \'[{"SourceFile":"%s"},{"SourceFile":"%s"}]\\n\' "$name" "$name"', "isn't one object"),
     "no object": ("echo '[7]'", "isn't one object"),
@@ -34,7 +35,7 @@ ANSWERS = {
     "silence": ("exec sleep 1000", "2 seconds"),
 }
 
-# Reads requests as ExifTool does with -stay_open; the output about a file that is called bad*.gif is the fault.
+# Reads requests as ExifTool does with -stay_open; the output about a file that is called bad*.exv is the fault.
 FAKE = """#!/bin/sh
 if [ "$3" = -ver ]; then echo 12.57; exit; fi
 name=
@@ -45,7 +46,7 @@ while read -r line; do
     -execute)
         case "$name" in
         */bad*) %s ;;
-        *) printf '[{"SourceFile":"%%s","A:FileType":"GIF","A:MIMEType":"image/gif"}]\\n' "$name" ;;
+        *) printf '[{"SourceFile":"%%s","A:FileType":"EXV","A:MIMEType":"image/x-exv"}]\\n' "$name" ;;
         esac
         echo "$done" ;;
     esac
@@ -64,8 +65,8 @@ class Tools(WithPictures):
 
     def pictures(self):
         os.mkdir(self.path("p"))
-        for name in ("a.gif", "bad.gif", "c.gif"):
-            write(self.path("p", name), GIF)
+        for name in ("a.exv", "bad.exv", "c.exv"):
+            write(self.path("p", name), EXV)
 
     def test_each_wrong_result_costs_one_file(self):
         self.pictures()
@@ -78,8 +79,8 @@ class Tools(WithPictures):
                 )
                 found = {os.path.basename(it["path"]): it for it in map(json.loads, lines[:-1])}
                 problem = "TooSlow" if what == "silence" else "ToolFailed"
-                self.assertEqual([found[it].get("problem") for it in ("a.gif", "bad.gif", "c.gif")], [None, problem, None])
-                self.assertIn(words, found["bad.gif"]["detail"])
+                self.assertEqual([found[it].get("problem") for it in ("a.exv", "bad.exv", "c.exv")], [None, problem, None])
+                self.assertIn(words, found["bad.exv"]["detail"])
 
     def test_a_file_at_which_a_program_failed_is_looked_at_again(self):
         self.pictures()
@@ -90,10 +91,10 @@ class Tools(WithPictures):
     def test_one_that_hangs_at_its_version(self):
         self.pictures()
         environment = self.fake("exiftool", "#!/bin/sh\nexec sleep 1000\n")
-        lines = self.asked("index", "p/a.gif", "--catalogue", "c", "--quiet", "--limit", "1", status=2, **environment)
-        self.assertIn("a.gif: TooSlow: exiftool", lines[0])
-        self.asked("show", "p/a.gif", "--limit", "1", status=2, **environment)
-        self.asked("mend", "p/a.gif", "out", "--limit", "1", status=2, **environment)
+        lines = self.asked("index", "p/a.exv", "--catalogue", "c", "--quiet", "--limit", "1", status=2, **environment)
+        self.assertIn("a.exv: TooSlow: exiftool", lines[0])
+        self.asked("show", "p/a.exv", "--limit", "1", status=2, **environment)
+        self.asked("mend", "p/a.exv", "out", "--limit", "1", status=2, **environment)
         self.assertFalse(os.path.exists(self.path("out")))
 
     @needs("exiftool")
@@ -119,12 +120,12 @@ class Tools(WithPictures):
 
     @needs("exiftool")
     def test_no_configuration_file_is_read(self):
-        write(self.path("a.gif"), GIF[:-1] + b"!\xff\x0bXMP DataXMP" + b"<x:xmpmeta/>" + bytes([1, *range(255, -1, -1), 0]) + b";")
+        write(self.path("a.exv"), EXV[:-2] + app1_xmp(b"<x:xmpmeta/>") + EXV[-2:])
         write(self.path(".ExifTool_config"), f'open my $file, ">", "{self.path("it_was_read")}"; 1;\n'.encode())
         homes = {"HOME": self.folder, "EXIFTOOL_HOME": self.folder}
         run(["exiftool", "-ver"], self.folder, **homes)
         os.remove(self.path("it_was_read"))  # ExifTool by itself reads it
-        self.asked("index", "a.gif", "--catalogue", "c", "--quiet", **homes)
+        self.asked("index", "a.exv", "--catalogue", "c", "--quiet", **homes)
         self.assertFalse(os.path.exists(self.path("it_was_read")))
         run_ = sqlite3.connect(self.path("c")).execute("SELECT exiftool FROM runs").fetchone()[0]
         self.assertRegex(run_, r"^\d+\.\d+$")
@@ -177,7 +178,7 @@ class Tools(WithPictures):
         self.assertEqual(os.listdir(own), [], "what a killed run left is removed by the next one")
         os.mkdir(self.path("many"))
         for number in range(70):
-            write(self.path("many", f"{number}.gif"), GIF)
+            write(self.path("many", f"{number}.exv"), EXV)
         self.asked("index", "many", "--catalogue", "e", "--quiet", "--jobs", "2", TMPDIR=own, **self.fake("exiftool", FAKE % ":"))
         self.assertEqual(os.listdir(own), [], "each process works in the folder of its run")
 
@@ -226,9 +227,9 @@ class Tools(WithPictures):
         )
         environment = self.fake("exiftool", "#!/bin/sh\n")
         for words, what, status in (
-            (["index", "p/a.gif", "--catalogue", "c", "--quiet"], "exiftool", 2),
-            (["show", "p/a.gif"], "exiftool", 2),
-            (["mend", "p/a.gif", "out"], "exiftool", 2),
+            (["index", "p/a.exv", "--catalogue", "c", "--quiet"], "exiftool", 2),
+            (["show", "p/a.exv"], "exiftool", 2),
+            (["mend", "p/a.exv", "out"], "exiftool", 2),
             (["index", "many", "--catalogue", "c", "--quiet", "--jobs", "2"], "a further process", 0),
         ):
             with self.subTest(words):
@@ -273,8 +274,8 @@ class Tools(WithPictures):
     def test_a_folder_for_temporary_files_with_an_odd_name(self):
         odd = self.path("line\nfeed")
         os.mkdir(odd)
-        write(self.path("odd\nname.gif"), GIF)
-        self.assertEqual(self.asked("index", "odd\nname.gif", "--catalogue", "c", "--quiet", TMPDIR=odd)[-1], "1 no block")
+        write(self.path("odd\nname.exv"), EXV)
+        self.assertEqual(self.asked("index", "odd\nname.exv", "--catalogue", "c", "--quiet", TMPDIR=odd)[-1], "1 no block")
         self.assertEqual(os.listdir(odd), [])
 
 

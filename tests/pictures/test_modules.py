@@ -16,7 +16,7 @@ from collections import Counter
 from unittest import mock
 
 from made_blocks import BLOCKS, with_exif
-from made_files import chunk, exif, page, png, tiff, title
+from made_files import app1_xmp, chunk, exif, page, png, tiff, title
 from studio import SMALL_JPEG, TOP, WithPictures, needs, read, tool, write
 
 from exifnorm_pictures.cli import main, mend as mend_cli, report as report_cli, same
@@ -199,9 +199,9 @@ class Extracted(WithPictures):
 
     @needs("exiftool")
     def test_two_packets_that_exiftool_extracts(self):
-        packets = [b"!\xff\x0bXMP DataXMP" + title(it) + bytes([1, *range(255, -1, -1), 0]) for it in ("one", "two")]
-        write(self.path("a.gif"), b"GIF89a\x01\0\x01\0\0\0\0" + b"".join(packets) + b";")
-        found = json.loads(self.asked("index", "a.gif", "--catalogue", "c", "--quiet", "--json")[0])
+        packets = [app1_xmp(title(it)) for it in ("one", "two")]
+        write(self.path("a.exv"), b"\xff\x01Exiv2" + b"".join(packets) + b"\xff\xd9")
+        found = json.loads(self.asked("index", "a.exv", "--catalogue", "c", "--quiet", "--json")[0])
         self.assertEqual([(it["kind"], it["name"]) for it in found["blocks"]], [("xmp", "XMP"), ("xmp", "second XMP")])
 
     def test_an_output_without_end(self):

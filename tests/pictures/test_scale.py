@@ -10,7 +10,7 @@ from studio import WithPictures, needs, run, write
 
 from exifnorm_pictures.catalogue.store import Catalogue
 
-GIF = b"GIF89a\x01\0\x01\0\0\0\0;"  # has no reader here, and goes to ExifTool
+EXV = b"\xff\x01Exiv2\xff\xd9"  # exiv2's own format, which has no reader here and goes to ExifTool
 GROWTH = 8  # MB by which ten times as many pictures may need more: SQLite's caches (2 MB each) and Python's own memory, no list of all
 MORE_GROWTH = 12  # where SQLite also sorts, and keeps what moved and what is equal
 
@@ -29,7 +29,7 @@ def note(what):
         note("own statement")
 
 def heard(event, values):
-    if event == "open" and values[1] is None and os.fsencode(values[0]).endswith((b".jpg", b".gif")):
+    if event == "open" and values[1] is None and os.fsencode(values[0]).endswith((b".jpg", b".exv")):
         note("picture")  # by os.open, which open() calls here
     elif event == "subprocess.Popen":
         note("session" if "-stay_open" in values[1] else "program")
@@ -108,7 +108,7 @@ class Scale(WithPictures):
         """A folder with small pictures, no two of which mean the same."""
         os.mkdir(self.path(folder))
         for number in range(count):
-            octets = GIF if ending == ".gif" else made.jpeg(made.app1(made.exif(b"%03d" % number)), made.app1_xmp(made.title(str(number))))
+            octets = EXV if ending == ".exv" else made.jpeg(made.app1(made.exif(b"%03d" % number)), made.app1_xmp(made.title(str(number))))
             write(self.path(folder, f"{number:04}{ending}"), octets)
 
     # Memory
@@ -274,7 +274,7 @@ class Scale(WithPictures):
         self.pictures("p", 100)
         words = ["--catalogue", "c", "--quiet", "--jobs"]
         self.assertEqual(self.counted("index", "p", *words, "2")["session"], 0)
-        self.pictures("g", 130, ".gif")
+        self.pictures("g", 130, ".exv")
         self.assertEqual(self.counted("index", "g", *words, "1")["session"], 1)
         both = self.counted("index", "g", "--again", *words, "2")
         self.assertIn(both["session"], (1, 2))  # a process that was given no picture starts none

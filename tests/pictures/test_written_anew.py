@@ -4,6 +4,7 @@ import struct
 
 import pytest
 import test_cr3
+import test_gif
 import test_heif
 import test_jp2
 import test_jxl
@@ -16,6 +17,7 @@ MADE = {
     "avif": test_heif.READ["AVIF"][0],
     "psd": test_psd.WHOLE,
     "psb": test_psd.READ["PSB"][0],
+    "gif": test_gif.WHOLE,
     "jxl": test_jxl.READ["both"][0],
     "jp2": test_jp2.READ["all"][0],
     "cr3": cr3(

@@ -20,6 +20,7 @@ BLOCKS = "blocks"
 NOT_READ = "parts that are not read"
 SEGMENTS, SEGMENT_BYTES = "segments", "bytes of segments"
 CHUNKS, CHUNK_BYTES = "chunks", "bytes of chunks"
+EXTENSIONS, BLOCK_BYTES = "images and extensions", "bytes of application extensions"
 RESOURCES, RESOURCE_BYTES = "Photoshop resources", "bytes of Photoshop resources"
 BOXES, BOX_BYTES, ITEMS, EXTENTS = "boxes", "bytes of boxes", "items", "extents of items"
 DIRECTORIES, ENTRIES, VALUE_BYTES = "directories", "entries of directories", "bytes of values"
@@ -33,6 +34,8 @@ LIMITS: Dict[str, int] = {
     SEGMENT_BYTES: 64 << 20,  # of those that are kept; need 1.7 MB
     CHUNKS: 100_000,  # of a PNG or WebP; need 678, and 100 MB in pieces of 8 kB are 13,000
     CHUNK_BYTES: 32 << 20,  # of those that are kept, and of what they inflate to; twice as much takes 321 MB of memory; need 37 kB
+    EXTENSIONS: 100_000,  # of a GIF; need 400
+    BLOCK_BYTES: 32 << 20,  # of application extensions that are kept; need 20 kB
     BOXES: 100_000,  # of a HEIC, CR3, JPEG XL or JPEG 2000; need 358, most of them tiles
     BOX_BYTES: 64 << 20,  # of those that are kept; need 0.1 MB
     ITEMS: 65_536,  # pictures, tiles and metadata of a HEIC; need 116

@@ -8,7 +8,7 @@ from __future__ import annotations
 import re
 from typing import Callable, NamedTuple, Optional, Tuple
 
-from .formats import cr3, heif, jp2, jpeg, jxl, png, psd, raf, tiff, webp, xmp_file
+from .formats import cr3, gif, heif, jp2, jpeg, jxl, png, psd, raf, tiff, webp, xmp_file
 from .formats.found import Blocks
 from .formats.streams import Stream
 
@@ -166,6 +166,17 @@ FORMATS: Tuple[Format, ...] = (
         "other boxes uuid and xml, unknown boxes, trailers",
         "",
         "pixels, comments of the codestream, ICC profiles",
+    ),
+    Format(
+        "GIF",
+        lambda head, _: head.startswith(gif.STARTS),
+        gif.read,
+        "Photoshop resource 0422 of ImageMagick's extension MGK8BIM",
+        "ImageMagick's extension MGKIPTC; resource 0404",
+        "application extension `XMP Data`; resource 0424",
+        "other application extensions, trailers",
+        "",
+        "pixels, comments, plain texts, ICC profiles, loops",
     ),
     Format("BigTIFF", lambda head, _: head[:4] in tiff.BIG_HEADS, tiff.read_big, "not read", "not read", "not read"),
     Format("NAME.xmp", lambda _, path: xmp_file.is_named_so(path), xmp_file.read, "", "", "the whole file"),

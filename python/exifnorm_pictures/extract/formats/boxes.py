@@ -49,7 +49,7 @@ def boxes(stream: Stream, start: int, end: int, is_file: bool = False) -> Iterat
         length, kind, begin = int.from_bytes(head[:4], "big"), head[4:8], 8
         if length == 1:
             length, begin = int.from_bytes(head[8:16], "big"), 16
-        elif length == 0 and is_file:
+        elif length == 0 and is_file and any(kind):  # zeros are no box
             length = end - at
         uuid = head[begin : begin + 16] if kind == b"uuid" else b""
         begin += 16 if kind == b"uuid" else 0
