@@ -261,9 +261,10 @@ workers.os, workers._now = System(), lambda: Stat.st_mtime_ns + {later}
 """
 
 
-@pytest.mark.parametrize("later", (0, 999_999_999, 10_000_000_000))
+@pytest.mark.parametrize("later", (0, 999_999_999, 10_000_000_000, -3600 * 10**9))
 def test_an_edit_within_a_tick(later, archive):
-    """Edits may leave the times as they were, where a file system has whole seconds: of a file that was just written no stamp is kept."""
+    """Edits may leave the times as they were, where a file system has whole seconds: of a file that was just written no stamp is kept. The
+    clock of a share may be an hour ahead."""
     picture = archive / "p" / "c.jpg"
     looks = []
     for make in (b"One", b"Two", b"Six"):

@@ -124,7 +124,8 @@ def _unless_changed(it: FoundFile, began: int) -> Optional[Stamp]:
     """The marks that identify the file; none if it was written to meanwhile, so that the next run looks again.
 
     If it was changed so shortly before that a further edit could leave the same times, they are kept with a ctime that no file has, as
-    git does it: the next run looks again, and a file that moves is still recognised.
+    git does it: the next run looks again, and a file that moves is still recognised. So it is while the ctime is in the future, because the
+    clock of a share may be ahead of this one.
     """
     try:
         now = os.stat(it.path)
@@ -137,7 +138,8 @@ def _unless_changed(it: FoundFile, began: int) -> Optional[Stamp]:
         return it.stamp
     if not began:
         return it.stamp._replace(changed=RACY)
-    return it.stamp._replace(changed=RACY) if any(_is_racy(time_, began) for time_ in times) else it.stamp
+    is_racy = now.st_ctime_ns > began or any(_is_racy(time_, began) for time_ in times)
+    return it.stamp._replace(changed=RACY) if is_racy else it.stamp
 
 
 def _is_racy(when: int, began: int) -> bool:
