@@ -1,19 +1,63 @@
 -- The effects of calls of readers and writers.
-use Rattle.std.specs.Prelude.{◌≡◌, ◌<◌, ◌≤◌, ◌+◌, ◌^◌, ℕ, List, Option, Result, Ok, Err, length, take, IfOk}
+use Rattle.std.specs.Prelude.{◌≡◌, ◌⊎◌, ◌<◌, ◌≤◌, ◌+◌, ◌^◌, ℕ, List, Option, Result, Ok, Err, length, take, IfOk, ⊤}
 use Rattle.std.specs.Io.KnownBytes.{Appends}
 
--- one more failure can be counted: fewer than u64::MAX calls have failed
-abbrev pub CanFail : ℕ → Type 0
-CanFail failed = failed + 1 < 2 ^ 64
+-- the calls of a device so far: how many have failed, and how many were flushes
+pub record Calls : Type 0 where
+  pub failed : ℕ
+  pub flushes : ℕ
 
--- a failed call raised the count by one; any other call left it
-abbrev pub Counts : {A E : Type 0} → Result A E → ℕ → ℕ → Type 0
+-- no call has failed, and none was a flush
+abbrev pub no_calls : Calls
+no_calls = record { failed = 0; flushes = 0 }
+
+-- one more has failed
+abbrev pub one_failed : Calls → Calls
+one_failed calls = record calls { failed = calls.failed + 1 }
+
+-- one more was a flush
+abbrev pub one_flush : Calls → Calls
+one_flush calls = record calls { flushes = calls.flushes + 1 }
+
+-- one more failure can be counted: fewer than u64::MAX calls have failed
+abbrev pub CanFail : Calls → Type 0
+CanFail calls = calls.failed + 1 < 2 ^ 64
+
+-- a failed call raised the count by one; any other call left it; and none was a flush
+abbrev pub Counts : {A E : Type 0} → Result A E → Calls → Calls → Type 0
 Counts (Ok x) old new = new ≡ old
-Counts (Err e) old new = new ≡ old + 1
+Counts (Err e) old new = new ≡ one_failed old
+
+-- one call failed: a write, and then no flush was made; or the flush
+abbrev pub FailsOnce : Calls → Calls → Type 0
+FailsOnce old new = (new ≡ one_failed old) ⊎ (new ≡ one_failed (one_flush old))
+
+-- one flush was made, the only one; or one call failed, which ended the writes
+abbrev pub CountsFlush : {A E : Type 0} → Result A E → Calls → Calls → Type 0
+CountsFlush (Ok x) old new = new ≡ one_flush old
+CountsFlush (Err e) old new = FailsOnce old new
 
 -- at least one byte was taken, unless there was none or the call failed
 abbrev pub TakesSome : {E : Type 0} → Result ℕ E → List ℕ → Type 0
 TakesSome result buf = IfOk result (λ n. 0 < length buf → 0 < n)
+
+-- a call that took all of the bytes, or failed
+abbrev pub IsLast : {E : Type 0} → Result ℕ E → List ℕ → Type 0
+IsLast (Ok n) bytes = n ≡ length bytes
+IsLast (Err e) bytes = ⊤
+
+-- The first write gets all of the bytes, and no other follows if it takes them or fails: `wrote` is the relation of one write.
+abbrev pub WritesOnce : {E W : Type 0} → (W → List ℕ → Result ℕ E → W → Type 0) → W → W → List ℕ → Type 0
+WritesOnce {E} {W} wrote old new bytes =
+    (r : Result ℕ E) × (first : W) × wrote old bytes r first × (IsLast r bytes → new ≡ first)
+
+-- the same, and then one flush and no other call, unless a write failed: `flushed` is the relation of a flush
+abbrev pub SendsOnce : {E W : Type 0} → (W → List ℕ → Result ℕ E → W → Type 0) → (W → W → Type 0) → W → W → List ℕ → Type 0
+SendsOnce {E} {W} wrote flushed old new bytes = (sent : W) × WritesOnce wrote old sent bytes × ((new ≡ sent) ⊎ flushed sent new)
+
+-- so many bytes fit into the usual output buffer, and there are some
+abbrev pub IsShort : ℕ → Type 0
+IsShort n = (0 < n) × (n ≤ 8192)
 
 -- the known bytes grow by a prefix of bs
 abbrev pub AppendsPrefix : Option (List ℕ) → Option (List ℕ) → List ℕ → Type 0
@@ -24,17 +68,21 @@ abbrev pub Writes : {A E : Type 0} → Result A E → Option (List ℕ) → Opti
 Writes (Ok x) old new bytes = Appends old new bytes
 Writes (Err e) old new bytes = AppendsPrefix old new bytes
 
--- ---- a device over a call: its failed calls and its bytes, before and after
+-- ---- a device over a call: its calls and its bytes, before and after
 
 pub record Device : Type 0 where
-  pub failed : ℕ
-  pub failed_now : ℕ
+  pub calls : Calls
+  pub calls_now : Calls
   pub old : Option (List ℕ)
   pub new : Option (List ℕ)
 
-abbrev pub over : {W : Type 0} → (W → ℕ) → (W → Option (List ℕ)) → W → W → Device
-over failed bytes old new = record { failed = failed old; failed_now = failed new; old = bytes old; new = bytes new }
+abbrev pub over : {W : Type 0} → (W → Calls) → (W → Option (List ℕ)) → W → W → Device
+over calls bytes old new = record { calls = calls old; calls_now = calls new; old = bytes old; new = bytes new }
 
 -- as many bytes were taken as `Writes` states, and a failure is counted
 abbrev pub Sends : {A E : Type 0} → Result A E → Device → List ℕ → Type 0
-Sends result d bytes = Writes result d.old d.new bytes × Counts result d.failed d.failed_now
+Sends result d bytes = Writes result d.old d.new bytes × Counts result d.calls d.calls_now
+
+-- the same, and one flush at the end
+abbrev pub SendsFlushed : {A E : Type 0} → Result A E → Device → List ℕ → Type 0
+SendsFlushed result d bytes = Writes result d.old d.new bytes × CountsFlush result d.calls d.calls_now

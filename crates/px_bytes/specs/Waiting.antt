@@ -1,7 +1,7 @@
 -- The output buffer in front of a writer.
 use Rattle.std.specs.Prelude.{◌≡◌, ◌≤◌, ◌+◌, ℕ, List, length, ◌++◌, Option, Result, Ok, Err}
 use Rattle.std.specs.Io.KnownBytes.{Appends}
-use Rattle.px_bytes.specs.Devices.{AppendsPrefix, Counts, Device}
+use Rattle.px_bytes.specs.Devices.{AppendsPrefix, Calls, Counts, Device}
 
 -- the buffered bytes, and how many fit
 pub record Held : Type 0 where
@@ -24,7 +24,7 @@ Puts (Err e) old new held held_now bytes = AppendsPrefix old new (held.bytes ++ 
 
 -- that, and a failure is counted
 abbrev pub Adds : {A E : Type 0} → Result A E → Device → Held → Held → List ℕ → Type 0
-Adds result d held held_now bytes = Puts result d.old d.new held held_now bytes × Counts result d.failed d.failed_now
+Adds result d held held_now bytes = Puts result d.old d.new held held_now bytes × Counts result d.calls d.calls_now
 
 -- the bytes fit into the buffer
 abbrev pub Fits : Held → List ℕ → Type 0
@@ -41,6 +41,6 @@ PutsTo taken result old new held held_now bytes =
     Puts result (taken old) (taken new) held held_now bytes × Waits result old new held held_now bytes
 
 -- that, and a failure is counted
-abbrev pub AddsTo : {A E W : Type 0} → (W → ℕ) → (W → Option (List ℕ)) → Result A E → W → W → Held → Held → List ℕ → Type 0
-AddsTo failed taken result old new held held_now bytes =
-    PutsTo taken result old new held held_now bytes × Counts result (failed old) (failed new)
+abbrev pub AddsTo : {A E W : Type 0} → (W → Calls) → (W → Option (List ℕ)) → Result A E → W → W → Held → Held → List ℕ → Type 0
+AddsTo calls taken result old new held held_now bytes =
+    PutsTo taken result old new held held_now bytes × Counts result (calls old) (calls new)

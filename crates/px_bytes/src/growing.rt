@@ -4,6 +4,7 @@ ghost use Rattle.px_bytes.specs.Lacking.{Lacks, MayAsk, AsksAtMost};
 ghost use Rattle.px_bytes.specs.calls.Grown.{grown_bytes};
 
 use crate::devices::{Device, Failed, Sink, Spell};
+use crate::flushing::Flushes;
 use crate::memory::{Memory, Refused};
 use std::marker::Model;
 
@@ -17,6 +18,8 @@ pub struct Growing {
     memory: Memory,
     taken: Vec<u8>,
     refusals: u64,
+    // The flushes, which only proofs read.
+    flushes: Flushes,
 }
 
 impl Model for Growing {
@@ -25,31 +28,37 @@ impl Model for Growing {
 
     ghost Value = { Grown };
 
-    ghost view = { λ g. record { taken = g.taken.items; refusals = g.refusals } };
+    ghost view = { λ g. record { taken = g.taken.items; refusals = g.refusals; flushes = g.flushes.count; since = g.flushes.since } };
 
     // One allocation of its memory has failed for each failed call, and no more was requested than the bytes
     // written and those of the failed calls.
     ghost invariant = { λ g. (g.memory.refusals ≡ g.refusals)
-        × (g.memory.asked ≤ grown_bytes (record { taken = g.taken.items; refusals = g.refusals })) };
+        × (g.memory.asked ≤ grown_bytes (record {
+          taken = g.taken.items;
+          refusals = g.refusals;
+          flushes = g.flushes.count;
+          since = g.flushes.since;
+        })) };
 }
 
 impl Growing {
     /// An empty writer. It allocates nothing.
     pub fn new(memory: &Memory) -> Growing
-        ensures { result ≡ record { taken = []; refusals = 0 } }
+        ensures { result ≡ record { taken = []; refusals = 0; flushes = 0; since = 0 } }
     {
         Growing {
             memory: memory.fresh(),
             taken: memory.list(),
             refusals: 0,
+            flushes: Flushes::none(),
         }
     }
 
-    /// An empty writer with space for `room` bytes, at most sixteen times `LIMIT`. No call fails until the
-    /// space is full. `Err`: the allocation failed.
+    /// An empty writer, which requests space for `room` bytes at first, at most sixteen times `LIMIT`. `Err`: that
+    /// allocation failed.
     pub fn with_room_in(memory: &mut Memory, room: usize) -> Result<Growing, Refused>
         requires { MayAsk room }
-        ensures none { IfOk result (λ g. g ≡ record { taken = []; refusals = 0 }) }
+        ensures none { IfOk result (λ g. g ≡ record { taken = []; refusals = 0; flushes = 0; since = 0 }) }
         ensures memory { Lacks result memory.old memory.new }
         ensures asked { memory.new.asked ≡ memory.old.asked + room }
     {
@@ -59,6 +68,7 @@ impl Growing {
             memory: memory.fresh(),
             taken,
             refusals: 0,
+            flushes: Flushes::none(),
         })
     }
 
@@ -73,6 +83,7 @@ impl Growing {
             memory: own,
             taken,
             refusals: _,
+            flushes: _,
         } = self;
         memory.join(&own)?;
         Ok(taken)
@@ -80,7 +91,7 @@ impl Growing {
 }
 
 impl Device for Growing {
-    ghost failed = { λ g. g.refusals };
+    ghost calls = { λ g. record { failed = g.refusals; flushes = g.flushes } };
 
     fn failures(&self) -> u64 {
         self.refusals
@@ -88,14 +99,24 @@ impl Device for Growing {
 }
 
 impl Sink for Growing {
-    ghost use Rattle.std.specs.Prelude.{Some};
+    ghost use Rattle.std.specs.Prelude.{Some, ⊤};
 
     ghost bytes_taken = { λ g. Some g.taken };
+
+    ghost unflushed = { λ g. g.since };
+
+    ghost wrote = { λ _ _ _ _. ⊤ };
+
+    ghost flushed = { λ _ _. ⊤ };
 
     fn write_some(&mut self, buf: &[u8]) -> Result<usize, Failed> {
         let some = &buf[..buf.len().min(CHUNK)];
         match self.memory.extend_from_slice(&mut self.taken, some) {
-            Ok(()) => Ok(some.len()),
+            Ok(()) => {
+                let flushes = self.flushes.taking(some.len());
+                self.flushes = flushes;
+                Ok(some.len())
+            }
             Err(_) => {
                 self.refusals += 1;
                 Err(Failed)
@@ -108,6 +129,8 @@ impl Sink for Growing {
     }
 
     fn flush_all(&mut self) -> Result<(), Failed> {
+        let flushes = self.flushes.one_more();
+        self.flushes = flushes;
         Ok(())
     }
 }

@@ -23,6 +23,7 @@
 mod blocks;
 mod causes;
 mod devices;
+mod flushing;
 mod growing;
 mod held;
 mod listed;
@@ -36,6 +37,7 @@ mod whole;
 pub use blocks::{Block, LIMIT};
 pub use causes::{Cause, Refusal, WriteRefusal};
 pub use devices::{Device, Failed, Sink, Source, Spell, Watched};
+pub use flushing::Flushes;
 pub use growing::Growing;
 pub use held::Ranges;
 pub use memory::{Memory, Refused};

@@ -37,8 +37,8 @@ impl From<Refused> for AllocError {
 /// bytes for each byte of the longest block. So no request is one that memory could never meet.
 ///
 /// Contracts also see how many bytes its calls have requested: the sizes of the elements, entries and texts
-/// that needed capacity, whether the allocation succeeded or not. This counts requests, not the bytes that
-/// are allocated at one time. Vectors and texts grow by doubling, so they take at most a small factor more.
+/// that space was made for, whether the allocation succeeded or not. This is neither what is allocated at one
+/// time nor what the allocator is asked for: a vector or text that grows asks for its whole new capacity.
 #[derive(Drop)]
 pub struct Memory {
     alloc: Global,

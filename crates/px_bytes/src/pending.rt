@@ -1,6 +1,6 @@
 // An output buffer in front of a writer.
-ghost use Rattle.std.specs.Prelude.{◌≡◌, ◌≤◌, ◌+◌, ◌++◌, [], ℕ, length, take, OnOk, IsOk};
-ghost use Rattle.px_bytes.specs.Devices.{CanFail, Counts, Writes};
+ghost use Rattle.std.specs.Prelude.{◌≡◌, ◌≤◌, ◌<◌, ◌+◌, ◌++◌, [], ℕ, length, take, OnOk, IsOk};
+ghost use Rattle.px_bytes.specs.Devices.{CanFail, Counts, Writes, WritesOnce};
 ghost use Rattle.px_bytes.specs.Waiting.{Fits, Puts, Waits, ◌⊕◌};
 
 use crate::devices::{Failed, Sink, Spell};
@@ -89,11 +89,12 @@ impl<'a> Pending<'a> {
     /// Writes the buffered bytes. Without any it calls nothing. It ends at the first call that fails: the
     /// writer has then taken a prefix of them, and the buffer's content is unspecified.
     pub fn send<W: Sink>(&mut self, writer: &mut W) -> Result<(), Failed>
-        requires { CanFail (W.failed writer.old) }
+        requires { CanFail (W.calls writer.old) }
         ensures bytes { Writes result (W.bytes_taken writer.old) (W.bytes_taken writer.new) self.old.bytes }
-        ensures count { Counts result (W.failed writer.old) (W.failed writer.new) }
+        ensures count { Counts result (W.calls writer.old) (W.calls writer.new) }
         ensures none { OnOk result (self.new ≡ record self.old { bytes = [] }) }
         ensures idle { self.old.bytes ≡ [] → IsOk result × (writer.new ≡ writer.old) }
+        ensures first { 0 < length self.old.bytes → WritesOnce W.wrote writer.old writer.new self.old.bytes }
     {
         write_whole(writer, self.bytes())?;
         self.held = 0;
@@ -103,9 +104,9 @@ impl<'a> Pending<'a> {
     // Appends bytes that don't fit: writes the buffered bytes first, and a part longer than the buffer directly.
     #[inline(never)]
     fn put_past<W: Sink>(&mut self, writer: &mut W, bytes: &[u8]) -> Result<(), Failed>
-        requires few { CanFail (W.failed writer.old) }
+        requires few { CanFail (W.calls writer.old) }
         ensures bytes { Puts result (W.bytes_taken writer.old) (W.bytes_taken writer.new) self.old self.new bytes.now }
-        ensures count { Counts result (W.failed writer.old) (W.failed writer.new) }
+        ensures count { Counts result (W.calls writer.old) (W.calls writer.new) }
     {
         self.send(writer)?;
         if bytes.len() > self.free() {
@@ -120,9 +121,9 @@ impl<'a> Pending<'a> {
     /// call that fails: the writer has then taken a prefix of the buffered bytes followed by these.
     #[inline(always)]
     pub fn put<W: Sink>(&mut self, writer: &mut W, bytes: &[u8]) -> Result<(), Failed>
-        requires { CanFail (W.failed writer.old) }
+        requires { CanFail (W.calls writer.old) }
         ensures bytes { Puts result (W.bytes_taken writer.old) (W.bytes_taken writer.new) self.old self.new bytes.now }
-        ensures count { Counts result (W.failed writer.old) (W.failed writer.new) }
+        ensures count { Counts result (W.calls writer.old) (W.calls writer.new) }
         ensures waits { Waits result writer.old writer.new self.old self.new bytes.now }
     {
         if bytes.len() > self.free() {

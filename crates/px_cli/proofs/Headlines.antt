@@ -3,7 +3,7 @@ use Rattle.std.proofs.Common.{◌∙◌, ◌<◌, ℕ, List, Option, None, Resul
 use Rattle.px_engine.specs.declared.Fault.{Fault}
 use Rattle.px_engine.specs.declared.Fault.TheVariants.{Refused, NormalTooLong, OutOfMemory, ReadFailed, WriteFailed}
 use Rattle.px_engine.specs.declared.Side.{Side}
-use Rattle.px_bytes.specs.Devices.{Device}
+use Rattle.px_bytes.specs.Devices.{Device, no_calls}
 use Rattle.px_bytes.specs.Lacking.{Taken}
 use Rattle.px_jobs.specs.Lines.{Tells, TellsFault}
 use Rattle.px_jobs.specs.Laws.{FormsTell}
@@ -48,8 +48,8 @@ module _ {F R W : Type 0} (remaining : R → Option (List ℕ)) (contents : W �
       lines other_lines had other_had x y =
       let a = was_opened file out files files_now taken taken_now lines x in
       let b = was_opened other_file other_out other_files other_files_now other_taken other_taken_now other_lines y in
-      let wrote : Device = record { failed = 0; failed_now = a.3.3; old = contents a.3.1; new = contents a.3.2 } in
-      let other_wrote : Device = record { failed = 0; failed_now = b.3.3; old = contents b.3.1; new = contents b.3.2 } in
+      let wrote : Device = record { calls = no_calls; calls_now = a.3.3; old = contents a.3.1; new = contents a.3.2 } in
+      let other_wrote : Device = record { calls = no_calls; calls_now = b.3.3; old = contents b.3.1; new = contents b.3.2 } in
       let h = law f g a.3.6.0 wrote lines b.3.6.0 other_wrote other_lines taken taken_now other_taken other_taken_now
       (a.3.6.1 ∙ had a.1 a.0 a.2) (b.3.6.1 ∙ other_had b.1 b.0 b.2) a.3.6.3 b.3.6.3 in
       (h.0, h.1, (a.0, a.3.0, a.1, a.3.1, a.3.2, a.3.4, a.3.5, h.2), (b.0, b.3.0, b.1, b.3.1, b.3.2, b.3.4, b.3.5, h.3), h.4)

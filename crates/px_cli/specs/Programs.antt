@@ -10,7 +10,7 @@ use Rattle.px_words.specs.declared.One.{One}
 use Rattle.px_words.specs.declared.One.TheVariants as one
 use Rattle.px_words.specs.declared.Words.{Words}
 use Rattle.px_words.specs.declared.Words.TheVariants as words
-use Rattle.px_bytes.specs.Devices.{Device}
+use Rattle.px_bytes.specs.Devices.{Calls, Device, no_calls}
 use Rattle.px_bytes.specs.Lacking.{Taken}
 use Rattle.px_jobs.specs.Lines.{TellsFault, TellsWords}
 use Rattle.px_jobs.specs.Endings.{Ends, EndsCompare, IsIdle}
@@ -33,15 +33,15 @@ IsLacking expected e = (e ≡ OutOfMemory) ⊎ (e ≡ expected)
 abbrev pub TellsLacking : Fault → Fault → Option Side → Taken → Taken → ℕ → Device → Type 0
 TellsLacking expected e file taken taken_now status lines = IsLacking expected e × TellsFault e file status lines × (taken_now ≡ taken)
 
--- A job was done with a reader of `bytes`, which had no failed call before, and with this writer of the normal form.
+-- A job was done with a reader of `bytes`, which had no failed call and no flush before, and with this writer of the normal form.
 abbrev pub EndsJob : Job → Option (List ℕ) → Taken → Taken → ℕ → Device → Device → Type 0
-EndsJob job bytes taken taken_now status out lines = (reader : Device) × (reader.old ≡ bytes) × (reader.failed ≡ 0)
+EndsJob job bytes taken taken_now status out lines = (reader : Device) × (reader.old ≡ bytes) × (reader.calls ≡ no_calls)
     × Ends job reader out lines taken taken_now status
 
 -- A comparison was done, with two such readers.
 abbrev pub EndsPair : Option (List ℕ) → Option (List ℕ) → Taken → Taken → ℕ → Device → Type 0
-EndsPair bytes other taken taken_now status lines = (first second : Device) × (first.old ≡ bytes) × (first.failed ≡ 0)
-    × (second.old ≡ other) × (second.failed ≡ 0) × EndsCompare first second lines taken taken_now status
+EndsPair bytes other taken taken_now status lines = (first second : Device) × (first.old ≡ bytes) × (first.calls ≡ no_calls)
+    × (second.old ≡ other) × (second.calls ≡ no_calls) × EndsCompare first second lines taken taken_now status
 
 -- the line and the status if the system gives no arguments
 abbrev pub TellsNoWords : NoWords → ℕ → Device → Type 0
@@ -68,12 +68,12 @@ module _ {F R W : Type 0} (remaining : R → Option (List ℕ)) (contents : W �
       (EndsUnopened name None files files_now taken taken_now status lines × IsIdle out)
       ⊎ ((reader : R) × opens files name (Ok reader) files_now × EndsJob job (remaining reader) taken taken_now status out lines)
 
-  -- The normal form of an open file went to OUT, which was closed after it. The writer of OUT had no failed call before.
+  -- The normal form of an open file went to OUT, which was closed after it. The writer of OUT had no failed call and no flush before.
   abbrev pub EndsMade : List ℕ → R → F → F → Taken → Taken → ℕ → Device → Type 0
   EndsMade out_name reader files files_now taken taken_now status lines =
-      (made : F) × (out out_now : W) × (n : ℕ) × makes files out_name reader (Ok (Some out)) made × closes made out_now files_now
+      (made : F) × (out out_now : W) × (n : Calls) × makes files out_name reader (Ok (Some out)) made × closes made out_now files_now
       × EndsJob job.Normalise (remaining reader) taken taken_now status
-      (record { failed = 0; failed_now = n; old = contents out; new = contents out_now }) lines
+      (record { calls = no_calls; calls_now = n; old = contents out; new = contents out_now }) lines
 
   -- OUT can't be created, or is the open file: that is reported, and nothing was requested
   abbrev pub EndsUnmade : List ℕ → R → F → F → Taken → Taken → ℕ → Device → Type 0

@@ -4,7 +4,7 @@ ghost use Rattle.px_jobs.specs.declared.Job.TheVariants.{Normalise};
 ghost use Rattle.px_jobs.specs.Endings.{Ends, IsIdle};
 ghost use Rattle.px_cli.specs.Programs.{job_of, Answers, EndsBeside, EndsFile, EndsFiles, EndsForm, EndsJob, EndsOther, EndsPair};
 ghost use Rattle.px_cli.specs.Programs.{EndsWords, TellsNoWords};
-ghost use Rattle.px_bytes.specs.Devices.{CanFail, over};
+ghost use Rattle.px_bytes.specs.Devices.{CanFail, no_calls, over};
 
 use crate::files::Opens;
 use px_bytes::{Memory, Sink, Source, Watched};
@@ -47,17 +47,17 @@ pub fn run_given<S: AsStr + Drop, P: Parser, O: Opens, I: Source, W: Sink, L: Si
     given: Result<Vec<S>, NoWords>,
     streams: &mut Streams<I, W, L>,
 ) -> u8
-    requires reading { CanFail (I.failed streams.old.input) }
-    requires writing { CanFail (W.failed streams.old.out) }
-    requires telling { CanFail (L.failed streams.old.lines) }
+    requires reading { CanFail (I.calls streams.old.input) }
+    requires writing { CanFail (W.calls streams.old.out) }
+    requires telling { CanFail (L.calls streams.old.lines) }
     ensures given { IfOk given (λ all. Answers O.Reader.remaining O.Writer.contents O.opens O.makes O.closes
         (P.lacks parser.now) (map S.text (drop 1 all.items)) files.old files.new memory.old memory.new result
-        (over I.failed I.bytes_left streams.old.input streams.new.input)
-        (over W.failed W.bytes_taken streams.old.out streams.new.out)
-        (over L.failed L.bytes_taken streams.old.lines streams.new.lines)) }
+        (over I.calls I.bytes_left streams.old.input streams.new.input)
+        (over W.calls W.bytes_taken streams.old.out streams.new.out)
+        (over L.calls L.bytes_taken streams.old.lines streams.new.lines)) }
     ensures same { IfErr given (λ _. (files.new ≡ files.old) × (memory.new ≡ memory.old)
         × (streams.new.input ≡ streams.old.input) × (streams.new.out ≡ streams.old.out)) }
-    ensures told { IfErr given (λ why. TellsNoWords why result (over L.failed L.bytes_taken streams.old.lines streams.new.lines)) }
+    ensures told { IfErr given (λ why. TellsNoWords why result (over L.calls L.bytes_taken streams.old.lines streams.new.lines)) }
 {
     match given {
         Ok(all) => run_words(parser, files, memory, after_name(&all), streams),
@@ -85,14 +85,14 @@ pub fn run_words<'a, S: AsStr, P: Parser, O: Opens, I: Source, W: Sink, L: Sink>
     words: &'a [S],
     streams: &mut Streams<I, W, L>,
 ) -> u8
-    requires reading { CanFail (I.failed streams.old.input) }
-    requires writing { CanFail (W.failed streams.old.out) }
-    requires telling { CanFail (L.failed streams.old.lines) }
+    requires reading { CanFail (I.calls streams.old.input) }
+    requires writing { CanFail (W.calls streams.old.out) }
+    requires telling { CanFail (L.calls streams.old.lines) }
     ensures { Answers O.Reader.remaining O.Writer.contents O.opens O.makes O.closes
         (P.lacks parser.now) (map S.text words.entry.now) files.old files.new memory.old memory.new result
-        (over I.failed I.bytes_left streams.old.input streams.new.input)
-        (over W.failed W.bytes_taken streams.old.out streams.new.out)
-        (over L.failed L.bytes_taken streams.old.lines streams.new.lines) }
+        (over I.calls I.bytes_left streams.old.input streams.new.input)
+        (over W.calls W.bytes_taken streams.old.out streams.new.out)
+        (over L.calls L.bytes_taken streams.old.lines streams.new.lines) }
 {
     let asked = parse(memory, parser, words, VERSION);
     run_asked(files, memory, asked, streams)
@@ -105,13 +105,13 @@ fn run_asked<O: Opens, I: Source, W: Sink, L: Sink>(
     asked: Words,
     streams: &mut Streams<I, W, L>,
 ) -> u8
-    requires reading { CanFail (I.failed streams.old.input) }
-    requires writing { CanFail (W.failed streams.old.out) }
-    requires telling { CanFail (L.failed streams.old.lines) }
+    requires reading { CanFail (I.calls streams.old.input) }
+    requires writing { CanFail (W.calls streams.old.out) }
+    requires telling { CanFail (L.calls streams.old.lines) }
     ensures { EndsWords O.Reader.remaining O.Writer.contents O.opens O.makes O.closes asked
-        files.old files.new memory.old memory.new result (over I.failed I.bytes_left streams.old.input streams.new.input)
-        (over W.failed W.bytes_taken streams.old.out streams.new.out)
-        (over L.failed L.bytes_taken streams.old.lines streams.new.lines) }
+        files.old files.new memory.old memory.new result (over I.calls I.bytes_left streams.old.input streams.new.input)
+        (over W.calls W.bytes_taken streams.old.out streams.new.out)
+        (over L.calls L.bytes_taken streams.old.lines streams.new.lines) }
 {
     match asked {
         Words::Filter => run_filter(memory, streams),
@@ -159,11 +159,11 @@ fn run_job<F: Source + Drop, W: Sink, L: Sink>(
     out: &mut W,
     lines: &mut L,
 ) -> u8
-    requires reading { F.failed reader ≡ 0 }
-    requires writing { CanFail (W.failed out.old) }
-    requires telling { CanFail (L.failed lines.old) }
+    requires reading { F.calls reader ≡ no_calls }
+    requires writing { CanFail (W.calls out.old) }
+    requires telling { CanFail (L.calls lines.old) }
     ensures { EndsJob job (F.bytes_left reader) memory.old memory.new result
-        (over W.failed W.bytes_taken out.old out.new) (over L.failed L.bytes_taken lines.old lines.new) }
+        (over W.calls W.bytes_taken out.old out.new) (over L.calls L.bytes_taken lines.old lines.new) }
 {
     run_one_in(memory, job, &mut reader, out, lines)
 }
@@ -175,11 +175,11 @@ fn run_pair<F: Source + Drop, S: Source + Drop, L: Sink>(
     mut second: S,
     lines: &mut L,
 ) -> u8
-    requires first { F.failed first ≡ 0 }
-    requires second { S.failed second ≡ 0 }
-    requires telling { CanFail (L.failed lines.old) }
+    requires first { F.calls first ≡ no_calls }
+    requires second { S.calls second ≡ no_calls }
+    requires telling { CanFail (L.calls lines.old) }
     ensures { EndsPair (F.bytes_left first) (S.bytes_left second)
-        memory.old memory.new result (over L.failed L.bytes_taken lines.old lines.new) }
+        memory.old memory.new result (over L.calls L.bytes_taken lines.old lines.new) }
 {
     run_compare_in(memory, &mut first, &mut second, lines)
 }
@@ -189,12 +189,12 @@ fn run_filter<I: Source, W: Sink, L: Sink>(
     memory: &mut Memory,
     streams: &mut Streams<I, W, L>,
 ) -> u8
-    requires reading { CanFail (I.failed streams.old.input) }
-    requires writing { CanFail (W.failed streams.old.out) }
-    requires telling { CanFail (L.failed streams.old.lines) }
-    ensures { Ends Normalise (over I.failed I.bytes_left streams.old.input streams.new.input)
-        (over W.failed W.bytes_taken streams.old.out streams.new.out)
-        (over L.failed L.bytes_taken streams.old.lines streams.new.lines) memory.old memory.new result }
+    requires reading { CanFail (I.calls streams.old.input) }
+    requires writing { CanFail (W.calls streams.old.out) }
+    requires telling { CanFail (L.calls streams.old.lines) }
+    ensures { Ends Normalise (over I.calls I.bytes_left streams.old.input streams.new.input)
+        (over W.calls W.bytes_taken streams.old.out streams.new.out)
+        (over L.calls L.bytes_taken streams.old.lines streams.new.lines) memory.old memory.new result }
 {
     run_one_in(
         memory,
@@ -213,12 +213,12 @@ fn run_file<O: Opens, I: Source, W: Sink, L: Sink>(
     name: &str,
     streams: &mut Streams<I, W, L>,
 ) -> u8
-    requires writing { CanFail (W.failed streams.old.out) }
-    requires telling { CanFail (L.failed streams.old.lines) }
-    ensures input { IsIdle (over I.failed I.bytes_left streams.old.input streams.new.input) }
+    requires writing { CanFail (W.calls streams.old.out) }
+    requires telling { CanFail (L.calls streams.old.lines) }
+    ensures input { IsIdle (over I.calls I.bytes_left streams.old.input streams.new.input) }
     ensures ends { EndsFile O.Reader.remaining O.Writer.contents O.opens O.makes O.closes (job_of what) name.now
-        files.old files.new memory.old memory.new result (over W.failed W.bytes_taken streams.old.out streams.new.out)
-        (over L.failed L.bytes_taken streams.old.lines streams.new.lines) }
+        files.old files.new memory.old memory.new result (over W.calls W.bytes_taken streams.old.out streams.new.out)
+        (over L.calls L.bytes_taken streams.old.lines streams.new.lines) }
 {
     match files.open(name) {
         Ok(file) => {
@@ -243,9 +243,9 @@ fn run_beside<O: Opens, L: Sink>(
     out_name: &str,
     lines: &mut L,
 ) -> u8
-    requires { CanFail (L.failed lines.old) }
+    requires { CanFail (L.calls lines.old) }
     ensures { EndsBeside O.Reader.remaining O.Writer.contents O.opens O.makes O.closes out_name.now file
-        files.old files.new memory.old memory.new result (over L.failed L.bytes_taken lines.old lines.new) }
+        files.old files.new memory.old memory.new result (over L.calls L.bytes_taken lines.old lines.new) }
 {
     match files.make_beside(out_name, &file) {
         Ok(Some(out)) => {
@@ -267,9 +267,9 @@ fn run_form<O: Opens, L: Sink>(
     out_name: &str,
     lines: &mut L,
 ) -> u8
-    requires { CanFail (L.failed lines.old) }
+    requires { CanFail (L.calls lines.old) }
     ensures { EndsForm O.Reader.remaining O.Writer.contents O.opens O.makes O.closes name.now out_name.now
-        files.old files.new memory.old memory.new result (over L.failed L.bytes_taken lines.old lines.new) }
+        files.old files.new memory.old memory.new result (over L.calls L.bytes_taken lines.old lines.new) }
 {
     match files.open(name) {
         Ok(file) => run_beside(files, memory, file, out_name, lines),
@@ -285,9 +285,9 @@ fn run_other<O: Opens, L: Sink>(
     name: &str,
     lines: &mut L,
 ) -> u8
-    requires { CanFail (L.failed lines.old) }
+    requires { CanFail (L.calls lines.old) }
     ensures { EndsOther O.Reader.remaining O.Writer.contents O.opens O.makes O.closes file name.now
-        files.old files.new memory.old memory.new result (over L.failed L.bytes_taken lines.old lines.new) }
+        files.old files.new memory.old memory.new result (over L.calls L.bytes_taken lines.old lines.new) }
 {
     match files.open(name) {
         Ok(other) => run_pair(memory, Watched::new(file), Watched::new(other), lines),
@@ -303,9 +303,9 @@ fn run_files<O: Opens, L: Sink>(
     second: &str,
     lines: &mut L,
 ) -> u8
-    requires { CanFail (L.failed lines.old) }
+    requires { CanFail (L.calls lines.old) }
     ensures { EndsFiles O.Reader.remaining O.Writer.contents O.opens O.makes O.closes first.now second.now
-        files.old files.new memory.old memory.new result (over L.failed L.bytes_taken lines.old lines.new) }
+        files.old files.new memory.old memory.new result (over L.calls L.bytes_taken lines.old lines.new) }
 {
     match files.open(first) {
         Ok(file) => run_other(files, memory, file, second, lines),

@@ -1,6 +1,7 @@
 -- The result of a run over two files, from that of reading and judging the second one.
 use Rattle.std.proofs.Common.{◌≡◌, ℕ, Bool, Option, List, Result, Ok, Err, IfOk, IfErr, refl, sym, subst}
 use Rattle.std.specs.Prelude.{⊤}
+use Rattle.px_bytes.specs.Devices.{Calls}
 use Rattle.px_bytes.specs.Reading.{ReadsUpTo}
 use Rattle.px_engine.specs.declared.faults.Fault.{Fault}
 use Rattle.px_engine.specs.declared.faults.Fault.TheVariants.{Refused, NormalTooLong, OutOfMemory, ReadFailed, WriteFailed}
@@ -31,7 +32,7 @@ pub compares_untouched : {R : Type 0} (r : Result Bool CompareFault) (old new : 
 compares_untouched (Ok same) old new second s h = tt
 compares_untouched (Err e) old new second s h = subst (λ z. OnSide z (new ≡ old) ⊤ ⊤) (sym h.0) (tt, tt)
 
-pub compares_counts_sides : (r : Result Bool CompareFault) (a b c d : ℕ) (second : Option (List ℕ)) (s : Said) → b ≡ a
+pub compares_counts_sides : (r : Result Bool CompareFault) (a b c d : Calls) (second : Option (List ℕ)) (s : Said) → b ≡ a
     → ComparesSecond r s second
     → CountsSecond r c d → CountsSides r a b c d
 compares_counts_sides (Ok same) a b c d second s e h k = (e, k)
@@ -48,14 +49,14 @@ pub second_read : (r : Result Bool CompareFault) (s : Said) (left left_now : Opt
 second_read (Ok same) s left left_now bytes lacking x h = (h.0, known_said left left_now bytes h.0 x h.1, h.2)
 second_read (Err e) s left left_now bytes lacking x h = (h.0, known_stops left left_now bytes lacking e.fault x h.1)
 
-counted_fault : (fault : Fault) (bytes : List ℕ) (lacking : ℕ) (a b : ℕ) → b ≡ a → IsUnsaid bytes lacking fault → CountsFault fault a b
+counted_fault : (fault : Fault) (bytes : List ℕ) (lacking : ℕ) (a b : Calls) → b ≡ a → IsUnsaid bytes lacking fault → CountsFault fault a b
 counted_fault (Refused cause place) bytes lacking a b e h = e
 counted_fault OutOfMemory bytes lacking a b e h = e
 counted_fault ReadFailed bytes lacking a b e h = absurd h
 counted_fault NormalTooLong bytes lacking a b e h = e
 counted_fault WriteFailed bytes lacking a b e h = e
 
-pub second_counted : (r : Result Bool CompareFault) (s : Said) (bytes : List ℕ) (lacking : ℕ) (a b : ℕ) → b ≡ a
+pub second_counted : (r : Result Bool CompareFault) (s : Said) (bytes : List ℕ) (lacking : ℕ) (a b : Calls) → b ≡ a
     → SaysSecond r s bytes lacking → CountsSecond r a b
 second_counted (Ok same) s bytes lacking a b e h = e
 second_counted (Err fault) s bytes lacking a b e h = counted_fault fault.fault bytes lacking a b e h.1

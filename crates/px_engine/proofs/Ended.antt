@@ -1,6 +1,7 @@
 -- The result of a run that writes, from the results of its parts.
 use Rattle.std.proofs.Common.{◌≡◌, ◌<◌, ◌≤◌, ◌*◌, ℕ, Option, Some, None, List, length, Result, Ok, Err, IfOk, IfErr, IfSome, refl}
 use Rattle.std.proofs.Common.{sym, subst, arith}
+use Rattle.px_bytes.specs.Devices.{Calls, IsShort, SendsOnce}
 use Rattle.px_bytes.specs.Parts.{limit}
 use Rattle.px_bytes.specs.Reading.{ReadsUpTo}
 use Rattle.px_engine.specs.declared.faults.Fault.{Fault}
@@ -10,7 +11,7 @@ use Rattle.px_engine.specs.declared.faults.CompareFault.{CompareFault}
 use Rattle.px_engine.specs.declared.kinds.BlockKind.{BlockKind}
 use Rattle.px_engine.specs.Files.{Said, normal, block_of}
 use Rattle.px_engine.specs.Input.{most_read, LacksFault, LacksRunBy, IsSaid, IsUnsaid, OnSide}
-use Rattle.px_engine.specs.Runs.{KnownSaid, Stops, Checks, Normalises, Compares}
+use Rattle.px_engine.specs.Runs.{KnownSaid, Stops, Checks, FormOnce, Normalises, Compares}
 use Rattle.px_engine.specs.Hand.{IsKindOf, IsFormOf, IsUnwritten}
 use Rattle.px_engine.specs.calls.Ends.{IsUnformed, WritesSaid}
 use Rattle.px_engine.proofs.Judged.{known_said, known_stops}
@@ -21,7 +22,7 @@ long_normal_of_half None s h l = tt
 long_normal_of_half (Some f) s h l = let b = h.bounded in omega arith
 
 pub writes_said_normalises : (r : Result ℕ Fault) (left left_now : Option (List ℕ)) (bytes : List ℕ) (s : Said) (old new : Option (List ℕ))
-    (a b : ℕ) →
+    (a b : Calls) →
     ReadsUpTo left left_now most_read bytes → IsSaid bytes s → WritesSaid r old new a b s → Normalises r left old new
 writes_said_normalises (Ok n) left left_now bytes s old new a b x h w = (s, known_said left left_now bytes s x h, w.0, w.1, w.2)
 writes_said_normalises (Err NormalTooLong) left left_now bytes s old new a b x h w =
@@ -31,8 +32,16 @@ writes_said_normalises (Err OutOfMemory) left left_now bytes s old new a b x h w
 writes_said_normalises (Err ReadFailed) left left_now bytes s old new a b x h w = absurd w
 writes_said_normalises (Err (Refused cause place)) left left_now bytes s old new a b x h w = absurd w
 
+-- a short form was one write
+pub form_once : {E W : Type 0} (wrote : W → List ℕ → Result ℕ E → W → Type 0) (flushed : W → W → Type 0) (r : Result ℕ Fault)
+    (left left_now : Option (List ℕ)) (bytes : List ℕ) (s : Said) (old new : W) → ReadsUpTo left left_now most_read bytes
+    → IsSaid bytes s → (IsShort (length (normal s)) → SendsOnce wrote flushed old new (normal s))
+    → FormOnce wrote flushed r left old new
+form_once wrote flushed (Ok n) left left_now bytes s old new x h once = (s, known_said left left_now bytes s x h, once)
+form_once wrote flushed (Err e) left left_now bytes s old new x h once = tt
+
 -- a writer allocates nothing
-pub lacks_nothing : (r : Result ℕ Fault) (old new : Option (List ℕ)) (a b : ℕ) (s : Said) (first last : ℕ) → last ≡ first
+pub lacks_nothing : (r : Result ℕ Fault) (old new : Option (List ℕ)) (a b : Calls) (s : Said) (first last : ℕ) → last ≡ first
     → WritesSaid r old new a b s → LacksRunBy r first last
 lacks_nothing (Ok n) old new a b s first last q w = q
 lacks_nothing (Err NormalTooLong) old new a b s first last q w = q

@@ -1,6 +1,6 @@
 -- The results of runs that print, from the results of their parts.
 use Rattle.std.proofs.Common.{◌≡◌, ℕ, Option, List, Result, Ok, Err, refl, sym, subst}
-use Rattle.px_bytes.specs.Devices.{Counts, Writes}
+use Rattle.px_bytes.specs.Devices.{Calls, CountsFlush, Writes}
 use Rattle.px_bytes.specs.Reading.{ReadsUpTo}
 use Rattle.px_engine.specs.declared.faults.Fault.{Fault}
 use Rattle.px_engine.specs.declared.faults.Fault.TheVariants.{Refused, NormalTooLong, OutOfMemory, ReadFailed, WriteFailed}
@@ -12,15 +12,16 @@ use Rattle.px_engine.specs.calls.Faults.{as_fault}
 use Rattle.px_engine.proofs.Judged.{known_said, known_stops}
 
 -- the result of a text's writer, as that of a run
-pub told_text : {A E : Type 0} (r : Result A E) (t : Result A Fault) (old new : Option (List ℕ)) (a b : ℕ) (out : List ℕ) → t ≡ as_fault r
-    → Writes r old new out → Counts r a b → WritesText t old new a b out
+pub told_text : {A E : Type 0} (r : Result A E) (t : Result A Fault) (old new : Option (List ℕ)) (a b : Calls) (out : List ℕ)
+    → t ≡ as_fault r
+    → Writes r old new out → CountsFlush r a b → WritesText t old new a b out
 told_text (Ok x) t old new a b out e w n = subst (λ z. WritesText z old new a b out) (sym e) (w, n)
 told_text (Err x) t old new a b out e w n = subst (λ z. WritesText z old new a b out) (sym e) (w, n)
 
 -- the text of the meaning is `text s`
 pub writes_text_prints : {A : Type 0} (text : Said → List ℕ) (r : Result A Fault) (left left_now : Option (List ℕ)) (bytes : List ℕ)
     (s : Said)
-    (old new : Option (List ℕ)) (a b : ℕ)
+    (old new : Option (List ℕ)) (a b : Calls)
     → ReadsUpTo left left_now most_read bytes → IsSaid bytes s → WritesText r old new a b (text s) → Prints text r left old new
 writes_text_prints text (Ok x) left left_now bytes s old new a b read h w = (s, known_said left left_now bytes s read h, w.0)
 writes_text_prints text (Err WriteFailed) left left_now bytes s old new a b read h w = (s, known_said left left_now bytes s read h, w.0)
@@ -41,7 +42,7 @@ not_printed A text NormalTooLong left left_now bytes lacking old x h = absurd h
 not_printed A text WriteFailed left left_now bytes lacking old x h = absurd h
 
 -- nor does a writer of texts take memory
-pub lacks_no_text : {A : Type 0} (r : Result A Fault) (old new : Option (List ℕ)) (a b : ℕ) (sent : List ℕ) (first last : ℕ)
+pub lacks_no_text : {A : Type 0} (r : Result A Fault) (old new : Option (List ℕ)) (a b : Calls) (sent : List ℕ) (first last : ℕ)
     → last ≡ first → WritesText r old new a b sent → LacksRunBy r first last
 lacks_no_text (Ok x) old new a b sent first last q w = q
 lacks_no_text (Err WriteFailed) old new a b sent first last q w = q

@@ -1,12 +1,12 @@
 -- A slice that is filled with a form of exactly its length.
-use Rattle.std.proofs.Common.{◌≡◌, ◌≤◌, ℕ, Bool, List, ◌∷◌, length, take, nat_lt, true, false, if◌then◌else◌}
+use Rattle.std.proofs.Common.{◌≡◌, ◌≤◌, ◌+◌, ℕ, Bool, List, ◌∷◌, length, take, nat_lt, true, false, if◌then◌else◌}
 use Rattle.std.proofs.Common.{Some, Result, Ok, Err, arith, refl, sym, ◌∙◌, ap}
 use Rattle.std.proofs.lemmas.Bool.{ltb-false}
 use Rattle.std.proofs.lemmas.List.{take_all, length-take, length-take-le}
 use Rattle.std.proofs.Math.Nat.{min-le_left}
-use Rattle.px_bytes.specs.Devices.{Counts, Writes}
+use Rattle.px_bytes.specs.Devices.{Calls, Counts, Writes}
 use Rattle.px_engine.specs.declared.filling.Filling.{Filling}
-use Rattle.px_engine.specs.calls.Filled.{told_in, refused_in}
+use Rattle.px_engine.specs.calls.Filled.{told_in, calls_in, refused_in}
 
 no_refusal : (t : Bool) (n : ℕ) → n ≡ 0 → (if t then 0 else n) ≡ 0
 no_refusal true n z = refl
@@ -29,7 +29,7 @@ all_of held now form t l =
 -- form.
 pub filling_now_form : {A E : Type 0} (r : Result A E) (f g : Filling) (slice : ℕ) (old form : List ℕ) → length old ≡ length form
     → f.room.ghost_name ≡ slice → f.room.now ≡ old → f.held ≡ 0 → f.refusals ≡ 0
-    → Writes r (Some (told_in f)) (Some (told_in g)) form → Counts r (refused_in f) (refused_in g)
+    → Writes r (Some (told_in f)) (Some (told_in g)) form → Counts r (calls_in f) (calls_in g)
     → (g.room.ghost_name ≡ slice) × (g.room.now ≡ form)
 filling_now_form (Ok x) f g slice old form fits s o h z w c =
     let all : told_in g ≡ slice ∷ length old ∷ form = rw (h, o, s) at w in
@@ -42,6 +42,7 @@ filling_now_form (Err x) f g slice old form fits s o h z w c =
     let front : take g.held g.room.now ≡ take n form = cc in
     let size : length g.room.now ≡ length old = cc in
     let none = no_refusal (nat_lt f.held (length f.room.now)) f.refusals z in
+    let counted : refused_in g ≡ refused_in f + 1 = ap (λ (k : Calls). k.failed) c in
     let last = is_full g.held (length g.room.now) g.refusals (omega arith) in
     let whole : g.room.now ≡ take n form = sym (take_all g.held g.room.now last) ∙ front in
     let cut = length-take-le n form w.1 in

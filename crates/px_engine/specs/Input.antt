@@ -3,6 +3,7 @@ use Rattle.std.specs.Prelude.{◌≡◌, ◌<◌, ◌≤◌, ◌+◌, ◌*◌, �
 use Rattle.px_bytes.specs.declared.Cause.{Cause}
 use Rattle.px_bytes.specs.declared.Refusal.{Refusal}
 use Rattle.px_bytes.specs.declared.Refusal.TheVariants as refusal
+use Rattle.px_bytes.specs.Devices.{Calls, one_failed}
 use Rattle.px_bytes.specs.Parts.{limit}
 use Rattle.px_bytes.specs.Lacking.{Taken}
 use Rattle.px_engine.specs.declared.faults.Fault.{Fault}
@@ -79,13 +80,13 @@ abbrev pub LacksPair : {A : Type 0} → Result A CompareFault → Taken → Take
 LacksPair r old new = LacksPairBy r old.refusals new.refusals
 
 -- a call of the reader failed exactly if that is the fault
-abbrev pub CountsFault : Fault → ℕ → ℕ → Type 0
-CountsFault ReadFailed failed failed_now = failed_now ≡ failed + 1
-CountsFault fault failed failed_now = failed_now ≡ failed
+abbrev pub CountsFault : Fault → Calls → Calls → Type 0
+CountsFault ReadFailed calls calls_now = calls_now ≡ one_failed calls
+CountsFault fault calls calls_now = calls_now ≡ calls
 
-abbrev pub CountsReads : {A : Type 0} → Result A Fault → ℕ → ℕ → Type 0
-CountsReads (Ok x) failed failed_now = failed_now ≡ failed
-CountsReads (Err fault) failed failed_now = CountsFault fault failed failed_now
+abbrev pub CountsReads : {A : Type 0} → Result A Fault → Calls → Calls → Type 0
+CountsReads (Ok x) calls calls_now = calls_now ≡ calls
+CountsReads (Err fault) calls calls_now = CountsFault fault calls calls_now
 
 -- the faults of a whole read
 abbrev pub IsReadFault : Fault → Type 0

@@ -1,7 +1,7 @@
 -- What whole runs return, and what they do to their devices.
-use Rattle.std.specs.Prelude.{◌≡◌, ◌<◌, ◌≤◌, ◌+◌, ◌*◌, ◌↔◌, ℕ, Bool, IsTrue, List, length, Option, IfSome, Result, Ok, Err, ⊤}
+use Rattle.std.specs.Prelude.{◌≡◌, ◌<◌, ◌≤◌, ◌*◌, ◌↔◌, ℕ, Bool, IsTrue, List, length, Option, IfSome, Result, Ok, Err, ⊤}
 use Rattle.std.specs.Io.KnownBytes.{Appends}
-use Rattle.px_bytes.specs.Devices.{AppendsPrefix}
+use Rattle.px_bytes.specs.Devices.{AppendsPrefix, Calls, FailsOnce, IsShort, SendsOnce, one_flush}
 use Rattle.px_bytes.specs.Parts.{limit}
 use Rattle.px_engine.specs.declared.faults.Fault.{Fault}
 use Rattle.px_engine.specs.declared.faults.Fault.TheVariants.{Refused, NormalTooLong, OutOfMemory, ReadFailed, WriteFailed}
@@ -41,10 +41,20 @@ Normalises (Err NormalTooLong) file old new =
 Normalises (Err WriteFailed) file old new = (s : Said) × KnownSaid file s × AppendsPrefix old new (normal s) × (length (normal s) ≤ limit)
 Normalises (Err fault) file old new = Stops fault file × (new ≡ old)
 
--- the fault is a failed write exactly if the writer's count of failures rose
-abbrev pub CountsWrites : {A : Type 0} → Result A Fault → ℕ → ℕ → Type 0
-CountsWrites (Err WriteFailed) failed failed_now = failed_now ≡ failed + 1
-CountsWrites result failed failed_now = failed_now ≡ failed
+-- Success: a form of at most 8,192 bytes was one write, if the writer took it whole, and one flush. `wrote` and `flushed` are the
+-- relations of single calls.
+abbrev pub FormOnce : {E W : Type 0} → (W → List ℕ → Result ℕ E → W → Type 0) → (W → W → Type 0) → Result ℕ Fault → Option (List ℕ)
+    → W → W → Type 0
+FormOnce wrote flushed (Ok n) file old new =
+    (s : Said) × KnownSaid file s × (IsShort (length (normal s)) → SendsOnce wrote flushed old new (normal s))
+FormOnce wrote flushed (Err fault) file old new = ⊤
+
+-- Success: one flush, and no call of the writer failed. A failed write: one call failed, which may be the flush. Every other fault:
+-- no call failed, and none was a flush.
+abbrev pub CountsWrites : {A : Type 0} → Result A Fault → Calls → Calls → Type 0
+CountsWrites (Ok x) calls calls_now = calls_now ≡ one_flush calls
+CountsWrites (Err WriteFailed) calls calls_now = FailsOnce calls calls_now
+CountsWrites (Err fault) calls calls_now = calls_now ≡ calls
 
 -- ---- two files
 
@@ -59,7 +69,7 @@ Untouched (Ok same) old new = ⊤
 Untouched (Err e) old new = OnSide e.side (new ≡ old) ⊤ ⊤
 
 -- the fault is a failed read exactly if the count of that side's reader rose
-abbrev pub CountsSides : Result Bool CompareFault → ℕ → ℕ → ℕ → ℕ → Type 0
+abbrev pub CountsSides : Result Bool CompareFault → Calls → Calls → Calls → Calls → Type 0
 CountsSides (Ok same) first first_now second second_now = (first_now ≡ first) × (second_now ≡ second)
 CountsSides (Err e) first first_now second second_now =
     OnSide e.side (CountsFault e.fault first first_now × (second_now ≡ second)) (first_now ≡ first) (CountsFault e.fault second second_now)

@@ -1,7 +1,7 @@
 // A writer into a slice.
 ghost use Rattle.std.specs.Prelude.{◌≡◌};
 
-use px_bytes::{Device, Failed, Sink, Spell};
+use px_bytes::{Device, Failed, Flushes, Sink, Spell};
 
 // The most bytes that a call takes, unless it has `MANY`: the C library copies more of them by an instruction that
 // takes longer.
@@ -17,6 +17,8 @@ pub(crate) struct Filling<'a> {
     room: &'a mut [u8],
     held: usize,
     refusals: u64,
+    // The flushes, which only proofs read.
+    flushes: Flushes,
 }
 
 impl<'a> Filling<'a> {
@@ -31,14 +33,15 @@ impl<'a> Filling<'a> {
             room,
             held: 0,
             refusals: 0,
+            flushes: Flushes::none(),
         }
     }
 }
 
 impl<'a> Device for Filling<'a> {
-    ghost use Rattle.px_engine.specs.calls.Filled.{refused_in};
+    ghost use Rattle.px_engine.specs.calls.Filled.{calls_in};
 
-    ghost failed = { λ f. refused_in f };
+    ghost calls = { λ f. calls_in f };
 
     fn failures(&self) -> u64 {
         if self.held < self.room.len() {
@@ -49,10 +52,16 @@ impl<'a> Device for Filling<'a> {
 }
 
 impl<'a> Sink for Filling<'a> {
-    ghost use Rattle.std.specs.Prelude.{Some};
+    ghost use Rattle.std.specs.Prelude.{Some, ⊤};
     ghost use Rattle.px_engine.specs.calls.Filled.{told_in};
 
     ghost bytes_taken = { λ f. Some (told_in f) };
+
+    ghost unflushed = { λ f. f.flushes.since };
+
+    ghost wrote = { λ _ _ _ _. ⊤ };
+
+    ghost flushed = { λ _ _. ⊤ };
 
     fn write_some(&mut self, buf: &[u8]) -> Result<usize, Failed> {
         if buf.is_empty() {
@@ -71,6 +80,8 @@ impl<'a> Sink for Filling<'a> {
         let end = self.held + n;
         self.room[self.held..end].copy_from_slice(&buf[..n]);
         self.held = end;
+        let flushes = self.flushes.taking(n);
+        self.flushes = flushes;
         // Failures are counted only once the slice is full, which this write may have made it.
         self.refusals = 0;
         Ok(n)
@@ -83,11 +94,15 @@ impl<'a> Sink for Filling<'a> {
         let end = self.held + count;
         spelled.spell(&mut self.room[self.held..end]);
         self.held = end;
+        let flushes = self.flushes.taking(count);
+        self.flushes = flushes;
         self.refusals = 0;
         true
     }
 
     fn flush_all(&mut self) -> Result<(), Failed> {
+        let flushes = self.flushes.one_more();
+        self.flushes = flushes;
         Ok(())
     }
 }

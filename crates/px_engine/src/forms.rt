@@ -1,8 +1,8 @@
 // Normal forms: written to a writer, or kept in memory. In memory a form is measured first, and then written
 // into a vector of exactly its length or into the caller's buffer.
-ghost use Rattle.std.specs.Prelude.{◌≡◌, ◌≤◌, ◌+◌, ◌*◌, length, IfOk, IfErr};
+ghost use Rattle.std.specs.Prelude.{◌≡◌, ◌≤◌, ◌+◌, ◌*◌, length, IfOk, IfErr, OnOk};
 ghost use Rattle.px_bytes.specs.Lacking.{AsksAtMost};
-ghost use Rattle.px_bytes.specs.Devices.{CanFail, over, Sends};
+ghost use Rattle.px_bytes.specs.Devices.{CanFail, IsShort, over, Sends, SendsOnce};
 ghost use Rattle.px_bytes.specs.Parts.{limit};
 ghost use Rattle.px_iim.specs.Record.{normal_iim};
 ghost use Rattle.px_layout.specs.Normal.{normal_exif};
@@ -46,10 +46,13 @@ fn written(answer: Result<u64, WriteRefusal>) -> Result<u64, Fault>
 
 // Writes the normal form of what a file means. It allocates nothing.
 pub(crate) fn write_form<W: Sink>(said: &Said, writer: &mut W) -> Result<u64, Fault>
-    requires few { CanFail (W.failed writer.old) }
+    requires few { CanFail (W.calls writer.old) }
     requires fits { CanBeWritten (said_of said.now) }
-    ensures { WritesSaid result (W.bytes_taken writer.old) (W.bytes_taken writer.new) (W.failed writer.old) (W.failed writer.new)
+    ensures form { WritesSaid result (W.bytes_taken writer.old) (W.bytes_taken writer.new) (W.calls writer.old) (W.calls writer.new)
         (said_of said.now) }
+    ensures flushed { OnOk result (W.unflushed writer.new ≡ 0) }
+    ensures once { IsShort (length (normal (said_of said.now))) → SendsOnce W.wrote W.flushed writer.old writer.new
+        (normal (said_of said.now)) }
 {
     match said {
         Said::Exif(meaning) => written(write_normal_in(meaning, writer)),
@@ -63,9 +66,9 @@ const SHORT: usize = 1024;
 
 // Writes the normal form of an Exif block, which is measured already, by an output buffer in that space.
 fn send_exif_by<W: Sink>(form: &NormalForm, writer: &mut W, space: &mut [u8]) -> Result<(), Failed>
-    requires few { CanFail (W.failed writer.old) }
+    requires few { CanFail (W.calls writer.old) }
     requires form { IsForm form.now }
-    ensures { Sends result (over W.failed W.bytes_taken writer.old writer.new) (normal_exif (said_in form.now)) }
+    ensures { Sends result (over W.calls W.bytes_taken writer.old writer.new) (normal_exif (said_in form.now)) }
 {
     let mut pending = Pending::over(space);
     put_normal(&mut pending, writer, form)?;
@@ -74,9 +77,9 @@ fn send_exif_by<W: Sink>(form: &NormalForm, writer: &mut W, space: &mut [u8]) ->
 
 // Writes the normal form of an Exif block, which is measured already.
 fn send_exif<W: Sink>(form: &NormalForm, writer: &mut W) -> Result<(), Failed>
-    requires few { CanFail (W.failed writer.old) }
+    requires few { CanFail (W.calls writer.old) }
     requires form { IsForm form.now }
-    ensures { Sends result (over W.failed W.bytes_taken writer.old writer.new) (normal_exif (said_in form.now)) }
+    ensures { Sends result (over W.calls W.bytes_taken writer.old writer.new) (normal_exif (said_in form.now)) }
 {
     if form.len() <= SHORT as u64 {
         return send_exif_by(form, writer, &mut [0; SHORT]);
@@ -86,8 +89,8 @@ fn send_exif<W: Sink>(form: &NormalForm, writer: &mut W) -> Result<(), Failed>
 
 // Writes the normal form of a record by an output buffer in that space.
 fn send_record_by<W: Sink>(iim: &Iim, writer: &mut W, space: &mut [u8]) -> Result<(), Failed>
-    requires { CanFail (W.failed writer.old) }
-    ensures { Sends result (over W.failed W.bytes_taken writer.old writer.new) (normal_iim iim.now) }
+    requires { CanFail (W.calls writer.old) }
+    ensures { Sends result (over W.calls W.bytes_taken writer.old writer.new) (normal_iim iim.now) }
 {
     let mut pending = Pending::over(space);
     put_iim(&mut pending, writer, iim)?;
@@ -96,8 +99,8 @@ fn send_record_by<W: Sink>(iim: &Iim, writer: &mut W, space: &mut [u8]) -> Resul
 
 // Writes the normal form of a record, which has so many bytes.
 fn send_record<W: Sink>(iim: &Iim, writer: &mut W, len: usize) -> Result<(), Failed>
-    requires { CanFail (W.failed writer.old) }
-    ensures { Sends result (over W.failed W.bytes_taken writer.old writer.new) (normal_iim iim.now) }
+    requires { CanFail (W.calls writer.old) }
+    ensures { Sends result (over W.calls W.bytes_taken writer.old writer.new) (normal_iim iim.now) }
 {
     if len <= SHORT {
         return send_record_by(iim, writer, &mut [0; SHORT]);
@@ -117,7 +120,7 @@ fn exif_form(memory: &mut Memory, m: &Meaning) -> Result<Vec<u8>, Fault>
         return Err(Fault::NormalTooLong);
     };
     let mut writer = Growing::with_room_in(memory, form.len() as usize)?;
-    // The vector has capacity for all. If its allocation failed, `finish_in` reports it.
+    // If an allocation failed, `finish_in` reports it.
     let _ = send_exif(&form, &mut writer);
     Ok(writer.finish_in(memory)?)
 }

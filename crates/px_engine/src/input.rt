@@ -26,11 +26,11 @@ use std::alloc::Global;
 /// bytes before it. A read of 0 bytes is the end. It ends at the first call that fails. Allocates the bytes
 /// and one buffer. `ReadFailed`: a call of the reader failed. `OutOfMemory`: an allocation failed.
 pub fn read_all_in<R: Source>(memory: &mut Memory, reader: &mut R) -> Result<Vec<u8>, Fault>
-    requires { CanFail (R.failed reader.old) }
+    requires { CanFail (R.calls reader.old) }
     ensures found { IfOk result (λ v. ReadsUpTo (R.bytes_left reader.old) (R.bytes_left reader.new) most_read v.items) }
     ensures lost { ConsumesAtMost (R.bytes_left reader.old) (R.bytes_left reader.new) most_read }
     ensures fault { IfErr result IsReadFault }
-    ensures count { CountsReads result (R.failed reader.old) (R.failed reader.new) }
+    ensures count { CountsReads result (R.calls reader.old) (R.calls reader.new) }
     ensures memory { LacksRun result memory.old memory.new }
     ensures asked { AsksAtMost (4 * readable (R.bytes_left reader.old) most_read + 262144) memory.old memory.new }
 {
@@ -39,11 +39,11 @@ pub fn read_all_in<R: Source>(memory: &mut Memory, reader: &mut R) -> Result<Vec
 
 /// Like `read_all_in`, with memory of its own.
 pub fn read_all<R: Source>(alloc: Global, reader: &mut R) -> Result<Vec<u8>, Fault>
-    requires { CanFail (R.failed reader.old) }
+    requires { CanFail (R.calls reader.old) }
     ensures found { IfOk result (λ v. ReadsUpTo (R.bytes_left reader.old) (R.bytes_left reader.new) most_read v.items) }
     ensures lost { ConsumesAtMost (R.bytes_left reader.old) (R.bytes_left reader.new) most_read }
     ensures fault { IfErr result IsReadFault }
-    ensures count { CountsReads result (R.failed reader.old) (R.failed reader.new) }
+    ensures count { CountsReads result (R.calls reader.old) (R.calls reader.new) }
 {
     read_all_in(&mut Memory::new(alloc), reader)
 }
@@ -54,12 +54,12 @@ pub(crate) fn read_side<R: Source>(
     reader: &mut R,
     side: Side,
 ) -> Result<Vec<u8>, CompareFault>
-    requires { CanFail (R.failed reader.old) }
+    requires { CanFail (R.calls reader.old) }
     ensures found { IfOk result (λ v. ReadsUpTo (R.bytes_left reader.old) (R.bytes_left reader.new) most_read v.items) }
     ensures side { IfErr result (λ e. e.side ≡ side) }
     ensures lost { ConsumesAtMost (R.bytes_left reader.old) (R.bytes_left reader.new) most_read }
     ensures fault { IfErr result (λ e. IsReadFault e.fault) }
-    ensures count { CountsSecond result (R.failed reader.old) (R.failed reader.new) }
+    ensures count { CountsSecond result (R.calls reader.old) (R.calls reader.new) }
     ensures memory { LacksPair result memory.old memory.new }
     ensures asked { AsksAtMost (4 * readable (R.bytes_left reader.old) most_read + 262144) memory.old memory.new }
 {

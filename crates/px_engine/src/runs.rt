@@ -1,10 +1,10 @@
 // Whole runs from readers to writers.
-ghost use Rattle.std.specs.Prelude.{◌≡◌, ◌+◌};
+ghost use Rattle.std.specs.Prelude.{◌≡◌, ◌+◌, OnOk};
 ghost use Rattle.px_bytes.specs.Lacking.{AsksAtMost};
 ghost use Rattle.px_bytes.specs.Reading.{ConsumesAtMost};
 ghost use Rattle.px_engine.specs.Input.{most_read, LacksRun, LacksPair, CountsReads};
 ghost use Rattle.px_engine.specs.Asking.{run_request};
-ghost use Rattle.px_engine.specs.Runs.{Checks, Normalises, Compares, CountsWrites, CountsSides, Untouched};
+ghost use Rattle.px_engine.specs.Runs.{Checks, FormOnce, Normalises, Compares, CountsWrites, CountsSides, Untouched};
 ghost use Rattle.px_engine.specs.Prints.{caption_text, listing, Prints};
 ghost use Rattle.px_engine.specs.calls.Second.{ComparesSecond, CountsSecond};
 ghost use Rattle.px_engine.specs.calls.Seen.{said_of};
@@ -33,12 +33,14 @@ pub fn normalise_in<R: Source, W: Sink>(
     reader: &mut R,
     writer: &mut W,
 ) -> Result<u64, Fault>
-    requires reading { CanFail (R.failed reader.old) }
-    requires writing { CanFail (W.failed writer.old) }
+    requires reading { CanFail (R.calls reader.old) }
+    requires writing { CanFail (W.calls writer.old) }
     ensures done { Normalises result (R.bytes_left reader.old) (W.bytes_taken writer.old) (W.bytes_taken writer.new) }
+    ensures once { FormOnce W.wrote W.flushed result (R.bytes_left reader.old) writer.old writer.new }
     ensures lost { ConsumesAtMost (R.bytes_left reader.old) (R.bytes_left reader.new) most_read }
-    ensures reads { CountsReads result (R.failed reader.old) (R.failed reader.new) }
-    ensures writes { CountsWrites result (W.failed writer.old) (W.failed writer.new) }
+    ensures reads { CountsReads result (R.calls reader.old) (R.calls reader.new) }
+    ensures writes { CountsWrites result (W.calls writer.old) (W.calls writer.new) }
+    ensures flushed { OnOk result (W.unflushed writer.new ≡ 0) }
     ensures memory { LacksRun result memory.old memory.new }
     ensures asked { AsksAtMost (run_request (R.bytes_left reader.old)) memory.old memory.new }
 {
@@ -55,12 +57,14 @@ pub fn normalise<R: Source, W: Sink>(
     reader: &mut R,
     writer: &mut W,
 ) -> Result<u64, Fault>
-    requires reading { CanFail (R.failed reader.old) }
-    requires writing { CanFail (W.failed writer.old) }
+    requires reading { CanFail (R.calls reader.old) }
+    requires writing { CanFail (W.calls writer.old) }
     ensures done { Normalises result (R.bytes_left reader.old) (W.bytes_taken writer.old) (W.bytes_taken writer.new) }
+    ensures once { FormOnce W.wrote W.flushed result (R.bytes_left reader.old) writer.old writer.new }
     ensures lost { ConsumesAtMost (R.bytes_left reader.old) (R.bytes_left reader.new) most_read }
-    ensures reads { CountsReads result (R.failed reader.old) (R.failed reader.new) }
-    ensures writes { CountsWrites result (W.failed writer.old) (W.failed writer.new) }
+    ensures reads { CountsReads result (R.calls reader.old) (R.calls reader.new) }
+    ensures writes { CountsWrites result (W.calls writer.old) (W.calls writer.new) }
+    ensures flushed { OnOk result (W.unflushed writer.new ≡ 0) }
 {
     normalise_in(&mut Memory::new(alloc), reader, writer)
 }
@@ -69,10 +73,10 @@ pub fn normalise<R: Source, W: Sink>(
 /// meaning of an Exif block. `Refused`: the block's first fault. `ReadFailed`: a call of the reader failed,
 /// which ends the run. `OutOfMemory`: an allocation failed.
 pub fn check_in<R: Source>(memory: &mut Memory, reader: &mut R) -> Result<BlockKind, Fault>
-    requires { CanFail (R.failed reader.old) }
+    requires { CanFail (R.calls reader.old) }
     ensures done { Checks result (R.bytes_left reader.old) }
     ensures lost { ConsumesAtMost (R.bytes_left reader.old) (R.bytes_left reader.new) most_read }
-    ensures reads { CountsReads result (R.failed reader.old) (R.failed reader.new) }
+    ensures reads { CountsReads result (R.calls reader.old) (R.calls reader.new) }
     ensures memory { LacksRun result memory.old memory.new }
     ensures asked { AsksAtMost (run_request (R.bytes_left reader.old)) memory.old memory.new }
 {
@@ -82,10 +86,10 @@ pub fn check_in<R: Source>(memory: &mut Memory, reader: &mut R) -> Result<BlockK
 
 /// Like `check_in`, with memory of its own.
 pub fn check<R: Source>(alloc: Global, reader: &mut R) -> Result<BlockKind, Fault>
-    requires { CanFail (R.failed reader.old) }
+    requires { CanFail (R.calls reader.old) }
     ensures done { Checks result (R.bytes_left reader.old) }
     ensures lost { ConsumesAtMost (R.bytes_left reader.old) (R.bytes_left reader.new) most_read }
-    ensures reads { CountsReads result (R.failed reader.old) (R.failed reader.new) }
+    ensures reads { CountsReads result (R.calls reader.old) (R.calls reader.new) }
 {
     check_in(&mut Memory::new(alloc), reader)
 }
@@ -102,12 +106,13 @@ pub fn show_in<R: Source, W: Sink>(
     reader: &mut R,
     writer: &mut W,
 ) -> Result<(), Fault>
-    requires reading { CanFail (R.failed reader.old) }
-    requires writing { CanFail (W.failed writer.old) }
+    requires reading { CanFail (R.calls reader.old) }
+    requires writing { CanFail (W.calls writer.old) }
     ensures done { Prints listing result (R.bytes_left reader.old) (W.bytes_taken writer.old) (W.bytes_taken writer.new) }
     ensures lost { ConsumesAtMost (R.bytes_left reader.old) (R.bytes_left reader.new) most_read }
-    ensures reads { CountsReads result (R.failed reader.old) (R.failed reader.new) }
-    ensures writes { CountsWrites result (W.failed writer.old) (W.failed writer.new) }
+    ensures reads { CountsReads result (R.calls reader.old) (R.calls reader.new) }
+    ensures writes { CountsWrites result (W.calls writer.old) (W.calls writer.new) }
+    ensures flushed { OnOk result (W.unflushed writer.new ≡ 0) }
     ensures memory { LacksRun result memory.old memory.new }
     ensures asked { AsksAtMost (run_request (R.bytes_left reader.old)) memory.old memory.new }
 {
@@ -120,12 +125,13 @@ pub fn show_in<R: Source, W: Sink>(
 
 /// Like `show_in`, with memory of its own.
 pub fn show<R: Source, W: Sink>(alloc: Global, reader: &mut R, writer: &mut W) -> Result<(), Fault>
-    requires reading { CanFail (R.failed reader.old) }
-    requires writing { CanFail (W.failed writer.old) }
+    requires reading { CanFail (R.calls reader.old) }
+    requires writing { CanFail (W.calls writer.old) }
     ensures done { Prints listing result (R.bytes_left reader.old) (W.bytes_taken writer.old) (W.bytes_taken writer.new) }
     ensures lost { ConsumesAtMost (R.bytes_left reader.old) (R.bytes_left reader.new) most_read }
-    ensures reads { CountsReads result (R.failed reader.old) (R.failed reader.new) }
-    ensures writes { CountsWrites result (W.failed writer.old) (W.failed writer.new) }
+    ensures reads { CountsReads result (R.calls reader.old) (R.calls reader.new) }
+    ensures writes { CountsWrites result (W.calls writer.old) (W.calls writer.new) }
+    ensures flushed { OnOk result (W.unflushed writer.new ≡ 0) }
 {
     show_in(&mut Memory::new(alloc), reader, writer)
 }
@@ -140,12 +146,13 @@ pub fn captions_in<R: Source, W: Sink>(
     reader: &mut R,
     writer: &mut W,
 ) -> Result<(), Fault>
-    requires reading { CanFail (R.failed reader.old) }
-    requires writing { CanFail (W.failed writer.old) }
+    requires reading { CanFail (R.calls reader.old) }
+    requires writing { CanFail (W.calls writer.old) }
     ensures done { Prints caption_text result (R.bytes_left reader.old) (W.bytes_taken writer.old) (W.bytes_taken writer.new) }
     ensures lost { ConsumesAtMost (R.bytes_left reader.old) (R.bytes_left reader.new) most_read }
-    ensures reads { CountsReads result (R.failed reader.old) (R.failed reader.new) }
-    ensures writes { CountsWrites result (W.failed writer.old) (W.failed writer.new) }
+    ensures reads { CountsReads result (R.calls reader.old) (R.calls reader.new) }
+    ensures writes { CountsWrites result (W.calls writer.old) (W.calls writer.new) }
+    ensures flushed { OnOk result (W.unflushed writer.new ≡ 0) }
     ensures memory { LacksRun result memory.old memory.new }
     ensures asked { AsksAtMost (run_request (R.bytes_left reader.old)) memory.old memory.new }
 {
@@ -162,12 +169,13 @@ pub fn captions<R: Source, W: Sink>(
     reader: &mut R,
     writer: &mut W,
 ) -> Result<(), Fault>
-    requires reading { CanFail (R.failed reader.old) }
-    requires writing { CanFail (W.failed writer.old) }
+    requires reading { CanFail (R.calls reader.old) }
+    requires writing { CanFail (W.calls writer.old) }
     ensures done { Prints caption_text result (R.bytes_left reader.old) (W.bytes_taken writer.old) (W.bytes_taken writer.new) }
     ensures lost { ConsumesAtMost (R.bytes_left reader.old) (R.bytes_left reader.new) most_read }
-    ensures reads { CountsReads result (R.failed reader.old) (R.failed reader.new) }
-    ensures writes { CountsWrites result (W.failed writer.old) (W.failed writer.new) }
+    ensures reads { CountsReads result (R.calls reader.old) (R.calls reader.new) }
+    ensures writes { CountsWrites result (W.calls writer.old) (W.calls writer.new) }
+    ensures flushed { OnOk result (W.unflushed writer.new ≡ 0) }
 {
     captions_in(&mut Memory::new(alloc), reader, writer)
 }
@@ -178,10 +186,10 @@ fn compare_second<S: Source>(
     said: &Said,
     second: &mut S,
 ) -> Result<bool, CompareFault>
-    requires { CanFail (S.failed second.old) }
+    requires { CanFail (S.calls second.old) }
     ensures done { ComparesSecond result (said_of said.now) (S.bytes_left second.old) }
     ensures lost { ConsumesAtMost (S.bytes_left second.old) (S.bytes_left second.new) most_read }
-    ensures reads { CountsSecond result (S.failed second.old) (S.failed second.new) }
+    ensures reads { CountsSecond result (S.calls second.old) (S.calls second.new) }
     ensures memory { LacksPair result memory.old memory.new }
     ensures asked { AsksAtMost (run_request (S.bytes_left second.old)) memory.old memory.new }
 {
@@ -200,13 +208,13 @@ pub fn compare_in<R: Source, S: Source>(
     first: &mut R,
     second: &mut S,
 ) -> Result<bool, CompareFault>
-    requires first { CanFail (R.failed first.old) }
-    requires second { CanFail (S.failed second.old) }
+    requires first { CanFail (R.calls first.old) }
+    requires second { CanFail (S.calls second.old) }
     ensures done { Compares result (R.bytes_left first.old) (S.bytes_left second.old) }
     ensures untouched { Untouched result second.old second.new }
     ensures lost { ConsumesAtMost (R.bytes_left first.old) (R.bytes_left first.new) most_read }
     ensures lost_too { ConsumesAtMost (S.bytes_left second.old) (S.bytes_left second.new) most_read }
-    ensures reads { CountsSides result (R.failed first.old) (R.failed first.new) (S.failed second.old) (S.failed second.new) }
+    ensures reads { CountsSides result (R.calls first.old) (R.calls first.new) (S.calls second.old) (S.calls second.new) }
     ensures memory { LacksPair result memory.old memory.new }
     ensures asked { AsksAtMost (run_request (R.bytes_left first.old) + run_request (S.bytes_left second.old))
         memory.old memory.new }
@@ -224,13 +232,13 @@ pub fn compare<R: Source, S: Source>(
     first: &mut R,
     second: &mut S,
 ) -> Result<bool, CompareFault>
-    requires first { CanFail (R.failed first.old) }
-    requires second { CanFail (S.failed second.old) }
+    requires first { CanFail (R.calls first.old) }
+    requires second { CanFail (S.calls second.old) }
     ensures done { Compares result (R.bytes_left first.old) (S.bytes_left second.old) }
     ensures untouched { Untouched result second.old second.new }
     ensures lost { ConsumesAtMost (R.bytes_left first.old) (R.bytes_left first.new) most_read }
     ensures lost_too { ConsumesAtMost (S.bytes_left second.old) (S.bytes_left second.new) most_read }
-    ensures reads { CountsSides result (R.failed first.old) (R.failed first.new) (S.failed second.old) (S.failed second.new) }
+    ensures reads { CountsSides result (R.calls first.old) (R.calls first.new) (S.calls second.old) (S.calls second.new) }
 {
     compare_in(&mut Memory::new(alloc), first, second)
 }

@@ -1,6 +1,6 @@
 // Writes the listing and the captions of a file.
-ghost use Rattle.std.specs.Prelude.{◌≡◌, ◌+◌, length, IfOk};
-ghost use Rattle.px_bytes.specs.Devices.{CanFail, over, Sends};
+ghost use Rattle.std.specs.Prelude.{◌≡◌, ◌+◌, length, IfOk, OnOk};
+ghost use Rattle.px_bytes.specs.Devices.{CanFail, over, SendsFlushed};
 ghost use Rattle.px_bytes.specs.Lacking.{Lacks, AsksAtMost};
 ghost use Rattle.px_bytes.specs.Waiting.{Adds};
 ghost use Rattle.px_engine.specs.Prints.{caption_text, listing};
@@ -19,8 +19,8 @@ fn put_listing<W: Sink>(
     writer: &mut W,
     said: &Said,
 ) -> Result<(), Failed>
-    requires { CanFail (W.failed writer.old) }
-    ensures { Adds result (over W.failed W.bytes_taken writer.old writer.new) pending.old pending.new (listing (said_of said.now)) }
+    requires { CanFail (W.calls writer.old) }
+    ensures { Adds result (over W.calls W.bytes_taken writer.old writer.new) pending.old pending.new (listing (said_of said.now)) }
 {
     match said {
         Said::Exif(meaning) => put_exif_listing(pending, writer, meaning),
@@ -34,8 +34,8 @@ fn put_captions<W: Sink>(
     writer: &mut W,
     said: &Said,
 ) -> Result<(), Failed>
-    requires { CanFail (W.failed writer.old) }
-    ensures { Adds result (over W.failed W.bytes_taken writer.old writer.new) pending.old pending.new
+    requires { CanFail (W.calls writer.old) }
+    ensures { Adds result (over W.calls W.bytes_taken writer.old writer.new) pending.old pending.new
         (caption_text (said_of said.now)) }
 {
     match said {
@@ -46,8 +46,9 @@ fn put_captions<W: Sink>(
 
 // Writes the output buffer and flushes once.
 fn send_and_flush<W: Sink>(pending: &mut Pending<'_>, writer: &mut W) -> Result<(), Failed>
-    requires { CanFail (W.failed writer.old) }
-    ensures { Sends result (over W.failed W.bytes_taken writer.old writer.new) pending.old.bytes }
+    requires { CanFail (W.calls writer.old) }
+    ensures text { SendsFlushed result (over W.calls W.bytes_taken writer.old writer.new) pending.old.bytes }
+    ensures flushed { OnOk result (W.unflushed writer.new ≡ 0) }
 {
     pending.send(writer)?;
     writer.flush_all()
@@ -55,8 +56,9 @@ fn send_and_flush<W: Sink>(pending: &mut Pending<'_>, writer: &mut W) -> Result<
 
 // Writes the listing and flushes once.
 fn send_listing<W: Sink>(said: &Said, writer: &mut W) -> Result<(), Failed>
-    requires { CanFail (W.failed writer.old) }
-    ensures { Sends result (over W.failed W.bytes_taken writer.old writer.new) (listing (said_of said.now)) }
+    requires { CanFail (W.calls writer.old) }
+    ensures text { SendsFlushed result (over W.calls W.bytes_taken writer.old writer.new) (listing (said_of said.now)) }
+    ensures flushed { OnOk result (W.unflushed writer.new ≡ 0) }
 {
     let mut space = [0; CAPACITY];
     let mut pending = Pending::new(&mut space);
@@ -66,8 +68,9 @@ fn send_listing<W: Sink>(said: &Said, writer: &mut W) -> Result<(), Failed>
 
 // Writes the captions and flushes once.
 fn send_captions<W: Sink>(said: &Said, writer: &mut W) -> Result<(), Failed>
-    requires { CanFail (W.failed writer.old) }
-    ensures { Sends result (over W.failed W.bytes_taken writer.old writer.new) (caption_text (said_of said.now)) }
+    requires { CanFail (W.calls writer.old) }
+    ensures text { SendsFlushed result (over W.calls W.bytes_taken writer.old writer.new) (caption_text (said_of said.now)) }
+    ensures flushed { OnOk result (W.unflushed writer.new ≡ 0) }
 {
     let mut space = [0; CAPACITY];
     let mut pending = Pending::new(&mut space);
@@ -87,18 +90,20 @@ fn as_fault(answer: Result<(), Failed>) -> Result<(), Fault>
 
 // Writes the listing and flushes once. It allocates nothing.
 pub(crate) fn write_listing<W: Sink>(said: &Said, writer: &mut W) -> Result<(), Fault>
-    requires { CanFail (W.failed writer.old) }
-    ensures { WritesText result (W.bytes_taken writer.old) (W.bytes_taken writer.new) (W.failed writer.old) (W.failed writer.new)
+    requires { CanFail (W.calls writer.old) }
+    ensures text { WritesText result (W.bytes_taken writer.old) (W.bytes_taken writer.new) (W.calls writer.old) (W.calls writer.new)
         (listing (said_of said.now)) }
+    ensures flushed { OnOk result (W.unflushed writer.new ≡ 0) }
 {
     as_fault(send_listing(said, writer))
 }
 
 // Writes the captions and flushes once. It allocates nothing.
 pub(crate) fn write_captions<W: Sink>(said: &Said, writer: &mut W) -> Result<(), Fault>
-    requires { CanFail (W.failed writer.old) }
-    ensures { WritesText result (W.bytes_taken writer.old) (W.bytes_taken writer.new) (W.failed writer.old) (W.failed writer.new)
+    requires { CanFail (W.calls writer.old) }
+    ensures text { WritesText result (W.bytes_taken writer.old) (W.bytes_taken writer.new) (W.calls writer.old) (W.calls writer.new)
         (caption_text (said_of said.now)) }
+    ensures flushed { OnOk result (W.unflushed writer.new ≡ 0) }
 {
     as_fault(send_captions(said, writer))
 }

@@ -1,13 +1,13 @@
 // Writes and measures the normal form.
 ghost use Rattle.std.specs.Prelude.{◌≡◌, ◌≤◌, ◌<◌, ◌++◌, length, map, OnOk, OnErr};
 ghost use Rattle.std.specs.List.{flat_map};
-ghost use Rattle.px_bytes.specs.Devices.{CanFail, over};
+ghost use Rattle.px_bytes.specs.Devices.{CanFail, IsShort, SendsOnce, WritesOnce, over};
 ghost use Rattle.px_bytes.specs.Lacking.{Lacks, AsksAtMost};
 ghost use Rattle.px_bytes.specs.Parts.{limit};
 ghost use Rattle.px_bytes.specs.Waiting.{Waits, Adds, AddsTo};
 ghost use Rattle.px_iim.specs.Record.{normal_dataset, normal_iim};
 ghost use Rattle.px_iim.specs.calls.View.{item_view};
-ghost use Rattle.px_iim.specs.Writing.{WritesIim, most, within};
+ghost use Rattle.px_iim.specs.Writing.{WritesIim, WritesPart, most, within};
 ghost use Rattle.px_iim.specs.calls.Heads.{Grows, AreShort};
 
 use crate::group::Item;
@@ -22,9 +22,9 @@ fn put_item<W: Sink>(
     rec: u8,
     item: &Item,
 ) -> Result<(), Failed>
-    requires few { CanFail (W.failed writer.old) }
+    requires few { CanFail (W.calls writer.old) }
     requires short { length item.now.octets.now ≤ limit }
-    ensures { AddsTo W.failed W.bytes_taken result writer.old writer.new pending.old pending.new (normal_dataset rec (item_view item.now)) }
+    ensures { AddsTo W.calls W.bytes_taken result writer.old writer.new pending.old pending.new (normal_dataset rec (item_view item.now)) }
 {
     let (octets, len) = head(rec, item.number, item.octets.len() as u32);
     pending.put(writer, &octets[..len])?;
@@ -37,9 +37,9 @@ fn put_group<W: Sink>(
     rec: u8,
     items: &[Item],
 ) -> Result<(), Failed>
-    requires few { CanFail (W.failed writer.old) }
+    requires few { CanFail (W.calls writer.old) }
     requires short { AreShort (map item_view items.now) }
-    ensures { AddsTo W.failed W.bytes_taken result writer.old writer.new pending.old pending.new
+    ensures { AddsTo W.calls W.bytes_taken result writer.old writer.new pending.old pending.new
         (flat_map (normal_dataset rec) (map item_view items.now)) }
 {
     for item in items {
@@ -53,8 +53,8 @@ fn put_group<W: Sink>(
 /// call that fails: the writer has then taken a prefix of the buffered bytes and of the form after them. A
 /// record with a DataSet has a form of at least five bytes.
 pub fn put_iim<W: Sink>(pending: &mut Pending<'_>, writer: &mut W, iim: &Iim) -> Result<(), Failed>
-    requires { CanFail (W.failed writer.old) }
-    ensures bytes { Adds result (over W.failed W.bytes_taken writer.old writer.new) pending.old pending.new (normal_iim iim.now) }
+    requires { CanFail (W.calls writer.old) }
+    ensures bytes { Adds result (over W.calls W.bytes_taken writer.old writer.new) pending.old pending.new (normal_iim iim.now) }
     ensures waits { Waits result writer.old writer.new pending.old pending.new (normal_iim iim.now) }
 {
     for (rec, _, items) in iim.iter() {
@@ -80,9 +80,11 @@ pub fn normal_len(iim: &Iim) -> Option<u32>
 /// than `LIMIT`, and nothing was written. `WriteFailed`: a call of the writer failed, and it has taken a
 /// prefix of the form.
 pub fn write_iim_part<W: Sink>(iim: &Iim, writer: &mut W) -> Result<u64, WriteRefusal>
-    requires few { CanFail (W.failed writer.old) }
+    requires few { CanFail (W.calls writer.old) }
     requires some { 0 < length iim.now }
-    ensures { WritesIim result (W.bytes_taken writer.old) (W.bytes_taken writer.new) (W.failed writer.old) (W.failed writer.new) iim.now }
+    ensures form { WritesPart result (W.bytes_taken writer.old) (W.bytes_taken writer.new) (W.calls writer.old) (W.calls writer.new)
+        iim.now }
+    ensures once { IsShort (length (normal_iim iim.now)) → WritesOnce W.wrote writer.old writer.new (normal_iim iim.now) }
 {
     let len = normal_len(iim).unwrap_or(LIMIT + 1);
     if len > LIMIT {
@@ -98,9 +100,12 @@ pub fn write_iim_part<W: Sink>(iim: &Iim, writer: &mut W) -> Result<u64, WriteRe
 /// Like `write_iim_part`, but flushes once after the last byte. `WriteFailed` also means that the flush
 /// failed.
 pub fn write_iim<W: Sink>(iim: &Iim, writer: &mut W) -> Result<u64, WriteRefusal>
-    requires few { CanFail (W.failed writer.old) }
+    requires few { CanFail (W.calls writer.old) }
     requires some { 0 < length iim.now }
-    ensures { WritesIim result (W.bytes_taken writer.old) (W.bytes_taken writer.new) (W.failed writer.old) (W.failed writer.new) iim.now }
+    ensures form { WritesIim result (W.bytes_taken writer.old) (W.bytes_taken writer.new) (W.calls writer.old) (W.calls writer.new)
+        iim.now }
+    ensures flushed { OnOk result (W.unflushed writer.new ≡ 0) }
+    ensures once { IsShort (length (normal_iim iim.now)) → SendsOnce W.wrote W.flushed writer.old writer.new (normal_iim iim.now) }
 {
     let len = write_iim_part(iim, writer)?;
     writer.flush_all()?;

@@ -1,41 +1,71 @@
 -- A run ends with an allowed outcome, and reports it.
-use Rattle.std.proofs.Common.{◌≡◌, ℕ, Bool, List, Option, Result, Ok, Err, ap}
+use Rattle.std.proofs.Common.{◌≡◌, ◌∙◌, ℕ, Bool, List, Option, Result, Ok, Err, OnOk, ap, inl, inr, refl, subst, sym}
 use Rattle.std.specs.Prelude.{⊤}
 use Rattle.px_engine.specs.declared.BlockKind.{BlockKind}
 use Rattle.px_engine.specs.declared.CompareFault.{CompareFault}
 use Rattle.px_engine.specs.declared.Fault.{Fault}
+use Rattle.px_engine.specs.declared.Fault.TheVariants.{Refused, NormalTooLong, OutOfMemory, ReadFailed, WriteFailed}
 use Rattle.px_engine.specs.declared.Side.{Side}
 use Rattle.px_engine.specs.declared.Side.TheVariants.{First, Second}
 use Rattle.px_engine.specs.Asking.{run_request}
 use Rattle.px_engine.specs.Input.{CountsReads, LacksRun, OnSide, most_read}
 use Rattle.px_engine.specs.Runs.{Checks, CountsWrites, Normalises, Untouched}
-use Rattle.px_bytes.specs.Devices.{Device, over}
+use Rattle.px_bytes.specs.Devices.{Calls, Device, FailsOnce, over}
 use Rattle.px_bytes.specs.Lacking.{AsksAtMost, Taken}
 use Rattle.px_bytes.specs.Reading.{ConsumesAtMost}
+use Rattle.px_jobs.specs.Lines.{FlushesLast}
+use Rattle.px_jobs.specs.calls.Telling.{TellsPrinted}
+use Rattle.px_jobs.proofs.LineLaws.{device, failed_last, idle_last, last_behind}
 use Rattle.px_jobs.specs.Endings.{EndsCheck, EndsNormalise, IsIdle, LeavesSecond, TellsChecked, TellsWritten}
 
 pub ends_normalise : (r : Result ℕ Fault) (reader out lines : Device) (taken taken_now : Taken) (status : ℕ)
     → Normalises r reader.old out.old out.new
-    → CountsReads r reader.failed reader.failed_now → CountsWrites r out.failed out.failed_now → LacksRun r taken taken_now
+    → CountsReads r reader.calls reader.calls_now → CountsWrites r out.calls out.calls_now → LacksRun r taken taken_now
     → AsksAtMost (run_request reader.old) taken taken_now → ConsumesAtMost reader.old reader.new most_read
     → TellsWritten r status lines → EndsNormalise reader out lines taken taken_now status
 ends_normalise r reader out lines taken taken_now status done reads writes memory asked lost told =
     (r, done, reads, writes, (memory, asked, lost), told)
 
 pub ends_check : (r : Result BlockKind Fault) (reader lines : Device) (taken taken_now : Taken) (status : ℕ) → Checks r reader.old
-    → CountsReads r reader.failed reader.failed_now → LacksRun r taken taken_now
+    → CountsReads r reader.calls reader.calls_now → LacksRun r taken taken_now
     → AsksAtMost (run_request reader.old) taken taken_now → ConsumesAtMost reader.old reader.new most_read
     → TellsChecked r status lines → EndsCheck reader lines taken taken_now status
 ends_check r reader lines taken taken_now status done reads memory asked lost told =
     (r, done, reads, (memory, asked, lost), told)
 
 -- an unchanged reader is idle
-idle : {R : Type 0} (failed : R → ℕ) (bytes : R → Option (List ℕ)) (side : Side) (old new : R)
-    → OnSide side (new ≡ old) ⊤ ⊤ → OnSide side (IsIdle (over failed bytes old new)) ⊤ ⊤
-idle failed bytes First old new same = (ap failed same, ap bytes same)
-idle failed bytes Second old new same = same
+idle : {R : Type 0} (calls : R → Calls) (bytes : R → Option (List ℕ)) (side : Side) (old new : R)
+    → OnSide side (new ≡ old) ⊤ ⊤ → OnSide side (IsIdle (over calls bytes old new)) ⊤ ⊤
+idle calls bytes First old new same = (ap calls same, ap bytes same)
+idle calls bytes Second old new same = same
 
-pub leaves_second : {R : Type 0} (failed : R → ℕ) (bytes : R → Option (List ℕ)) (r : Result Bool CompareFault) (old new : R)
-    → Untouched r old new → LeavesSecond r (over failed bytes old new)
-leaves_second failed bytes (Ok same) old new h = tt
-leaves_second failed bytes (Err e) old new h = idle failed bytes e.side old new h
+pub leaves_second : {R : Type 0} (calls : R → Calls) (bytes : R → Option (List ℕ)) (r : Result Bool CompareFault) (old new : R)
+    → Untouched r old new → LeavesSecond r (over calls bytes old new)
+leaves_second calls bytes (Ok same) old new h = tt
+leaves_second calls bytes (Err e) old new h = idle calls bytes e.side old new h
+
+-- ---- no byte after the flush
+
+pub writes_last : {A : Type 0} (r : Result A Fault) (old new : Calls) (unflushed : ℕ) → CountsWrites r old new → OnOk r (unflushed ≡ 0)
+    → FlushesLast old new unflushed
+writes_last (Ok x) old new unflushed w h = λ e. h
+writes_last (Err WriteFailed) old new unflushed w h = failed_last old new unflushed w
+writes_last (Err (Refused cause place)) old new unflushed w h = idle_last old new unflushed w
+writes_last (Err OutOfMemory) old new unflushed w h = idle_last old new unflushed w
+writes_last (Err ReadFailed) old new unflushed w h = idle_last old new unflushed w
+writes_last (Err NormalTooLong) old new unflushed w h = idle_last old new unflushed w
+
+-- a text up to `mid`, and then its report
+pub text_last : (r : Result ⊤ Fault) (status : ℕ) (old mid new : Calls) (shown told : Option (List ℕ)) (behind unflushed : ℕ)
+    → CountsWrites r old mid → OnOk r (behind ≡ 0) → (new ≡ mid → unflushed ≡ behind) → FlushesLast mid new unflushed
+    → TellsPrinted r status (device mid new shown told) → FlushesLast old new unflushed
+text_last (Ok x) status old mid new shown told behind unflushed w h still last t = λ e. still t.1.0 ∙ h
+text_last (Err WriteFailed) status old mid new shown told behind unflushed w h still last t = elim t [
+  | inl q ↦ failed_last old new unflushed (subst (FailsOnce old) (sym q.2.0) w)
+  | inr q ↦ absurd (q.0 refl)
+]
+text_last (Err (Refused cause place)) status old mid new shown told behind unflushed w h still last t =
+    last_behind old mid new unflushed w last
+text_last (Err OutOfMemory) status old mid new shown told behind unflushed w h still last t = last_behind old mid new unflushed w last
+text_last (Err ReadFailed) status old mid new shown told behind unflushed w h still last t = last_behind old mid new unflushed w last
+text_last (Err NormalTooLong) status old mid new shown told behind unflushed w h still last t = last_behind old mid new unflushed w last

@@ -1,17 +1,17 @@
 -- A line of five buffered parts, then a write and a flush.
-use Rattle.std.proofs.Common.{◌≡◌, ◌+◌, ◌++◌, ◌∙◌, ap, inl, inr, ℕ, List, Option, Result, Err}
+use Rattle.std.proofs.Common.{◌≡◌, ◌⊎◌, ◌++◌, ◌∙◌, ap, arith, inl, inr, sym, ℕ, List, Option, Result, Err}
 use Rattle.std.specs.Prelude.{⊤}
 use Rattle.std.specs.Io.KnownBytes.{Appends}
-use Rattle.px_bytes.specs.Devices.{AppendsPrefix, Device}
+use Rattle.px_bytes.specs.Devices.{AppendsPrefix, Calls, Device, FailsOnce, one_failed, one_flush}
 use Rattle.px_bytes.specs.Waiting.{Held, ◌⊕◌, Owes, Puts}
 use Rattle.px_bytes.specs.lemmas.WaitingLaws.{puts_both, puts_first}
 use Rattle.px_bytes.specs.lemmas.WriteLaws.{appends_kept, prefix_all}
-use Rattle.px_jobs.specs.Lines.{Tells}
+use Rattle.px_jobs.specs.Lines.{FlushesLast, Tells}
 use Rattle.px_jobs.specs.calls.Flushing.{Flushes}
 
--- a device over a call, of its failures and its bytes
-abbrev pub device : ℕ → ℕ → Option (List ℕ) → Option (List ℕ) → Device
-device failed failed_now old new = record { failed = failed; failed_now = failed_now; old = old; new = new }
+-- a device over a call, of the counts of its calls and its bytes
+abbrev pub device : Calls → Calls → Option (List ℕ) → Option (List ℕ) → Device
+device calls calls_now old new = record { calls = calls; calls_now = calls_now; old = old; new = new }
 
 -- the first of two parts was added, and a call failed after it
 stops_behind : (a b c : Option (List ℕ)) (h i : Held) (xs ys : List ℕ) → Owes a b i (h ⊕ xs) → AppendsPrefix b c (i.bytes ++ ys)
@@ -42,10 +42,42 @@ module _ (v w x y z : List ℕ) (a b c d e : Option (List ℕ)) (h i j k l : Hel
             (puts_both r b c f i j m w (x ++ (y ++ z)) two (puts_both r c d f j k m x (y ++ z) three (puts_both r d e f k l m y z four p)))
 
 -- a line that was written, and then a flush
-pub flushes_tells : (expected : ℕ) (line : List ℕ) (status failed mid now : ℕ) (old written new : Option (List ℕ)) → mid ≡ failed
+pub flushes_tells : (expected : ℕ) (line : List ℕ) (status : ℕ) (calls mid now : Calls) (old written new : Option (List ℕ)) → mid ≡ calls
     → Appends old written line
-    → Flushes expected status (device mid now written new) → Tells expected line status (device failed now old new)
-flushes_tells expected line status failed mid now old written new same h f = elim f [
-  | inl f ↦ inl (f.0, f.1 ∙ same, appends_kept old written new line h f.2)
-  | inr f ↦ inr (f.0, f.1 ∙ ap (λ n. n + 1) same, prefix_all old new line (appends_kept old written new line h f.2))
+    → Flushes expected status (device mid now written new) → Tells expected line status (device calls now old new)
+flushes_tells expected line status calls mid now old written new same h f = elim f [
+  | inl f ↦ inl (f.0, f.1 ∙ ap one_flush same, appends_kept old written new line h f.2)
+  | inr f ↦ inr (
+    f.0,
+    inr (f.1 ∙ ap (λ (k : Calls). one_failed (one_flush k)) same),
+    prefix_all old new line (appends_kept old written new line h f.2),
+  )
+]
+
+-- ---- no byte after the flush
+
+-- a failed call, or none at all, is no flush that succeeded
+pub failed_no_flush : (old new : Calls) → FailsOnce old new → new ≡ one_flush old → ⊥
+failed_no_flush old new (inl f) e = let s = ap (λ (k : Calls). k.failed) (sym f ∙ e) in absurd (omega (arith, s))
+failed_no_flush old new (inr f) e = let s = ap (λ (k : Calls). k.failed) (sym f ∙ e) in absurd (omega (arith, s))
+
+pub idle_no_flush : (old new : Calls) → new ≡ old → new ≡ one_flush old → ⊥
+idle_no_flush old new f e = let s = ap (λ (k : Calls). k.flushes) (sym f ∙ e) in absurd (omega (arith, s))
+
+-- a line, or a fault before it, was reported by calls that came after `mid`
+pub last_behind : (old mid new : Calls) (unflushed : ℕ) → mid ≡ old → FlushesLast mid new unflushed → FlushesLast old new unflushed
+last_behind old mid new unflushed same h = λ e. h (e ∙ ap one_flush (sym same))
+
+pub failed_last : (old new : Calls) (unflushed : ℕ) → FailsOnce old new → FlushesLast old new unflushed
+failed_last old new unflushed f = λ e. absurd (failed_no_flush old new f e)
+
+pub idle_last : (old new : Calls) (unflushed : ℕ) → new ≡ old → FlushesLast old new unflushed
+idle_last old new unflushed f = λ e. absurd (idle_no_flush old new f e)
+
+-- a line that was told is no idle writer
+pub told_not_idle : {A B C D : Type 0} (old new : Calls) → ((A × (new ≡ one_flush old) × B) ⊎ (C × FailsOnce old new × D)) → new ≡ old → ⊥
+told_not_idle old new (inl t) e = idle_no_flush old new e t.1
+told_not_idle old new (inr t) e = elim t.1 [
+  | inl f ↦ let s = ap (λ (k : Calls). k.failed) (sym f ∙ e) in absurd (omega (arith, s))
+  | inr f ↦ let s = ap (λ (k : Calls). k.failed) (sym f ∙ e) in absurd (omega (arith, s))
 ]

@@ -15,7 +15,7 @@ use Rattle.px_jobs.specs.declared.job.Job.TheVariants.{Show, Check, Captions, No
 use Rattle.px_bytes.specs.Devices.{Device}
 use Rattle.px_bytes.specs.Lacking.{Taken, AsksAtMost}
 use Rattle.px_bytes.specs.Reading.{ConsumesAtMost}
-use Rattle.px_jobs.specs.Lines.{IsFailed, IsWell, Took, TookNothing, TookPrefix, Tells, TellsFault}
+use Rattle.px_jobs.specs.Lines.{IsFailed, IsFlushed, IsWell, Took, TookNothing, TookPrefix, Tells, TellsFault}
 
 -- ---- the status and the line of an outcome
 
@@ -46,14 +46,14 @@ abbrev pub TellsCompared : Result Bool CompareFault → ℕ → Device → Type 
 TellsCompared (Ok same) status lines = Tells (compared_status same) (compared same) status lines
 TellsCompared (Err e) status lines = TellsFault e.fault (Some e.side) status lines
 
--- its bytes and its count of failed calls are as before
+-- its bytes and the counts of its calls are as before
 abbrev pub IsIdle : Device → Type 0
-IsIdle d = (d.failed_now ≡ d.failed) × (d.new ≡ d.old)
+IsIdle d = (d.calls_now ≡ d.calls) × (d.new ≡ d.old)
 
--- a text of the file: all of it; or a part of it, before the lines failed; or the status and the line of a fault that comes
+-- a text of the file: all of it, and one flush; or a part of it, before the lines failed; or the status and the line of a fault that comes
 -- before the text
 abbrev pub TellsText : (Said → List ℕ) → Result ⊤ Fault → Option (List ℕ) → ℕ → Device → Type 0
-TellsText text (Ok x) file status lines = (s : Said) × KnownSaid file s × (status ≡ 0) × IsWell lines × Took lines (text s)
+TellsText text (Ok x) file status lines = (s : Said) × KnownSaid file s × (status ≡ 0) × IsFlushed lines × Took lines (text s)
 TellsText text (Err WriteFailed) file status lines =
     (s : Said) × KnownSaid file s × (status ≡ 4) × IsFailed lines × TookPrefix lines (text s)
 TellsText text (Err fault) file status lines = Stops fault file × TellsFault fault None status lines
@@ -78,16 +78,16 @@ IsPair r first second taken taken_now =
 
 abbrev pub EndsNormalise : Device → Device → Device → Taken → Taken → ℕ → Type 0
 EndsNormalise reader out lines taken taken_now status = (r : Result ℕ Fault) × Normalises r reader.old out.old out.new
-    × CountsReads r reader.failed reader.failed_now × CountsWrites r out.failed out.failed_now
+    × CountsReads r reader.calls reader.calls_now × CountsWrites r out.calls out.calls_now
     × IsRun r reader taken taken_now × TellsWritten r status lines
 
 abbrev pub EndsCheck : Device → Device → Taken → Taken → ℕ → Type 0
 EndsCheck reader lines taken taken_now status = (r : Result BlockKind Fault) × Checks r reader.old
-    × CountsReads r reader.failed reader.failed_now × IsRun r reader taken taken_now × TellsChecked r status lines
+    × CountsReads r reader.calls reader.calls_now × IsRun r reader taken taken_now × TellsChecked r status lines
 
 -- the text of the file
 abbrev pub EndsText : (Said → List ℕ) → Device → Device → Taken → Taken → ℕ → Type 0
-EndsText text reader lines taken taken_now status = (r : Result ⊤ Fault) × CountsReads r reader.failed reader.failed_now
+EndsText text reader lines taken taken_now status = (r : Result ⊤ Fault) × CountsReads r reader.calls reader.calls_now
     × IsRun r reader taken taken_now × TellsText text r reader.old status lines
 
 -- of the reader, the writer of normal bytes and the writer of lines
@@ -99,5 +99,5 @@ Ends Captions reader out lines taken taken_now status = IsIdle out × EndsText c
 
 abbrev pub EndsCompare : Device → Device → Device → Taken → Taken → ℕ → Type 0
 EndsCompare first second lines taken taken_now status = (r : Result Bool CompareFault) × Compares r first.old second.old
-    × CountsSides r first.failed first.failed_now second.failed second.failed_now
+    × CountsSides r first.calls first.calls_now second.calls second.calls_now
     × IsPair r first second taken taken_now × TellsCompared r status lines

@@ -1,8 +1,8 @@
 -- Lines and exit statuses.
-use Rattle.std.specs.Prelude.{◌≡◌, ◌⊎◌, ◌+◌, ◌-◌, ◌==◌, ◌++◌, ℕ, Bool, false, if◌then◌else◌, List, length, slice_get, Option, Some, None}
+use Rattle.std.specs.Prelude.{◌≡◌, ◌⊎◌, ◌-◌, ◌==◌, ◌++◌, ℕ, Bool, false, if◌then◌else◌, List, length, slice_get, Option, Some, None}
 use Rattle.std.specs.Prelude.{codes, decimal}
 use Rattle.std.specs.Io.KnownBytes.{Appends, Keeps}
-use Rattle.px_bytes.specs.Devices.{AppendsPrefix, Device}
+use Rattle.px_bytes.specs.Devices.{AppendsPrefix, Calls, Device, FailsOnce, one_flush}
 use Rattle.px_bytes.specs.Causes.{name_of}
 use Rattle.px_engine.specs.declared.Fault.{Fault}
 use Rattle.px_engine.specs.declared.Fault.TheVariants.{Refused, NormalTooLong, OutOfMemory, ReadFailed, WriteFailed}
@@ -31,13 +31,21 @@ status_of OutOfMemory = 4
 status_of ReadFailed = 4
 status_of WriteFailed = 4
 
--- no call of the device failed
+-- no call of the device failed, and none was a flush
 abbrev pub IsWell : Device → Type 0
-IsWell d = d.failed_now ≡ d.failed
+IsWell d = d.calls_now ≡ d.calls
 
--- one call failed, and no more was made
+-- no call failed, and one was a flush
+abbrev pub IsFlushed : Device → Type 0
+IsFlushed d = d.calls_now ≡ one_flush d.calls
+
+-- one call failed, and no more was made: a write, or the flush
 abbrev pub IsFailed : Device → Type 0
-IsFailed d = d.failed_now ≡ d.failed + 1
+IsFailed d = FailsOnce d.calls d.calls_now
+
+-- no byte came after the flush, if there was one flush and no call failed: `unflushed` is how many came
+abbrev pub FlushesLast : Calls → Calls → ℕ → Type 0
+FlushesLast old new unflushed = new ≡ one_flush old → unflushed ≡ 0
 
 abbrev pub Took : Device → List ℕ → Type 0
 Took d bytes = Appends d.old d.new bytes
@@ -48,10 +56,10 @@ TookPrefix d bytes = AppendsPrefix d.old d.new bytes
 abbrev pub TookNothing : Device → Type 0
 TookNothing d = Keeps d.old d.new
 
--- the given status and line; or, if the writer of lines fails, status 4 and a prefix of the line
+-- the given status and line, which is flushed once; or, if the writer of lines fails, status 4 and a prefix of the line
 abbrev pub Tells : ℕ → List ℕ → ℕ → Device → Type 0
 Tells expected line status lines =
-    ((status ≡ expected) × IsWell lines × Took lines line)
+    ((status ≡ expected) × IsFlushed lines × Took lines line)
     ⊎ ((status ≡ 4) × IsFailed lines × TookPrefix lines line)
 
 -- those of a fault

@@ -5,6 +5,7 @@ ghost use Rattle.px_engine.specs.declared.Fault.TheVariants.{WriteFailed};
 ghost use Rattle.px_engine.specs.Prints.{caption_text, listing};
 ghost use Rattle.px_jobs.specs.Endings.{accepted, compared, compared_status, Ends, EndsCheck, EndsCompare, EndsNormalise, EndsText};
 ghost use Rattle.px_jobs.specs.Endings.{TellsChecked, TellsCompared, TellsWritten};
+ghost use Rattle.px_jobs.specs.Lines.{FlushesLast};
 ghost use Rattle.px_jobs.specs.calls.Telling.{TellsPrinted, TellsBehind};
 ghost use Rattle.px_bytes.specs.Devices.{CanFail, over};
 
@@ -29,8 +30,9 @@ pub enum Job {
 
 // Reports a failed normal form. A written one needs no line.
 fn report_written<L: Sink>(lines: &mut L, written: Result<u64, Fault>) -> u8
-    requires { CanFail (L.failed lines.old) }
-    ensures { TellsWritten written result (over L.failed L.bytes_taken lines.old lines.new) }
+    requires { CanFail (L.calls lines.old) }
+    ensures told { TellsWritten written result (over L.calls L.bytes_taken lines.old lines.new) }
+    ensures last { FlushesLast (L.calls lines.old) (L.calls lines.new) (L.unflushed lines.new) }
 {
     match written {
         Ok(_) => 0,
@@ -50,8 +52,9 @@ fn accepted(kind: BlockKind) -> &'static [u8]
 
 // Reports the kind of a block.
 fn report_checked<L: Sink>(lines: &mut L, checked: Result<BlockKind, Fault>) -> u8
-    requires { CanFail (L.failed lines.old) }
-    ensures { TellsChecked checked result (over L.failed L.bytes_taken lines.old lines.new) }
+    requires { CanFail (L.calls lines.old) }
+    ensures told { TellsChecked checked result (over L.calls L.bytes_taken lines.old lines.new) }
+    ensures last { FlushesLast (L.calls lines.old) (L.calls lines.new) (L.unflushed lines.new) }
 {
     match checked {
         Ok(kind) => say(lines, accepted(kind), 0),
@@ -61,8 +64,10 @@ fn report_checked<L: Sink>(lines: &mut L, checked: Result<BlockKind, Fault>) -> 
 
 // Reports the fault of a text. If the lines failed, it writes no more to them.
 fn report_text_fault<L: Sink>(lines: &mut L, fault: Fault) -> u8
-    requires { fault ≢ WriteFailed → CanFail (L.failed lines.old) }
-    ensures { TellsBehind fault result (over L.failed L.bytes_taken lines.old lines.new) }
+    requires { fault ≢ WriteFailed → CanFail (L.calls lines.old) }
+    ensures told { TellsBehind fault result (over L.calls L.bytes_taken lines.old lines.new) }
+    ensures last { FlushesLast (L.calls lines.old) (L.calls lines.new) (L.unflushed lines.new) }
+    ensures still { L.calls lines.new ≡ L.calls lines.old → lines.new ≡ lines.old }
 {
     if fault == Fault::WriteFailed {
         return 4;
@@ -72,8 +77,10 @@ fn report_text_fault<L: Sink>(lines: &mut L, fault: Fault) -> u8
 
 // Reports a failed text. A written one needs no further line.
 fn report_printed<L: Sink>(lines: &mut L, printed: Result<(), Fault>) -> u8
-    requires { (e : Fault) → printed ≡ Err e → e ≢ WriteFailed → CanFail (L.failed lines.old) }
-    ensures { TellsPrinted printed result (over L.failed L.bytes_taken lines.old lines.new) }
+    requires { (e : Fault) → printed ≡ Err e → e ≢ WriteFailed → CanFail (L.calls lines.old) }
+    ensures told { TellsPrinted printed result (over L.calls L.bytes_taken lines.old lines.new) }
+    ensures last { FlushesLast (L.calls lines.old) (L.calls lines.new) (L.unflushed lines.new) }
+    ensures still { L.calls lines.new ≡ L.calls lines.old → lines.new ≡ lines.old }
 {
     match printed {
         Ok(()) => 0,
@@ -103,8 +110,9 @@ fn compared_status(same: bool) -> u8
 
 // Reports whether two blocks mean the same.
 fn report_compared<L: Sink>(lines: &mut L, same: Result<bool, CompareFault>) -> u8
-    requires { CanFail (L.failed lines.old) }
-    ensures { TellsCompared same result (over L.failed L.bytes_taken lines.old lines.new) }
+    requires { CanFail (L.calls lines.old) }
+    ensures told { TellsCompared same result (over L.calls L.bytes_taken lines.old lines.new) }
+    ensures last { FlushesLast (L.calls lines.old) (L.calls lines.new) (L.unflushed lines.new) }
 {
     match same {
         Ok(same) => say(lines, compared(same), compared_status(same)),
@@ -120,13 +128,15 @@ fn run_normalise<R: Source, O: Sink, L: Sink>(
     out: &mut O,
     lines: &mut L,
 ) -> u8
-    requires reading { CanFail (R.failed reader.old) }
-    requires writing { CanFail (O.failed out.old) }
-    requires telling { CanFail (L.failed lines.old) }
-    ensures { EndsNormalise (over R.failed R.bytes_left reader.old reader.new)
-        (over O.failed O.bytes_taken out.old out.new)
-        (over L.failed L.bytes_taken lines.old lines.new)
+    requires reading { CanFail (R.calls reader.old) }
+    requires writing { CanFail (O.calls out.old) }
+    requires telling { CanFail (L.calls lines.old) }
+    ensures ends { EndsNormalise (over R.calls R.bytes_left reader.old reader.new)
+        (over O.calls O.bytes_taken out.old out.new)
+        (over L.calls L.bytes_taken lines.old lines.new)
         memory.old memory.new result }
+    ensures form_last { FlushesLast (O.calls out.old) (O.calls out.new) (O.unflushed out.new) }
+    ensures last { FlushesLast (L.calls lines.old) (L.calls lines.new) (L.unflushed lines.new) }
 {
     report_written(lines, normalise_in(memory, reader, out))
 }
@@ -134,22 +144,24 @@ fn run_normalise<R: Source, O: Sink, L: Sink>(
 // Reports the kind of the block.
 #[tactic(auto, using(crate::proofs::EndLaws::ends_check))]
 fn run_check<R: Source, L: Sink>(memory: &mut Memory, reader: &mut R, lines: &mut L) -> u8
-    requires reading { CanFail (R.failed reader.old) }
-    requires telling { CanFail (L.failed lines.old) }
-    ensures { EndsCheck (over R.failed R.bytes_left reader.old reader.new)
-        (over L.failed L.bytes_taken lines.old lines.new)
+    requires reading { CanFail (R.calls reader.old) }
+    requires telling { CanFail (L.calls lines.old) }
+    ensures ends { EndsCheck (over R.calls R.bytes_left reader.old reader.new)
+        (over L.calls L.bytes_taken lines.old lines.new)
         memory.old memory.new result }
+    ensures last { FlushesLast (L.calls lines.old) (L.calls lines.new) (L.unflushed lines.new) }
 {
     report_checked(lines, check_in(memory, reader))
 }
 
 // Writes the listing of the block.
 fn run_show<R: Source, L: Sink>(memory: &mut Memory, reader: &mut R, lines: &mut L) -> u8
-    requires reading { CanFail (R.failed reader.old) }
-    requires telling { CanFail (L.failed lines.old) }
-    ensures { EndsText listing (over R.failed R.bytes_left reader.old reader.new)
-        (over L.failed L.bytes_taken lines.old lines.new)
+    requires reading { CanFail (R.calls reader.old) }
+    requires telling { CanFail (L.calls lines.old) }
+    ensures ends { EndsText listing (over R.calls R.bytes_left reader.old reader.new)
+        (over L.calls L.bytes_taken lines.old lines.new)
         memory.old memory.new result }
+    ensures last { FlushesLast (L.calls lines.old) (L.calls lines.new) (L.unflushed lines.new) }
 {
     let printed = show_in(memory, reader, lines);
     report_printed(lines, printed)
@@ -157,11 +169,12 @@ fn run_show<R: Source, L: Sink>(memory: &mut Memory, reader: &mut R, lines: &mut
 
 // Writes the captions of the block.
 fn run_captions<R: Source, L: Sink>(memory: &mut Memory, reader: &mut R, lines: &mut L) -> u8
-    requires reading { CanFail (R.failed reader.old) }
-    requires telling { CanFail (L.failed lines.old) }
-    ensures { EndsText caption_text (over R.failed R.bytes_left reader.old reader.new)
-        (over L.failed L.bytes_taken lines.old lines.new)
+    requires reading { CanFail (R.calls reader.old) }
+    requires telling { CanFail (L.calls lines.old) }
+    ensures ends { EndsText caption_text (over R.calls R.bytes_left reader.old reader.new)
+        (over L.calls L.bytes_taken lines.old lines.new)
         memory.old memory.new result }
+    ensures last { FlushesLast (L.calls lines.old) (L.calls lines.new) (L.unflushed lines.new) }
 {
     let printed = captions_in(memory, reader, lines);
     report_printed(lines, printed)
@@ -182,13 +195,15 @@ pub fn run_one_in<R: Source, O: Sink, L: Sink>(
     out: &mut O,
     lines: &mut L,
 ) -> u8
-    requires reading { CanFail (R.failed reader.old) }
-    requires writing { CanFail (O.failed out.old) }
-    requires telling { CanFail (L.failed lines.old) }
-    ensures { Ends job (over R.failed R.bytes_left reader.old reader.new)
-        (over O.failed O.bytes_taken out.old out.new)
-        (over L.failed L.bytes_taken lines.old lines.new)
+    requires reading { CanFail (R.calls reader.old) }
+    requires writing { CanFail (O.calls out.old) }
+    requires telling { CanFail (L.calls lines.old) }
+    ensures ends { Ends job (over R.calls R.bytes_left reader.old reader.new)
+        (over O.calls O.bytes_taken out.old out.new)
+        (over L.calls L.bytes_taken lines.old lines.new)
         memory.old memory.new result }
+    ensures form_last { FlushesLast (O.calls out.old) (O.calls out.new) (O.unflushed out.new) }
+    ensures last { FlushesLast (L.calls lines.old) (L.calls lines.new) (L.unflushed lines.new) }
 {
     match job {
         Job::Show => run_show(memory, reader, lines),
@@ -208,13 +223,14 @@ pub fn run_compare_in<R: Source, S: Source, L: Sink>(
     second: &mut S,
     lines: &mut L,
 ) -> u8
-    requires first { CanFail (R.failed first.old) }
-    requires second { CanFail (S.failed second.old) }
-    requires telling { CanFail (L.failed lines.old) }
-    ensures { EndsCompare (over R.failed R.bytes_left first.old first.new)
-        (over S.failed S.bytes_left second.old second.new)
-        (over L.failed L.bytes_taken lines.old lines.new)
+    requires first { CanFail (R.calls first.old) }
+    requires second { CanFail (S.calls second.old) }
+    requires telling { CanFail (L.calls lines.old) }
+    ensures ends { EndsCompare (over R.calls R.bytes_left first.old first.new)
+        (over S.calls S.bytes_left second.old second.new)
+        (over L.calls L.bytes_taken lines.old lines.new)
         memory.old memory.new result }
+    ensures last { FlushesLast (L.calls lines.old) (L.calls lines.new) (L.unflushed lines.new) }
 {
     report_compared(lines, compare_in(memory, first, second))
 }

@@ -3,7 +3,7 @@ ghost use Rattle.std.specs.Prelude.{◌≡◌, ◌++◌, None};
 ghost use Rattle.px_bytes.specs.Devices.{CanFail, over, Sends};
 ghost use Rattle.px_bytes.specs.Waiting.{Adds};
 ghost use Rattle.px_engine.specs.declared.Fault.TheVariants.{Refused};
-ghost use Rattle.px_jobs.specs.Lines.{end_of, line_of, status_of, Tells, TellsFault, TellsWords, is_ended};
+ghost use Rattle.px_jobs.specs.Lines.{FlushesLast, end_of, line_of, status_of, Tells, TellsFault, TellsWords, is_ended};
 ghost use Rattle.px_jobs.specs.calls.Flushing.{Flushes};
 
 use itoa::Buffer;
@@ -29,8 +29,8 @@ fn put_refusal<L: Sink>(
     place: u32,
     file: Option<Side>,
 ) -> Result<(), Failed>
-    requires { CanFail (L.failed lines.old) }
-    ensures { Adds result (over L.failed L.bytes_taken lines.old lines.new) pending.old pending.new
+    requires { CanFail (L.calls lines.old) }
+    ensures { Adds result (over L.calls L.bytes_taken lines.old lines.new) pending.old pending.new
         (line_of (Refused cause place) file) }
 {
     let mut digits = Buffer::new();
@@ -48,8 +48,8 @@ fn put_ended<L: Sink>(
     text: &[u8],
     file: Option<Side>,
 ) -> Result<(), Failed>
-    requires { CanFail (L.failed lines.old) }
-    ensures { Adds result (over L.failed L.bytes_taken lines.old lines.new) pending.old pending.new (text.now ++ end_of file) }
+    requires { CanFail (L.calls lines.old) }
+    ensures { Adds result (over L.calls L.bytes_taken lines.old lines.new) pending.old pending.new (text.now ++ end_of file) }
 {
     pending.put(lines, text)?;
     pending.put(lines, ending(file))
@@ -62,8 +62,8 @@ fn put_line<L: Sink>(
     fault: Fault,
     file: Option<Side>,
 ) -> Result<(), Failed>
-    requires { CanFail (L.failed lines.old) }
-    ensures { Adds result (over L.failed L.bytes_taken lines.old lines.new) pending.old pending.new (line_of fault file) }
+    requires { CanFail (L.calls lines.old) }
+    ensures { Adds result (over L.calls L.bytes_taken lines.old lines.new) pending.old pending.new (line_of fault file) }
 {
     match fault {
         Fault::Refused { cause, place } => put_refusal(pending, lines, cause, place, file),
@@ -76,8 +76,8 @@ fn put_line<L: Sink>(
 
 // Writes the line of a fault, in one write if the writer takes it.
 fn write_line<L: Sink>(lines: &mut L, fault: Fault, file: Option<Side>) -> Result<(), Failed>
-    requires { CanFail (L.failed lines.old) }
-    ensures { Sends result (over L.failed L.bytes_taken lines.old lines.new) (line_of fault file) }
+    requires { CanFail (L.calls lines.old) }
+    ensures { Sends result (over L.calls L.bytes_taken lines.old lines.new) (line_of fault file) }
 {
     let mut space = [0; CAPACITY];
     let mut pending = Pending::new(&mut space);
@@ -87,8 +87,8 @@ fn write_line<L: Sink>(lines: &mut L, fault: Fault, file: Option<Side>) -> Resul
 
 // Writes a text and the end of its line, in one write if both are short and the writer takes it.
 fn write_ended<L: Sink>(lines: &mut L, text: &[u8], file: Option<Side>) -> Result<(), Failed>
-    requires { CanFail (L.failed lines.old) }
-    ensures { Sends result (over L.failed L.bytes_taken lines.old lines.new) (text.now ++ end_of file) }
+    requires { CanFail (L.calls lines.old) }
+    ensures { Sends result (over L.calls L.bytes_taken lines.old lines.new) (text.now ++ end_of file) }
 {
     let mut space = [0; CAPACITY];
     let mut pending = Pending::new(&mut space);
@@ -108,8 +108,9 @@ fn status(fault: Fault) -> u8
 
 // Flushes. Returns the exit status: `expected`, or 4 if the flush fails.
 fn flushed<L: Sink>(lines: &mut L, expected: u8) -> u8
-    requires { CanFail (L.failed lines.old) }
-    ensures { Flushes expected result (over L.failed L.bytes_taken lines.old lines.new) }
+    requires { CanFail (L.calls lines.old) }
+    ensures told { Flushes expected result (over L.calls L.bytes_taken lines.old lines.new) }
+    ensures last { FlushesLast (L.calls lines.old) (L.calls lines.new) (L.unflushed lines.new) }
 {
     match lines.flush_all() {
         Ok(()) => expected,
@@ -120,8 +121,9 @@ fn flushed<L: Sink>(lines: &mut L, expected: u8) -> u8
 /// Writes the line of a fault and flushes. Returns the exit status: the fault's, or 4 if a write or the flush
 /// fails. In a comparison, `file` is the side with the fault. It allocates nothing.
 pub fn tell<L: Sink>(lines: &mut L, fault: Fault, file: Option<Side>) -> u8
-    requires { CanFail (L.failed lines.old) }
-    ensures { TellsFault fault file result (over L.failed L.bytes_taken lines.old lines.new) }
+    requires { CanFail (L.calls lines.old) }
+    ensures told { TellsFault fault file result (over L.calls L.bytes_taken lines.old lines.new) }
+    ensures last { FlushesLast (L.calls lines.old) (L.calls lines.new) (L.unflushed lines.new) }
 {
     match write_line(lines, fault, file) {
         Ok(()) => flushed(lines, status(fault)),
@@ -132,8 +134,9 @@ pub fn tell<L: Sink>(lines: &mut L, fault: Fault, file: Option<Side>) -> u8
 /// Writes a line and flushes. Returns the exit status: `expected`, or 4 if a write or the flush fails. It
 /// allocates nothing.
 pub fn say<L: Sink>(lines: &mut L, line: &[u8], expected: u8) -> u8
-    requires { CanFail (L.failed lines.old) }
-    ensures { Tells expected line.now result (over L.failed L.bytes_taken lines.old lines.new) }
+    requires { CanFail (L.calls lines.old) }
+    ensures told { Tells expected line.now result (over L.calls L.bytes_taken lines.old lines.new) }
+    ensures last { FlushesLast (L.calls lines.old) (L.calls lines.new) (L.unflushed lines.new) }
 {
     match write_whole(lines, line) {
         Ok(()) => flushed(lines, expected),
@@ -153,8 +156,9 @@ fn is_ended(text: &[u8]) -> bool
 
 // Writes a text and a line feed, and flushes. Returns the exit status.
 fn print_line<L: Sink>(lines: &mut L, text: &str, expected: u8) -> u8
-    requires { CanFail (L.failed lines.old) }
-    ensures { Tells expected (text.now ++ end_of None) result (over L.failed L.bytes_taken lines.old lines.new) }
+    requires { CanFail (L.calls lines.old) }
+    ensures told { Tells expected (text.now ++ end_of None) result (over L.calls L.bytes_taken lines.old lines.new) }
+    ensures last { FlushesLast (L.calls lines.old) (L.calls lines.new) (L.unflushed lines.new) }
 {
     match write_ended(lines, text.as_bytes(), None) {
         Ok(()) => flushed(lines, expected),
@@ -165,8 +169,9 @@ fn print_line<L: Sink>(lines: &mut L, text: &str, expected: u8) -> u8
 /// Writes a text, adds a line feed if the text doesn't end in one, and flushes. Returns the exit status:
 /// `expected`, or 4 if a write or the flush fails. It allocates nothing.
 pub fn say_text<L: Sink>(lines: &mut L, text: &str, expected: u8) -> u8
-    requires { CanFail (L.failed lines.old) }
-    ensures { TellsWords expected text.now result (over L.failed L.bytes_taken lines.old lines.new) }
+    requires { CanFail (L.calls lines.old) }
+    ensures told { TellsWords expected text.now result (over L.calls L.bytes_taken lines.old lines.new) }
+    ensures last { FlushesLast (L.calls lines.old) (L.calls lines.new) (L.unflushed lines.new) }
 {
     if is_ended(text.as_bytes()) {
         return say(lines, text.as_bytes(), expected);

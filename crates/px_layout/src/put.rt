@@ -20,8 +20,8 @@ pub fn put_short<W: Sink>(
     order: Order,
     n: u16,
 ) -> Result<(), Failed>
-    requires { CanFail (W.failed writer.old) }
-    ensures { AddsTo W.failed W.bytes_taken result writer.old writer.new pending.old pending.new (spelling order 2 n) }
+    requires { CanFail (W.calls writer.old) }
+    ensures { AddsTo W.calls W.bytes_taken result writer.old writer.new pending.old pending.new (spelling order 2 n) }
 {
     let mut bytes = [0; 2];
     order.put16(n, &mut bytes);
@@ -35,8 +35,8 @@ pub fn put_long<W: Sink>(
     order: Order,
     n: u32,
 ) -> Result<(), Failed>
-    requires { CanFail (W.failed writer.old) }
-    ensures { AddsTo W.failed W.bytes_taken result writer.old writer.new pending.old pending.new (long_bytes order n) }
+    requires { CanFail (W.calls writer.old) }
+    ensures { AddsTo W.calls W.bytes_taken result writer.old writer.new pending.old pending.new (long_bytes order n) }
 {
     let mut bytes = [0; 4];
     order.put32(n, &mut bytes);
@@ -51,9 +51,9 @@ pub fn put_filler<W: Sink>(
     filler: u8,
     count: usize,
 ) -> Result<(), Failed>
-    requires few { CanFail (W.failed writer.old) }
+    requires few { CanFail (W.calls writer.old) }
     requires most { count ≤ 4 }
-    ensures { AddsTo W.failed W.bytes_taken result writer.old writer.new pending.old pending.new (replicate count filler) }
+    ensures { AddsTo W.calls W.bytes_taken result writer.old writer.new pending.old pending.new (replicate count filler) }
 {
     if count == 0 {
         return Ok(());
@@ -67,8 +67,8 @@ pub(crate) fn put_padding<W: Sink>(
     writer: &mut W,
     len: u64,
 ) -> Result<(), Failed>
-    requires { CanFail (W.failed writer.old) }
-    ensures { AddsTo W.failed W.bytes_taken result writer.old writer.new pending.old pending.new (replicate (len % 2) 0) }
+    requires { CanFail (W.calls writer.old) }
+    ensures { AddsTo W.calls W.bytes_taken result writer.old writer.new pending.old pending.new (replicate (len % 2) 0) }
 {
     if len % 2 == 0 {
         return Ok(());
@@ -84,9 +84,9 @@ fn put_by_pieces<W: Sink>(
     value: &Value,
     piece: &mut [u8],
 ) -> Result<(), Failed>
-    requires few { CanFail (W.failed writer.old) }
+    requires few { CanFail (W.calls writer.old) }
     requires room { 8 ≤ length piece.old }
-    ensures { AddsTo W.failed W.bytes_taken result writer.old writer.new pending.old pending.new
+    ensures { AddsTo W.calls W.bytes_taken result writer.old writer.new pending.old pending.new
         (flat_map (spell order) value.now.elements) }
 {
     let width = value.width();
@@ -107,9 +107,9 @@ pub(crate) fn put_eight<W: Sink>(
     order: Order,
     value: &Value,
 ) -> Result<(), Failed>
-    requires few { CanFail (W.failed writer.old) }
+    requires few { CanFail (W.calls writer.old) }
     requires spelled { length (spelled order value.now) ≡ 8 }
-    ensures { AddsTo W.failed W.bytes_taken result writer.old writer.new pending.old pending.new (spelled order value.now) }
+    ensures { AddsTo W.calls W.bytes_taken result writer.old writer.new pending.old pending.new (spelled order value.now) }
 {
     pending.put(writer, &value.spell_eight(order))
 }
@@ -150,9 +150,9 @@ fn put_large<W: Sink>(
     order: Order,
     value: &Value,
 ) -> Result<(), Failed>
-    requires few { CanFail (W.failed writer.old) }
+    requires few { CanFail (W.calls writer.old) }
     requires long { ¬ Fits pending.old (spelled order value.now) }
-    ensures { AddsTo W.failed W.bytes_taken result writer.old writer.new pending.old pending.new
+    ensures { AddsTo W.calls W.bytes_taken result writer.old writer.new pending.old pending.new
         (flat_map (spell order) value.now.elements) }
 {
     pending.send(writer)?;
@@ -169,8 +169,8 @@ fn put_elements<W: Sink>(
     order: Order,
     value: &Value,
 ) -> Result<(), Failed>
-    requires { CanFail (W.failed writer.old) }
-    ensures { AddsTo W.failed W.bytes_taken result writer.old writer.new pending.old pending.new
+    requires { CanFail (W.calls writer.old) }
+    ensures { AddsTo W.calls W.bytes_taken result writer.old writer.new pending.old pending.new
         (flat_map (spell order) value.now.elements) }
 {
     let size = value.size();
@@ -192,8 +192,8 @@ pub fn put_value<W: Sink>(
     order: Order,
     value: &Value,
 ) -> Result<(), Failed>
-    requires { CanFail (W.failed writer.old) }
-    ensures { AddsTo W.failed W.bytes_taken result writer.old writer.new pending.old pending.new (spelled order value.now) }
+    requires { CanFail (W.calls writer.old) }
+    ensures { AddsTo W.calls W.bytes_taken result writer.old writer.new pending.old pending.new (spelled order value.now) }
 {
     if let Some(bytes) = value.in_order(order) {
         return pending.put(writer, bytes);

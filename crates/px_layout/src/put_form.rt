@@ -34,12 +34,12 @@ fn put_padded_item<W: Sink>(
     dir: Dir,
     entry: &Entry,
 ) -> Result<(), Failed>
-    requires few { CanFail (W.failed writer.old) }
+    requires few { CanFail (W.calls writer.old) }
     requires form { IsForm form.now }
     requires counted { IsCounted (item_of entry.now.item) }
     requires suits { Suits (role dir entry.now.tag) (item_of entry.now.item) }
     requires tells { TellsAll (said_in form.now) (item_of entry.now.item) }
-    ensures { AddsTo W.failed W.bytes_taken result writer.old writer.new pending.old pending.new
+    ensures { AddsTo W.calls W.bytes_taken result writer.old writer.new pending.old pending.new
         (padded (item_bytes (plan_in form.now) Order.Most 0 (item_of entry.now.item))) }
 {
     let item = entry.item;
@@ -53,8 +53,8 @@ fn put_padded_field<W: Sink>(
     writer: &mut W,
     value: &Value,
 ) -> Result<(), Failed>
-    requires few { CanFail (W.failed writer.old) }
-    ensures { AddsTo W.failed W.bytes_taken result writer.old writer.new pending.old pending.new (padded (spelled Order.Most value.now)) }
+    requires few { CanFail (W.calls writer.old) }
+    ensures { AddsTo W.calls W.bytes_taken result writer.old writer.new pending.old pending.new (padded (spelled Order.Most value.now)) }
 {
     put_value(pending, writer, Order::Most, value)?;
     put_padding(pending, writer, value.size())
@@ -66,8 +66,8 @@ fn put_placed_field<W: Sink>(
     writer: &mut W,
     value: &Value,
 ) -> Result<(), Failed>
-    requires few { CanFail (W.failed writer.old) }
-    ensures { AddsTo W.failed W.bytes_taken result writer.old writer.new pending.old pending.new (field_bytes value.now) }
+    requires few { CanFail (W.calls writer.old) }
+    ensures { AddsTo W.calls W.bytes_taken result writer.old writer.new pending.old pending.new (field_bytes value.now) }
 {
     let size = value.size();
     if size == 8 {
@@ -87,12 +87,12 @@ fn put_any_placed<W: Sink>(
     dir: Dir,
     entry: &Entry,
 ) -> Result<(), Failed>
-    requires few { CanFail (W.failed writer.old) }
+    requires few { CanFail (W.calls writer.old) }
     requires form { IsForm form.now }
     requires counted { IsCounted (item_of entry.now.item) }
     requires suits { Suits (role dir entry.now.tag) (item_of entry.now.item) }
     requires tells { TellsAll (said_in form.now) (item_of entry.now.item) }
-    ensures { AddsTo W.failed W.bytes_taken result writer.old writer.new pending.old pending.new
+    ensures { AddsTo W.calls W.bytes_taken result writer.old writer.new pending.old pending.new
         (placed_bytes (plan_in form.now) (entry_of entry.now)) }
 {
     if needs_place(entry.item.size()) {
@@ -109,12 +109,12 @@ fn put_placed<W: Sink>(
     dir: Dir,
     entry: &Entry,
 ) -> Result<(), Failed>
-    requires few { CanFail (W.failed writer.old) }
+    requires few { CanFail (W.calls writer.old) }
     requires form { IsForm form.now }
     requires counted { IsCounted (item_of entry.now.item) }
     requires suits { Suits (role dir entry.now.tag) (item_of entry.now.item) }
     requires tells { TellsAll (said_in form.now) (item_of entry.now.item) }
-    ensures { AddsTo W.failed W.bytes_taken result writer.old writer.new pending.old pending.new
+    ensures { AddsTo W.calls W.bytes_taken result writer.old writer.new pending.old pending.new
         (placed_bytes (plan_in form.now) (entry_of entry.now)) }
 {
     match entry.item {
@@ -131,11 +131,11 @@ fn put_values<W: Sink>(
     dir: Dir,
     entries: &Entries,
 ) -> Result<(), Failed>
-    requires few { CanFail (W.failed writer.old) }
+    requires few { CanFail (W.calls writer.old) }
     requires form { IsForm form.now }
     requires good { Good dir entries.now }
     requires there { items (said_in form.now) dir ≡ Some entries.now }
-    ensures { AddsTo W.failed W.bytes_taken result writer.old writer.new pending.old pending.new (flat_map
+    ensures { AddsTo W.calls W.bytes_taken result writer.old writer.new pending.old pending.new (flat_map
         (placed_bytes (plan_in form.now)) entries.now) }
 {
     for i in 0..entries.len() {
@@ -153,11 +153,11 @@ fn put_dir<W: Sink>(
     dir: Dir,
     entries: &Entries,
 ) -> Result<(), Failed>
-    requires few { CanFail (W.failed writer.old) }
+    requires few { CanFail (W.calls writer.old) }
     requires form { IsForm form.now }
     requires good { Good dir entries.now }
     requires there { items (said_in form.now) dir ≡ Some entries.now }
-    ensures { AddsTo W.failed W.bytes_taken result writer.old writer.new pending.old pending.new (flat_map
+    ensures { AddsTo W.calls W.bytes_taken result writer.old writer.new pending.old pending.new (flat_map
         (λ c. padded c.1) (contents_of_dir
         (plan_in form.now) Order.Most 0 (said_in form.now) dir (Some entries.now))) }
 {
@@ -173,9 +173,9 @@ fn put_any_dir<W: Sink>(
     form: &NormalForm,
     dir: Dir,
 ) -> Result<(), Failed>
-    requires few { CanFail (W.failed writer.old) }
+    requires few { CanFail (W.calls writer.old) }
     requires form { IsForm form.now }
-    ensures { AddsTo W.failed W.bytes_taken result writer.old writer.new pending.old pending.new (flat_map
+    ensures { AddsTo W.calls W.bytes_taken result writer.old writer.new pending.old pending.new (flat_map
         (λ c. padded c.1) (contents_of_dir (plan_in form.now) Order.Most 0 (said_in form.now) dir
         (items (said_in form.now) dir))) }
 {
@@ -194,9 +194,9 @@ fn put_entries<W: Sink>(
     form: &NormalForm,
     dir: Dir,
 ) -> Result<(), Failed>
-    requires few { CanFail (W.failed writer.old) }
+    requires few { CanFail (W.calls writer.old) }
     requires form { IsForm form.now }
-    ensures { AddsTo W.failed W.bytes_taken result writer.old writer.new pending.old pending.new (flat_map
+    ensures { AddsTo W.calls W.bytes_taken result writer.old writer.new pending.old pending.new (flat_map
         (λ c. padded c.1) (contents_of_dir (plan_in form.now) Order.Most 0 (said_in form.now) dir
         (items (said_in form.now) dir))) }
 {
@@ -212,9 +212,9 @@ fn put_dirs<W: Sink>(
     writer: &mut W,
     form: &NormalForm,
 ) -> Result<(), Failed>
-    requires few { CanFail (W.failed writer.old) }
+    requires few { CanFail (W.calls writer.old) }
     requires form { IsForm form.now }
-    ensures { AddsTo W.failed W.bytes_taken result writer.old writer.new pending.old pending.new (flat_map
+    ensures { AddsTo W.calls W.bytes_taken result writer.old writer.new pending.old pending.new (flat_map
         (λ c. padded c.1) (flat_map
         (λ d. contents_of_dir (plan_in form.now) Order.Most 0 (said_in form.now) d
         (items (said_in form.now) d)) dirs)) }
@@ -231,9 +231,9 @@ fn put_contents<W: Sink>(
     writer: &mut W,
     form: &NormalForm,
 ) -> Result<(), Failed>
-    requires few { CanFail (W.failed writer.old) }
+    requires few { CanFail (W.calls writer.old) }
     requires form { IsForm form.now }
-    ensures { AddsTo W.failed W.bytes_taken result writer.old writer.new pending.old pending.new (flat_map
+    ensures { AddsTo W.calls W.bytes_taken result writer.old writer.new pending.old pending.new (flat_map
         (λ c. padded c.1) (contents (plan_in form.now) Order.Most 0 (said_in form.now))) }
 {
     put_dirs(pending, writer, form)?;
@@ -247,9 +247,9 @@ fn put_block<W: Sink>(
     writer: &mut W,
     form: &NormalForm,
 ) -> Result<(), Failed>
-    requires few { CanFail (W.failed writer.old) }
+    requires few { CanFail (W.calls writer.old) }
     requires form { IsForm form.now }
-    ensures { AddsTo W.failed W.bytes_taken result writer.old writer.new pending.old pending.new (normal_exif (said_in form.now)) }
+    ensures { AddsTo W.calls W.bytes_taken result writer.old writer.new pending.old pending.new (normal_exif (said_in form.now)) }
 {
     put_running_header(pending, writer)?;
     put_contents(pending, writer, form)
@@ -263,9 +263,9 @@ pub fn put_normal<W: Sink>(
     writer: &mut W,
     form: &NormalForm,
 ) -> Result<(), Failed>
-    requires few { CanFail (W.failed writer.old) }
+    requires few { CanFail (W.calls writer.old) }
     requires form { IsForm form.now }
-    ensures bytes { Adds result (over W.failed W.bytes_taken writer.old writer.new) pending.old pending.new
+    ensures bytes { Adds result (over W.calls W.bytes_taken writer.old writer.new) pending.old pending.new
         (normal_exif (said_in form.now)) }
     ensures waits { Waits result writer.old writer.new pending.old pending.new (normal_exif (said_in form.now)) }
 {

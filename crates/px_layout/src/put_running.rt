@@ -99,9 +99,9 @@ fn put_strip_offsets<W: Sink>(
     at: u32,
     strips: &Strips,
 ) -> Result<(), Failed>
-    requires few { CanFail (W.failed writer.old) }
+    requires few { CanFail (W.calls writer.old) }
     requires most { at + strips_size strips.now ≤ limit }
-    ensures { AddsTo W.failed W.bytes_taken result writer.old writer.new pending.old pending.new (flat_map
+    ensures { AddsTo W.calls W.bytes_taken result writer.old writer.new pending.old pending.new (flat_map
         (long_bytes Order.Most) (strip_places at strips.now)) }
 {
     let mut piece = [0; 4 * AT_ONCE];
@@ -123,9 +123,9 @@ fn put_any_offsets<W: Sink>(
     at: u32,
     strips: &Option<Strips>,
 ) -> Result<(), Failed>
-    requires few { CanFail (W.failed writer.old) }
+    requires few { CanFail (W.calls writer.old) }
     requires most { at + strips_size (unwrap_or strips.now []) ≤ limit }
-    ensures { AddsTo W.failed W.bytes_taken result writer.old writer.new pending.old pending.new (flat_map
+    ensures { AddsTo W.calls W.bytes_taken result writer.old writer.new pending.old pending.new (flat_map
         (long_bytes Order.Most) (strip_places at (unwrap_or strips.now []))) }
 {
     match strips {
@@ -140,9 +140,9 @@ fn put_thumbnail_offsets<W: Sink>(
     writer: &mut W,
     form: &NormalForm,
 ) -> Result<(), Failed>
-    requires few { CanFail (W.failed writer.old) }
+    requires few { CanFail (W.calls writer.old) }
     requires form { IsForm form.now }
-    ensures { AddsTo W.failed W.bytes_taken result writer.old writer.new pending.old pending.new (flat_map
+    ensures { AddsTo W.calls W.bytes_taken result writer.old writer.new pending.old pending.new (flat_map
         (long_bytes Order.Most) (strip_places (strips_start (said_in form.now)) (strip_list (said_in form.now).thumb))) }
 {
     match &form.m.thumb {
@@ -159,11 +159,11 @@ pub(crate) fn put_item_value<W: Sink>(
     form: &NormalForm,
     item: Item,
 ) -> Result<(), Failed>
-    requires few { CanFail (W.failed writer.old) }
+    requires few { CanFail (W.calls writer.old) }
     requires form { IsForm form.now }
     requires counted { IsCounted (item_of item) }
     requires tells { TellsAll (said_in form.now) (item_of item) }
-    ensures { AddsTo W.failed W.bytes_taken result writer.old writer.new pending.old pending.new
+    ensures { AddsTo W.calls W.bytes_taken result writer.old writer.new pending.old pending.new
         (item_bytes (plan_in form.now) Order.Most 0 (item_of item.entry)) }
 {
     match item {
@@ -218,8 +218,8 @@ fn put_field_entry<W: Sink>(
     tag: u16,
     value: &Value,
 ) -> Result<(), Failed>
-    requires few { CanFail (W.failed writer.old) }
-    ensures { AddsTo W.failed W.bytes_taken result writer.old writer.new pending.old pending.new (field_given at tag value.now) }
+    requires few { CanFail (W.calls writer.old) }
+    ensures { AddsTo W.calls W.bytes_taken result writer.old writer.new pending.old pending.new (field_given at tag value.now) }
 {
     if needs_place(value.size()) {
         return pending.put(writer, &field_to(at, tag, value));
@@ -234,12 +234,12 @@ fn put_near_entry<W: Sink>(
     form: &NormalForm,
     entry: &Entry,
 ) -> Result<(), Failed>
-    requires few { CanFail (W.failed writer.old) }
+    requires few { CanFail (W.calls writer.old) }
     requires form { IsForm form.now }
     requires counted { IsCounted (item_of entry.now.item) }
     requires tells { TellsAll (said_in form.now) (item_of entry.now.item) }
     requires near { item_size (item_of entry.now.item) ≤ 4 }
-    ensures { AddsTo W.failed W.bytes_taken result writer.old writer.new pending.old pending.new
+    ensures { AddsTo W.calls W.bytes_taken result writer.old writer.new pending.old pending.new
         (near_given (plan_in form.now) (entry_of entry.now)) }
 {
     let size = entry.item.size();
@@ -256,11 +256,11 @@ fn put_any_entry<W: Sink>(
     at: u32,
     entry: Entry,
 ) -> Result<(), Failed>
-    requires few { CanFail (W.failed writer.old) }
+    requires few { CanFail (W.calls writer.old) }
     requires form { IsForm form.now }
     requires counted { IsCounted (item_of entry.item) }
     requires tells { TellsAll (said_in form.now) (item_of entry.item) }
-    ensures { AddsTo W.failed W.bytes_taken result writer.old writer.new pending.old pending.new
+    ensures { AddsTo W.calls W.bytes_taken result writer.old writer.new pending.old pending.new
         (entry_given (plan_in form.now) at (entry_of entry.entry)) }
 {
     if needs_place(entry.item.size()) {
@@ -277,11 +277,11 @@ fn put_given_entry<W: Sink>(
     at: u32,
     entry: &Entry,
 ) -> Result<(), Failed>
-    requires few { CanFail (W.failed writer.old) }
+    requires few { CanFail (W.calls writer.old) }
     requires form { IsForm form.now }
     requires counted { IsCounted (item_of entry.now.item) }
     requires tells { TellsAll (said_in form.now) (item_of entry.now.item) }
-    ensures { AddsTo W.failed W.bytes_taken result writer.old writer.new pending.old pending.new
+    ensures { AddsTo W.calls W.bytes_taken result writer.old writer.new pending.old pending.new
         (entry_given (plan_in form.now) at (entry_of entry.now)) }
 {
     match entry.item {
@@ -311,10 +311,10 @@ fn put_running_entries<W: Sink>(
     dir: Dir,
     entries: &Entries,
 ) -> Result<(), Failed>
-    requires few { CanFail (W.failed writer.old) }
+    requires few { CanFail (W.calls writer.old) }
     requires form { IsForm form.now }
     requires there { items (said_in form.now) dir ≡ Some entries.now }
-    ensures { AddsTo W.failed W.bytes_taken result writer.old writer.new pending.old pending.new (flat_map
+    ensures { AddsTo W.calls W.bytes_taken result writer.old writer.new pending.old pending.new (flat_map
         (entry_bytes (plan_in form.now) Order.Most 0 dir) entries.now) }
 {
     let mut at = start_of(form, dir) + table_len(entries.len()) as u32;
@@ -333,9 +333,9 @@ fn put_running_next<W: Sink>(
     form: &NormalForm,
     dir: Dir,
 ) -> Result<(), Failed>
-    requires few { CanFail (W.failed writer.old) }
+    requires few { CanFail (W.calls writer.old) }
     requires form { IsForm form.now }
-    ensures { AddsTo W.failed W.bytes_taken result writer.old writer.new pending.old pending.new
+    ensures { AddsTo W.calls W.bytes_taken result writer.old writer.new pending.old pending.new
         (next_bytes (plan_in form.now) Order.Most 0 (said_in form.now) dir) }
 {
     match dir {
@@ -351,9 +351,9 @@ fn put_next_of_main<W: Sink>(
     writer: &mut W,
     form: &NormalForm,
 ) -> Result<(), Failed>
-    requires few { CanFail (W.failed writer.old) }
+    requires few { CanFail (W.calls writer.old) }
     requires form { IsForm form.now }
-    ensures { AddsTo W.failed W.bytes_taken result writer.old writer.new pending.old pending.new
+    ensures { AddsTo W.calls W.bytes_taken result writer.old writer.new pending.old pending.new
         (next_bytes (plan_in form.now) Order.Most 0 (said_in form.now) Dir.Main) }
 {
     match &form.m.thumb {
@@ -373,11 +373,11 @@ pub(crate) fn put_running_table<W: Sink>(
     dir: Dir,
     entries: &Entries,
 ) -> Result<(), Failed>
-    requires few { CanFail (W.failed writer.old) }
+    requires few { CanFail (W.calls writer.old) }
     requires form { IsForm form.now }
     requires counted { length entries.now < 2 ^ 16 }
     requires there { items (said_in form.now) dir ≡ Some entries.now }
-    ensures { AddsTo W.failed W.bytes_taken result writer.old writer.new pending.old pending.new
+    ensures { AddsTo W.calls W.bytes_taken result writer.old writer.new pending.old pending.new
         (table_bytes (plan_in form.now) Order.Most 0 (said_in form.now) dir entries.now) }
 {
     put_short(pending, writer, Order::Most, entries.len() as u16)?;
@@ -390,10 +390,10 @@ pub(crate) fn put_running_header<W: Sink>(
     pending: &mut Pending<'_>,
     writer: &mut W,
 ) -> Result<(), Failed>
-    requires few { CanFail (W.failed writer.old) }
+    requires few { CanFail (W.calls writer.old) }
     ensures bytes { (m : said.Meaning) → PutsTo W.bytes_taken result writer.old writer.new pending.old pending.new
         (header (normal_plan m) Order.Most 0) }
-    ensures count { Counts result (W.failed writer.old) (W.failed writer.new) }
+    ensures count { Counts result (W.calls writer.old) (W.calls writer.new) }
 {
     pending.put(writer, &[0x4D, 0x4D, 0, 0x2A, 0, 0, 0, 8])
 }

@@ -73,9 +73,9 @@ fn put_each_length<W: Sink>(
     order: Order,
     strips: &Strips,
 ) -> Result<(), Failed>
-    requires few { CanFail (W.failed writer.old) }
+    requires few { CanFail (W.calls writer.old) }
     requires short { AllByRecursion (λ n. n ≤ limit) (map (λ x. length x) strips.now) }
-    ensures { AddsTo W.failed W.bytes_taken result writer.old writer.new pending.old pending.new (flat_map
+    ensures { AddsTo W.calls W.bytes_taken result writer.old writer.new pending.old pending.new (flat_map
         (long_bytes order) (map (λ x. length x) strips.now)) }
 {
     let mut piece = [0; 4 * AT_ONCE];
@@ -98,9 +98,9 @@ pub fn put_strip_lengths<W: Sink>(
     order: Order,
     strips: &Strips,
 ) -> Result<(), Failed>
-    requires few { CanFail (W.failed writer.old) }
+    requires few { CanFail (W.calls writer.old) }
     requires short { AllByRecursion (λ n. n ≤ limit) (map (λ x. length x) strips.now) }
-    ensures { AddsTo W.failed W.bytes_taken result writer.old writer.new pending.old pending.new (flat_map
+    ensures { AddsTo W.calls W.bytes_taken result writer.old writer.new pending.old pending.new (flat_map
         (long_bytes order) (map (λ x. length x) strips.now)) }
 {
     match strips.long_lengths() {

@@ -1,10 +1,11 @@
 // Writes a normal form to a writer.
-ghost use Rattle.std.specs.Prelude.{◌≡◌, IfErr};
+ghost use Rattle.std.specs.Prelude.{◌≡◌, IfErr, OnOk, length};
 ghost use Rattle.px_bytes.specs.declared.causes.WriteRefusal.TheVariants.{NormalTooLong};
 ghost use Rattle.px_meaning.specs.Fits.{Fits};
 ghost use Rattle.px_meaning.specs.calls.Seen.{meaning_of};
 ghost use Rattle.px_layout.specs.Writing.{WritesExif};
-ghost use Rattle.px_bytes.specs.Devices.{CanFail};
+ghost use Rattle.px_layout.specs.Normal.{normal_exif};
+ghost use Rattle.px_bytes.specs.Devices.{CanFail, IsShort, SendsOnce};
 
 use crate::form::NormalForm;
 use crate::put_form::put_normal;
@@ -24,18 +25,21 @@ use std::alloc::Global;
 /// failed, or the flush, which ends the call; the writer has taken a prefix of the form. `OutOfMemory` never
 /// comes: it allocates nothing and leaves the allocator alone.
 ///
-/// `NormalForm::new` computes the byte offset of each part first. A form of at most 8,192 bytes is one whole
-/// write, since all of it fits into the output buffer (`put_normal`, clause `waits`). A longer form is written
-/// in pieces of up to 8,192 bytes, and a longer value at once.
+/// `NormalForm::new` computes the byte offset of each part first. A form of at most 8,192 bytes is one write if
+/// the writer takes it whole, since all of it fits into the output buffer. A longer form is written in pieces of
+/// up to 8,192 bytes, and a longer value at once.
 pub fn write_normal<W: Sink>(
     _alloc: Global,
     m: &Meaning,
     writer: &mut W,
 ) -> Result<u64, WriteRefusal>
-    requires few { CanFail (W.failed writer.old) }
+    requires few { CanFail (W.calls writer.old) }
     requires fits { Fits (meaning_of m.now) }
-    ensures form { WritesExif result (W.bytes_taken writer.old) (W.bytes_taken writer.new) (W.failed writer.old) (W.failed writer.new)
+    ensures form { WritesExif result (W.bytes_taken writer.old) (W.bytes_taken writer.new) (W.calls writer.old) (W.calls writer.new)
         (meaning_of m.now) }
+    ensures flushed { OnOk result (W.unflushed writer.new ≡ 0) }
+    ensures once { IsShort (length (normal_exif (meaning_of m.now))) → SendsOnce W.wrote W.flushed writer.old writer.new
+        (normal_exif (meaning_of m.now)) }
     ensures untouched { IfErr result (λ e. e ≡ NormalTooLong → writer.new ≡ writer.old) }
 {
     write_normal_in(m, writer)
@@ -43,10 +47,13 @@ pub fn write_normal<W: Sink>(
 
 /// Like `write_normal`, without an allocator.
 pub fn write_normal_in<W: Sink>(m: &Meaning, writer: &mut W) -> Result<u64, WriteRefusal>
-    requires few { CanFail (W.failed writer.old) }
+    requires few { CanFail (W.calls writer.old) }
     requires fits { Fits (meaning_of m.now) }
-    ensures form { WritesExif result (W.bytes_taken writer.old) (W.bytes_taken writer.new) (W.failed writer.old) (W.failed writer.new)
+    ensures form { WritesExif result (W.bytes_taken writer.old) (W.bytes_taken writer.new) (W.calls writer.old) (W.calls writer.new)
         (meaning_of m.now) }
+    ensures flushed { OnOk result (W.unflushed writer.new ≡ 0) }
+    ensures once { IsShort (length (normal_exif (meaning_of m.now))) → SendsOnce W.wrote W.flushed writer.old writer.new
+        (normal_exif (meaning_of m.now)) }
     ensures untouched { IfErr result (λ e. e ≡ NormalTooLong → writer.new ≡ writer.old) }
 {
     let form = NormalForm::new(m)?;

@@ -49,9 +49,9 @@ fn put_piece<W: Sink>(
     layout: &Layout,
     piece: Piece,
 ) -> Result<(), Failed>
-    requires few { CanFail (W.failed writer.old) }
+    requires few { CanFail (W.calls writer.old) }
     requires piece { IsPiece piece }
-    ensures { AddsTo W.failed W.bytes_taken result writer.old writer.new pending.old pending.new (piece_bytes layout.now piece.entry) }
+    ensures { AddsTo W.calls W.bytes_taken result writer.old writer.new pending.old pending.new (piece_bytes layout.now piece.entry) }
 {
     match piece {
         Piece::Header => put_header(pending, writer, layout),
@@ -61,10 +61,10 @@ fn put_piece<W: Sink>(
 }
 
 fn write_piece<W: Sink>(writer: &mut W, layout: &Layout, piece: Piece) -> Result<(), Failed>
-    requires few { CanFail (W.failed writer.old) }
+    requires few { CanFail (W.calls writer.old) }
     requires piece { IsPiece piece }
     ensures bytes { OnOk result (Appends (W.bytes_taken writer.old) (W.bytes_taken writer.new) (piece_bytes layout.now piece.entry)) }
-    ensures count { Counts result (W.failed writer.old) (W.failed writer.new) }
+    ensures count { Counts result (W.calls writer.old) (W.calls writer.new) }
 {
     let mut space = [0; CAPACITY];
     let mut pending = Pending::new(&mut space);

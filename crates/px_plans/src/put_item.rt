@@ -33,8 +33,8 @@ pub(crate) fn put_place<W: Sink>(
     layout: &Layout,
     chunk: Chunk,
 ) -> Result<(), Failed>
-    requires { CanFail (W.failed writer.old) }
-    ensures { AddsTo W.failed W.bytes_taken result writer.old writer.new pending.old pending.new
+    requires { CanFail (W.calls writer.old) }
+    ensures { AddsTo W.calls W.bytes_taken result writer.old writer.new pending.old pending.new
         (long_bytes layout.now.order (place (said_plan layout.now) chunk)) }
 {
     put_long(pending, writer, layout.order, place_of(layout.plan, chunk))
@@ -47,8 +47,8 @@ fn put_strip_offsets<W: Sink>(
     layout: &Layout,
     count: u32,
 ) -> Result<(), Failed>
-    requires { CanFail (W.failed writer.old) }
-    ensures { AddsTo W.failed W.bytes_taken result writer.old writer.new pending.old pending.new (flat_map
+    requires { CanFail (W.calls writer.old) }
+    ensures { AddsTo W.calls W.bytes_taken result writer.old writer.new pending.old pending.new (flat_map
         (λ i. long_bytes layout.now.order (place (said_plan layout.now) (Chunk.Strip i))) (range_with_len 0 count)) }
 {
     for i in 0..count {
@@ -65,9 +65,9 @@ pub(crate) fn put_item<W: Sink>(
     layout: &Layout,
     item: Item,
 ) -> Result<(), Failed>
-    requires few { CanFail (W.failed writer.old) }
+    requires few { CanFail (W.calls writer.old) }
     requires counted { IsCounted (item_of item) }
-    ensures { AddsTo W.failed W.bytes_taken result writer.old writer.new pending.old pending.new (item_in layout.now (item_of item.entry)) }
+    ensures { AddsTo W.calls W.bytes_taken result writer.old writer.new pending.old pending.new (item_in layout.now (item_of item.entry)) }
 {
     match item {
         Item::Field(value) => put_value(pending, writer, layout.order, value),
@@ -91,9 +91,9 @@ fn put_last<W: Sink>(
     dir: Dir,
     entry: &Entry,
 ) -> Result<(), Failed>
-    requires few { CanFail (W.failed writer.old) }
+    requires few { CanFail (W.calls writer.old) }
     requires counted { IsCounted (item_of entry.now.item) }
-    ensures { AddsTo W.failed W.bytes_taken result writer.old writer.new pending.old pending.new
+    ensures { AddsTo W.calls W.bytes_taken result writer.old writer.new pending.old pending.new
         (last_in layout.now dir (entry_of entry.now)) }
 {
     let Entry { tag, item } = *entry;
@@ -113,9 +113,9 @@ pub(crate) fn put_entry<W: Sink>(
     dir: Dir,
     entry: &Entry,
 ) -> Result<(), Failed>
-    requires few { CanFail (W.failed writer.old) }
+    requires few { CanFail (W.calls writer.old) }
     requires counted { IsCounted (item_of entry.now.item) }
-    ensures { AddsTo W.failed W.bytes_taken result writer.old writer.new pending.old pending.new
+    ensures { AddsTo W.calls W.bytes_taken result writer.old writer.new pending.old pending.new
         (entry_in layout.now dir (entry_of entry.now)) }
 {
     pending.put(writer, &entry_head(layout.order, entry))?;

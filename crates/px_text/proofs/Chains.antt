@@ -1,9 +1,9 @@
 -- Parts added one after another, by calls that may fail.
-use Rattle.std.proofs.Common.{◌≡◌, ◌≤◌, ◌+◌, ◌++◌, ◌∙◌, ℕ, List, [], ◌∷◌, length, take, Option, Result, sym, ap, subst, append_assoc}
+use Rattle.std.proofs.Common.{◌≡◌, ◌≤◌, ◌++◌, ◌∙◌, ℕ, List, [], ◌∷◌, length, take, Option, Result, sym, ap, subst, append_assoc}
 use Rattle.std.specs.List.{flat_map}
 use Rattle.std.proofs.lemmas.List.{take_all}
 use Rattle.std.proofs.KnownBytes.{Appends-nil}
-use Rattle.px_bytes.specs.Devices.{AppendsPrefix, CanFail, Counts}
+use Rattle.px_bytes.specs.Devices.{AppendsPrefix, Calls, CanFail, Counts, one_failed}
 use Rattle.px_bytes.specs.Waiting.{Held, ◌⊕◌, Owes, Puts}
 use Rattle.px_bytes.specs.lemmas.WriteLaws.{prefix_first}
 use Rattle.px_bytes.specs.lemmas.WaitingLaws.{owes_more, owes_stop, held_append, held_nil}
@@ -33,14 +33,14 @@ owes_as a b h k xs ys e p = subst (λ (z : List ℕ). Owes a b k (h ⊕ z)) e p
 
 -- ---- the count of failures, if none was counted so far
 
-pub can_fail : (old now : ℕ) → now ≡ old → CanFail old → CanFail now
+pub can_fail : (old now : Calls) → now ≡ old → CanFail old → CanFail now
 can_fail old now e h = subst CanFail (sym e) h
 
-pub failures_suc : (old now new : ℕ) → now ≡ old → new ≡ now + 1 → new ≡ old + 1
-failures_suc old now new e h = h ∙ ap (λ (n : ℕ). n + 1) e
+pub failures_suc : (old now new : Calls) → now ≡ old → new ≡ one_failed now → new ≡ one_failed old
+failures_suc old now new e h = h ∙ ap one_failed e
 
-pub counts_from_eq : {A E : Type 0} (r : Result A E) (old now new : ℕ) → now ≡ old → Counts r now new → Counts r old new
-counts_from_eq r old now new e h = subst (λ (n : ℕ). Counts r n new) e h
+pub counts_from_eq : {A E : Type 0} (r : Result A E) (old now new : Calls) → now ≡ old → Counts r now new → Counts r old new
+counts_from_eq r old now new e h = subst (λ (n : Calls). Counts r n new) e h
 
 -- ---- a walk: the parts of the elements that are left make the rest
 

@@ -25,8 +25,8 @@ fn is_plain(byte: u8) -> bool
 }
 
 fn put_byte<W: Sink>(pending: &mut Pending<'_>, writer: &mut W, byte: u8) -> Result<(), Failed>
-    requires { CanFail (W.failed writer.old) }
-    ensures { Adds result (over W.failed W.bytes_taken writer.old writer.new) pending.old pending.new (escaped_byte byte) }
+    requires { CanFail (W.calls writer.old) }
+    ensures { Adds result (over W.calls W.bytes_taken writer.old writer.new) pending.old pending.new (escaped_byte byte) }
 {
     if is_plain(byte) {
         return pending.put(writer, &[byte]);
@@ -41,8 +41,8 @@ fn put_escaped<W: Sink>(
     writer: &mut W,
     bytes: &[u8],
 ) -> Result<(), Failed>
-    requires { CanFail (W.failed writer.old) }
-    ensures { Adds result (over W.failed W.bytes_taken writer.old writer.new) pending.old pending.new (escaped bytes.now) }
+    requires { CanFail (W.calls writer.old) }
+    ensures { Adds result (over W.calls W.bytes_taken writer.old writer.new) pending.old pending.new (escaped bytes.now) }
 {
     for i in 0..bytes.len() {
         put_byte(pending, writer, bytes[i])?;
@@ -56,8 +56,8 @@ fn put_line<W: Sink>(
     writer: &mut W,
     caption: Caption,
 ) -> Result<(), Failed>
-    requires { CanFail (W.failed writer.old) }
-    ensures { Adds result (over W.failed W.bytes_taken writer.old writer.new) pending.old pending.new
+    requires { CanFail (W.calls writer.old) }
+    ensures { Adds result (over W.calls W.bytes_taken writer.old writer.new) pending.old pending.new
         (caption_line (caption_view caption.entry)) }
 {
     pending.put(writer, label_word(caption.label))?;
@@ -67,8 +67,8 @@ fn put_line<W: Sink>(
 
 // Adds the line of a DataSet if it has a label.
 fn put_item<W: Sink>(pending: &mut Pending<'_>, writer: &mut W, item: &Item) -> Result<(), Failed>
-    requires { CanFail (W.failed writer.old) }
-    ensures { Adds result (over W.failed W.bytes_taken writer.old writer.new) pending.old pending.new
+    requires { CanFail (W.calls writer.old) }
+    ensures { Adds result (over W.calls W.bytes_taken writer.old writer.new) pending.old pending.new
         (caption_lines (filter_map labelled (item_view item.now ∷ []))) }
 {
     match label_of(item.number) {
@@ -90,8 +90,8 @@ fn put_group<W: Sink>(
     writer: &mut W,
     items: &[Item],
 ) -> Result<(), Failed>
-    requires { CanFail (W.failed writer.old) }
-    ensures { Adds result (over W.failed W.bytes_taken writer.old writer.new) pending.old pending.new
+    requires { CanFail (W.calls writer.old) }
+    ensures { Adds result (over W.calls W.bytes_taken writer.old writer.new) pending.old pending.new
         (caption_lines (filter_map labelled (map item_view items.now))) }
 {
     for item in items {
@@ -102,8 +102,8 @@ fn put_group<W: Sink>(
 
 // Adds the lines of a record's captions.
 fn put_groups<W: Sink>(pending: &mut Pending<'_>, writer: &mut W, iim: &Iim) -> Result<(), Failed>
-    requires { CanFail (W.failed writer.old) }
-    ensures { Adds result (over W.failed W.bytes_taken writer.old writer.new) pending.old pending.new
+    requires { CanFail (W.calls writer.old) }
+    ensures { Adds result (over W.calls W.bytes_taken writer.old writer.new) pending.old pending.new
         (caption_lines (iim_captions iim.now)) }
 {
     for i in 0..GROUPS.len() {
@@ -125,8 +125,8 @@ fn charset_line(declared: bool) -> &'static [u8]
 
 // Adds the lines of a record.
 fn put_iim<W: Sink>(pending: &mut Pending<'_>, writer: &mut W, iim: &Iim) -> Result<(), Failed>
-    requires { CanFail (W.failed writer.old) }
-    ensures { Adds result (over W.failed W.bytes_taken writer.old writer.new) pending.old pending.new (iim_lines iim.now) }
+    requires { CanFail (W.calls writer.old) }
+    ensures { Adds result (over W.calls W.bytes_taken writer.old writer.new) pending.old pending.new (iim_lines iim.now) }
 {
     pending.put(writer, charset_line(declares_utf8(iim)))?;
     put_groups(pending, writer, iim)
@@ -138,8 +138,8 @@ fn put_record<W: Sink>(
     writer: &mut W,
     iim: &Option<Iim>,
 ) -> Result<(), Failed>
-    requires { CanFail (W.failed writer.old) }
-    ensures { Adds result (over W.failed W.bytes_taken writer.old writer.new) pending.old pending.new (record_lines iim.now) }
+    requires { CanFail (W.calls writer.old) }
+    ensures { Adds result (over W.calls W.bytes_taken writer.old writer.new) pending.old pending.new (record_lines iim.now) }
 {
     match iim {
         Some(iim) => put_iim(pending, writer, iim),
@@ -155,8 +155,8 @@ fn put_text<W: Sink>(
     tag: u16,
     label: Label,
 ) -> Result<(), Failed>
-    requires { CanFail (W.failed writer.old) }
-    ensures { Adds result (over W.failed W.bytes_taken writer.old writer.new) pending.old pending.new
+    requires { CanFail (W.calls writer.old) }
+    ensures { Adds result (over W.calls W.bytes_taken writer.old writer.new) pending.old pending.new
         (caption_lines (text_captions label (at_tag tag fields.now))) }
 {
     let Some(value) = fields.get(tag) else {
@@ -174,8 +174,8 @@ fn put_texts<W: Sink>(
     writer: &mut W,
     fields: &Fields,
 ) -> Result<(), Failed>
-    requires { CanFail (W.failed writer.old) }
-    ensures { Adds result (over W.failed W.bytes_taken writer.old writer.new) pending.old pending.new
+    requires { CanFail (W.calls writer.old) }
+    ensures { Adds result (over W.calls W.bytes_taken writer.old writer.new) pending.old pending.new
         (caption_lines (exif_captions fields.now)) }
 {
     for i in 0..TEXTS.len() {
@@ -194,8 +194,8 @@ pub fn put_exif_captions<W: Sink>(
     writer: &mut W,
     meaning: &Meaning,
 ) -> Result<(), Failed>
-    requires { CanFail (W.failed writer.old) }
-    ensures { Adds result (over W.failed W.bytes_taken writer.old writer.new) pending.old pending.new
+    requires { CanFail (W.calls writer.old) }
+    ensures { Adds result (over W.calls W.bytes_taken writer.old writer.new) pending.old pending.new
         (exif_text (meaning_of meaning.now)) }
 {
     pending.put(writer, b"exif\n")?;
@@ -209,8 +209,8 @@ pub fn put_iim_captions<W: Sink>(
     writer: &mut W,
     iim: &Iim,
 ) -> Result<(), Failed>
-    requires { CanFail (W.failed writer.old) }
-    ensures { Adds result (over W.failed W.bytes_taken writer.old writer.new) pending.old pending.new (iim_text iim.now) }
+    requires { CanFail (W.calls writer.old) }
+    ensures { Adds result (over W.calls W.bytes_taken writer.old writer.new) pending.old pending.new (iim_text iim.now) }
 {
     pending.put(writer, b"iim\n")?;
     put_iim(pending, writer, iim)

@@ -20,8 +20,8 @@ fn put_record<W: Sink>(
     writer: &mut W,
     iim: &Option<Iim>,
 ) -> Result<(), Failed>
-    requires { CanFail (W.failed writer.old) }
-    ensures { Adds result (over W.failed W.bytes_taken writer.old writer.new) pending.old pending.new (record_lines iim.now) }
+    requires { CanFail (W.calls writer.old) }
+    ensures { Adds result (over W.calls W.bytes_taken writer.old writer.new) pending.old pending.new (record_lines iim.now) }
 {
     let Some(iim) = iim else {
         return Ok(());
@@ -37,8 +37,8 @@ fn put_titled<W: Sink>(
     name: &[u8],
     fields: &Fields,
 ) -> Result<(), Failed>
-    requires { CanFail (W.failed writer.old) }
-    ensures { Adds result (over W.failed W.bytes_taken writer.old writer.new) pending.old pending.new
+    requires { CanFail (W.calls writer.old) }
+    ensures { Adds result (over W.calls W.bytes_taken writer.old writer.new) pending.old pending.new
         (name.now ++ field_lines fields.now) }
 {
     pending.put(writer, name)?;
@@ -52,8 +52,8 @@ fn put_directory<W: Sink>(
     name: &[u8],
     fields: &Option<Fields>,
 ) -> Result<(), Failed>
-    requires { CanFail (W.failed writer.old) }
-    ensures { Adds result (over W.failed W.bytes_taken writer.old writer.new) pending.old pending.new
+    requires { CanFail (W.calls writer.old) }
+    ensures { Adds result (over W.calls W.bytes_taken writer.old writer.new) pending.old pending.new
         (directory_lines name.now fields.now) }
 {
     match fields {
@@ -67,8 +67,8 @@ fn put_exif<W: Sink>(
     writer: &mut W,
     exif: &Option<ExifPart>,
 ) -> Result<(), Failed>
-    requires { CanFail (W.failed writer.old) }
-    ensures { Adds result (over W.failed W.bytes_taken writer.old writer.new) pending.old pending.new
+    requires { CanFail (W.calls writer.old) }
+    ensures { Adds result (over W.calls W.bytes_taken writer.old writer.new) pending.old pending.new
         (exif_lines (option_map exif_of exif.now)) }
 {
     let Some(exif) = exif else {
@@ -85,8 +85,8 @@ fn put_part<W: Sink>(
     word: &[u8],
     bytes: &[u8],
 ) -> Result<(), Failed>
-    requires { CanFail (W.failed writer.old) }
-    ensures { Adds result (over W.failed W.bytes_taken writer.old writer.new) pending.old pending.new
+    requires { CanFail (W.calls writer.old) }
+    ensures { Adds result (over W.calls W.bytes_taken writer.old writer.new) pending.old pending.new
         (word.now ++ sized_bytes bytes.now) }
 {
     pending.put(writer, word)?;
@@ -98,8 +98,8 @@ fn put_jpeg<W: Sink>(
     writer: &mut W,
     jpeg: Option<&[u8]>,
 ) -> Result<(), Failed>
-    requires { CanFail (W.failed writer.old) }
-    ensures { Adds result (over W.failed W.bytes_taken writer.old writer.new) pending.old pending.new
+    requires { CanFail (W.calls writer.old) }
+    ensures { Adds result (over W.calls W.bytes_taken writer.old writer.new) pending.old pending.new
         (jpeg_lines (option_map (λ x. x.now) jpeg.entry)) }
 {
     match jpeg {
@@ -113,8 +113,8 @@ fn put_each_strip<W: Sink>(
     writer: &mut W,
     strips: &Strips,
 ) -> Result<(), Failed>
-    requires { CanFail (W.failed writer.old) }
-    ensures { Adds result (over W.failed W.bytes_taken writer.old writer.new) pending.old pending.new
+    requires { CanFail (W.calls writer.old) }
+    ensures { Adds result (over W.calls W.bytes_taken writer.old writer.new) pending.old pending.new
         (flat_map strip_line strips.now) }
 {
     for i in 0..strips.len() {
@@ -129,8 +129,8 @@ fn put_strips<W: Sink>(
     writer: &mut W,
     strips: &Option<Strips>,
 ) -> Result<(), Failed>
-    requires { CanFail (W.failed writer.old) }
-    ensures { Adds result (over W.failed W.bytes_taken writer.old writer.new) pending.old pending.new (strips_lines strips.now) }
+    requires { CanFail (W.calls writer.old) }
+    ensures { Adds result (over W.calls W.bytes_taken writer.old writer.new) pending.old pending.new (strips_lines strips.now) }
 {
     let Some(strips) = strips else {
         return Ok(());
@@ -144,8 +144,8 @@ fn put_thumb<W: Sink>(
     writer: &mut W,
     thumb: &Option<Thumb>,
 ) -> Result<(), Failed>
-    requires { CanFail (W.failed writer.old) }
-    ensures { Adds result (over W.failed W.bytes_taken writer.old writer.new) pending.old pending.new
+    requires { CanFail (W.calls writer.old) }
+    ensures { Adds result (over W.calls W.bytes_taken writer.old writer.new) pending.old pending.new
         (thumb_lines (option_map thumb_of thumb.now)) }
 {
     let Some(thumb) = thumb else {
@@ -163,8 +163,8 @@ fn put_main<W: Sink>(
     fields: &Fields,
     iim: &Option<Iim>,
 ) -> Result<(), Failed>
-    requires { CanFail (W.failed writer.old) }
-    ensures { Adds result (over W.failed W.bytes_taken writer.old writer.new) pending.old pending.new
+    requires { CanFail (W.calls writer.old) }
+    ensures { Adds result (over W.calls W.bytes_taken writer.old writer.new) pending.old pending.new
         (codes "exif\n[main]\n" ++ field_lines fields.now ++ record_lines iim.now) }
 {
     put_titled(pending, writer, b"exif\n[main]\n", fields)?;
@@ -180,8 +180,8 @@ pub fn put_exif_listing<W: Sink>(
     writer: &mut W,
     meaning: &Meaning,
 ) -> Result<(), Failed>
-    requires { CanFail (W.failed writer.old) }
-    ensures { Adds result (over W.failed W.bytes_taken writer.old writer.new) pending.old pending.new
+    requires { CanFail (W.calls writer.old) }
+    ensures { Adds result (over W.calls W.bytes_taken writer.old writer.new) pending.old pending.new
         (exif_listing (meaning_of meaning.now)) }
 {
     put_main(pending, writer, &meaning.main, &meaning.iptc)?;
@@ -197,8 +197,8 @@ pub fn put_iim_listing<W: Sink>(
     writer: &mut W,
     iim: &Iim,
 ) -> Result<(), Failed>
-    requires { CanFail (W.failed writer.old) }
-    ensures { Adds result (over W.failed W.bytes_taken writer.old writer.new) pending.old pending.new (iim_listing iim.now) }
+    requires { CanFail (W.calls writer.old) }
+    ensures { Adds result (over W.calls W.bytes_taken writer.old writer.new) pending.old pending.new (iim_listing iim.now) }
 {
     pending.put(writer, b"iim\n")?;
     put_datasets(pending, writer, iim)

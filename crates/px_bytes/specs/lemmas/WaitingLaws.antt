@@ -1,5 +1,6 @@
 -- Parts added to an output buffer, one after another.
-use Rattle.std.proofs.Common.{◌≡◌, ℕ, ◌+◌, ◌<◌, ◌++◌, List, [], ◌∷◌, length, take, drop, get_or, slice_get, Option, Some, Result, Ok, Err}
+use Rattle.std.proofs.Common.{◌≡◌, ℕ, ◌+◌, ◌<◌, ◌≤◌, ◌++◌, List, [], ◌∷◌, length, take, drop, get_or}
+use Rattle.std.proofs.Common.{slice_get, Option, Some, Result, Ok, Err}
 use Rattle.std.proofs.Common.{refl, sym, ap, ◌∙◌, subst, arith, append_assoc, append-nil, length-append}
 use Rattle.std.proofs.KnownBytes.{Appends-nil}
 use Rattle.std.specs.List.{flat_map}
@@ -7,7 +8,7 @@ use Rattle.std.specs.Io.KnownBytes.{Appends}
 use Rattle.std.proofs.lemmas.List.{take_more, flat_map_more, drop_more, take-append-drop}
 use Rattle.std.proofs.lemmas.List.Concat.{flat_map-append}
 use Rattle.std.proofs.lemmas.Option.{slice_get_within, get_or_from_slice_get}
-use Rattle.px_bytes.specs.Devices.{AppendsPrefix, Writes}
+use Rattle.px_bytes.specs.Devices.{AppendsPrefix, Writes, WritesOnce}
 use Rattle.px_bytes.specs.lemmas.WriteLaws.{appends_both, prefix_first, prefix_second}
 use Rattle.px_bytes.specs.Waiting.{Held, ◌⊕◌, Owes, Puts, Fits, PutsTo, Waits}
 
@@ -92,6 +93,21 @@ pub owes_written : {A E : Type 0} (r : Result A E) (a b c : Option (List ℕ)) (
     → none.bytes ≡ [] → Owes a b held (none ⊕ out) → Writes r b c held.bytes → Writes r a c out
 owes_written (Ok x) a b c none held out e p q = from_none (Appends a c) none.bytes out e (owed_all a b c held (none ⊕ out) p q)
 owes_written (Err x) a b c none held out e p q = from_none (AppendsPrefix a c) none.bytes out e (owed_prefix a b c held (none ⊕ out) p q)
+
+-- ---- a short form, in one write
+
+-- it fits into an empty buffer
+pub fits_new : (h : Held) (form : List ℕ) → h.bytes ≡ [] → h.room ≡ 8192 → length form ≤ 8192 → Fits h form
+fits_new h form none room short = omega (arith, ap (λ (xs : List ℕ). length xs) none, room, short)
+
+-- the buffer was empty and the form was put into it, which called nothing; then the buffered bytes were written
+pub sent_once : {E W : Type 0} (wrote : W → List ℕ → Result ℕ E → W → Type 0) (h k : Held) (form : List ℕ) (old put sent : W)
+    → h.bytes ≡ [] → k ≡ h ⊕ form → put ≡ old → 0 < length form → (0 < length k.bytes → WritesOnce wrote put sent k.bytes)
+    → WritesOnce wrote old sent form
+sent_once {E} {W} wrote h k form old put sent none held same some once =
+    let all : k.bytes ≡ form = ap (λ (z : Held). z.bytes) held ∙ ap (λ (xs : List ℕ). xs ++ form) none in
+    let full : 0 < length k.bytes = subst (λ (xs : List ℕ). 0 < length xs) (sym all) some in
+    subst (λ (w : W). WritesOnce wrote w sent form) same (subst (λ (xs : List ℕ). WritesOnce wrote put sent xs) all (once full))
 
 -- ---- the parts of a list's elements
 

@@ -1,5 +1,6 @@
 -- Forms that are put into the caller's buffer, and the writer that puts them there.
 use Rattle.std.specs.Prelude.{◌≡◌, ◌<◌, ◌≤◌, ℕ, List, ◌∷◌, length, take, nat_lt, if◌then◌else◌, Option, Some, None}
+use Rattle.px_bytes.specs.Devices.{Calls}
 use Rattle.px_bytes.specs.Parts.{limit}
 use Rattle.px_engine.specs.declared.filling.Filling.{Filling}
 use Rattle.px_engine.specs.declared.forms.Given.{Given}
@@ -13,6 +14,10 @@ told_in f = f.room.ghost_name ∷ length f.room.now ∷ take f.held f.room.now
 -- how many calls have found the slice full: none if it isn't full
 abbrev pub refused_in : Filling → ℕ
 refused_in f = if nat_lt f.held (length f.room.now) then 0 else f.refusals
+
+-- those, and how many calls were flushes
+abbrev pub calls_in : Filling → Calls
+calls_in f = record { failed = refused_in f; flushes = f.flushes.count }
 
 -- a form that is no longer than the limit is put; a longer one isn't, and the buffer is unchanged
 abbrev pub PutsShort : Option Given → List ℕ → List ℕ → List ℕ → Type 0

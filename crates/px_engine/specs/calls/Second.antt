@@ -1,5 +1,6 @@
 -- What reading and judging the second of two files returns, if s is the meaning of the first.
 use Rattle.std.specs.Prelude.{◌≡◌, ◌↔◌, ℕ, Bool, IsTrue, List, Option, Result, Ok, Err}
+use Rattle.px_bytes.specs.Devices.{Calls}
 use Rattle.px_engine.specs.declared.faults.CompareFault.{CompareFault}
 use Rattle.px_engine.specs.declared.faults.Side.TheVariants.{Second}
 use Rattle.px_engine.specs.Files.{Said}
@@ -12,7 +13,7 @@ ComparesSecond (Ok same) s second = (t : Said) × KnownSaid second t × (IsTrue 
 ComparesSecond (Err e) s second = (e.side ≡ Second) × Stops e.fault second
 
 -- the fault is a failed read exactly if the count of its reader rose
-abbrev pub CountsSecond : {A : Type 0} → Result A CompareFault → ℕ → ℕ → Type 0
+abbrev pub CountsSecond : {A : Type 0} → Result A CompareFault → Calls → Calls → Type 0
 CountsSecond (Ok x) second second_now = second_now ≡ second
 CountsSecond (Err e) second second_now = CountsFault e.fault second second_now
 

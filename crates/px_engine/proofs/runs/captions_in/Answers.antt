@@ -12,7 +12,7 @@ use Rattle.px_engine.proofs.runs.captions_in.Goals as goal
 pub returns-clause-done : goal.returns-clause-done
 returns-clause-done g c = writes_text_prints caption_text c.write_captions-done.result _ _ c.deref.result.now
     (said_of c.in_ok-said.said) _ _ _ _
-    (read_as _ _ _ _ c.deref.ensures.value c.in_ok-file.ensures.found) c.in_ok-said.ensures.said c.write_captions-done.ensures
+    (read_as _ _ _ _ c.deref.ensures.value c.in_ok-file.ensures.found) c.in_ok-said.ensures.said c.write_captions-done.ensures.text
 
 pub returns-in_err-said-clause-done : goal.returns-in_err-said-clause-done
 returns-in_err-said-clause-done g c =
@@ -23,7 +23,7 @@ returns-in_err-said-clause-done g c =
 pub returns-clause-memory : goal.returns-clause-memory
 returns-clause-memory g c =
     lacks_no_text c.write_captions-done.result _ _ _ _ _ _ _ (c.in_ok-said.ensures.memory ∙ c.in_ok-file.ensures.memory)
-    c.write_captions-done.ensures
+    c.write_captions-done.ensures.text
 
 pub returns-in_err-said-clause-memory : goal.returns-in_err-said-clause-memory
 returns-in_err-said-clause-memory g c =

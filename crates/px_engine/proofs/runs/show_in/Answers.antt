@@ -11,7 +11,7 @@ use Rattle.px_engine.proofs.runs.show_in.Goals as goal
 
 pub returns-clause-done : goal.returns-clause-done
 returns-clause-done g c = writes_text_prints listing c.write_listing-done.result _ _ c.deref.result.now (said_of c.in_ok-said.said) _ _ _ _
-    (read_as _ _ _ _ c.deref.ensures.value c.in_ok-file.ensures.found) c.in_ok-said.ensures.said c.write_listing-done.ensures
+    (read_as _ _ _ _ c.deref.ensures.value c.in_ok-file.ensures.found) c.in_ok-said.ensures.said c.write_listing-done.ensures.text
 
 pub returns-in_err-said-clause-done : goal.returns-in_err-said-clause-done
 returns-in_err-said-clause-done g c =
@@ -22,7 +22,7 @@ returns-in_err-said-clause-done g c =
 pub returns-clause-memory : goal.returns-clause-memory
 returns-clause-memory g c =
     lacks_no_text c.write_listing-done.result _ _ _ _ _ _ _ (c.in_ok-said.ensures.memory ∙ c.in_ok-file.ensures.memory)
-    c.write_listing-done.ensures
+    c.write_listing-done.ensures.text
 
 pub returns-in_err-said-clause-memory : goal.returns-in_err-said-clause-memory
 returns-in_err-said-clause-memory g c =

@@ -6,8 +6,8 @@ use Rattle.px_engine.specs.Prints.{listing}
 use Rattle.px_engine.specs.calls.Seen.{said_of}
 use Rattle.px_engine.proofs.texts.send_listing.Goals as goal
 
-pub returns-in_err-put_listing : goal.returns-in_err-put_listing
-returns-in_err-put_listing g c =
+pub returns-in_err-put_listing-clause-text : goal.returns-in_err-put_listing-clause-text
+returns-in_err-put_listing-clause-text g c =
     let p = err_from_is_err_and c.from_residual.result c.from_residual.ensures.1 in
     rw p.1 (
       from_none (AppendsPrefix (g.W.Sink.bytes_taken c.args.writer.now) (g.W.Sink.bytes_taken c.put_listing.new.writer))
@@ -15,9 +15,9 @@ returns-in_err-put_listing g c =
       search rules,
     )
 
-pub returns : goal.returns
-returns g c = (
+pub returns-clause-text : goal.returns-clause-text
+returns-clause-text g c = (
   owes_written c.send_and_flush.result _ _ _ c.new-pending.result c.put_listing.new.pending (listing (said_of c.args.said.now))
-      c.new-pending.ensures.none c.in_ok-put_listing.ensures.0 c.send_and_flush.ensures.0,
+      c.new-pending.ensures.none c.in_ok-put_listing.ensures.0 c.send_and_flush.ensures.text.0,
   search rules,
 )

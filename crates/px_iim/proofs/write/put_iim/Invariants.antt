@@ -11,5 +11,5 @@ invariant-loop-rec g l = record {
   whole : AllByRecursion IsGroup l.rec-iterator;
   put : (parts : List ℕ) × HasPut g.W.Sink.bytes_taken l.initial.writer l.writer l.initial.pending l.pending parts ×
       (parts ++ normal_iim l.rec-iterator ≡ normal_iim l.iim);
-  count : g.W.Device.failed l.writer ≡ g.W.Device.failed l.initial.writer;
+  count : g.W.Device.calls l.writer ≡ g.W.Device.calls l.initial.writer;
 }

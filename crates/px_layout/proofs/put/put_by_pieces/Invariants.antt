@@ -9,7 +9,7 @@ invariant-loop-i g l = record {
   inside : l.i ≤ length l.value.elements;
   put : HasPut g.W.Sink.bytes_taken l.initial.writer l.writer l.initial.pending l.pending
       (flat_map (spell l.order) (take l.i l.value.elements));
-  count : g.W.Device.failed l.writer ≡ g.W.Device.failed l.initial.writer;
+  count : g.W.Device.calls l.writer ≡ g.W.Device.calls l.initial.writer;
 }
 
 abbrev pub decreases-loop-i : goal.decreases-loop-i

@@ -11,5 +11,5 @@ abbrev pub invariant-loop-dir : goal.invariant-loop-dir
 invariant-loop-dir g l = record {
   put : HasPut g.W.Sink.bytes_taken l.initial.writer l.writer l.initial.pending l.pending
       (flat_map (dir_bytes (normal_plan (said_in l.form)) (said_in l.form)) (take l.dir-index dirs));
-  count : g.W.Device.failed l.writer ≡ g.W.Device.failed l.initial.writer;
+  count : g.W.Device.calls l.writer ≡ g.W.Device.calls l.initial.writer;
 }

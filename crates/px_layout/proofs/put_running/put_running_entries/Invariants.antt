@@ -13,7 +13,7 @@ abbrev pub invariant-loop-i : goal.invariant-loop-i
 invariant-loop-i g l = record {
   put : HasPut g.W.Sink.bytes_taken l.initial.writer l.writer l.initial.pending l.pending
       (flat_map (entry_bytes (normal_plan (said_in l.form)) Most 0 l.fn.dir) (take l.i l.entries));
-  count : g.W.Device.failed l.writer ≡ g.W.Device.failed l.initial.writer;
+  count : g.W.Device.calls l.writer ≡ g.W.Device.calls l.initial.writer;
   left : l.at + values_size (drop l.i l.entries) ≡ start (said_in l.form) l.fn.dir + even
       (table_size (length l.entries)) + values_size l.entries;
 }

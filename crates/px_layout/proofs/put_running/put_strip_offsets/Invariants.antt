@@ -11,7 +11,7 @@ invariant-loop-i g l = record {
   inside : l.i ≤ length l.strips;
   put : HasPut g.W.Sink.bytes_taken l.initial.writer l.writer l.initial.pending l.pending
       (flat_map (long_bytes Most) (take l.i (strip_places l.at l.strips)));
-  count : g.W.Device.failed l.writer ≡ g.W.Device.failed l.initial.writer;
+  count : g.W.Device.calls l.writer ≡ g.W.Device.calls l.initial.writer;
   left : l.next + strips_size (drop l.i l.strips) ≡ l.at + strips_size l.strips;
 }
 

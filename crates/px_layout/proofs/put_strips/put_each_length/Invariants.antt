@@ -9,7 +9,7 @@ invariant-loop-i g l = record {
   inside : l.i ≤ length l.strips;
   put : HasPut g.W.Sink.bytes_taken l.initial.writer l.writer l.initial.pending l.pending
       (flat_map (long_bytes l.order) (take l.i (map (λ x. length x) l.strips)));
-  count : g.W.Device.failed l.writer ≡ g.W.Device.failed l.initial.writer;
+  count : g.W.Device.calls l.writer ≡ g.W.Device.calls l.initial.writer;
 }
 
 abbrev pub decreases-loop-i : goal.decreases-loop-i

@@ -1,7 +1,7 @@
-use Rattle.std.proofs.Common.{ℕ, subst, sym, ◌%◌, length, replicate}
+use Rattle.std.proofs.Common.{subst, sym, ◌%◌, length, replicate}
 use Rattle.px_bytes.specs.lemmas.WaitingLaws.{fails_first, puts_to_both}
 use Rattle.std.proofs.lemmas.Result.{err_from_is_err_and}
-use Rattle.px_bytes.specs.Devices.{CanFail, Counts}
+use Rattle.px_bytes.specs.Devices.{Calls, CanFail, Counts}
 use Rattle.px_layout.proofs.put_thumb.put_padded.Goals as goal
 
 pub returns : goal.returns
@@ -9,7 +9,7 @@ returns g c = (
   puts_to_both g.W.Sink.bytes_taken c.put_padding.result _ _ _ c.args.pending.now c.put.new.self c.put_padding.new.pending
       c.args.bytes.now (replicate (length c.args.bytes.now % 2) 0)
       (c.in_ok-put.ensures.bytes, c.in_ok-put.ensures.waits) c.put_padding.ensures.0,
-  subst (λ (n : ℕ). Counts c.put_padding.result n (g.W.Device.failed c.put_padding.new.writer)) c.in_ok-put.ensures.count
+  subst (λ (n : Calls). Counts c.put_padding.result n (g.W.Device.calls c.put_padding.new.writer)) c.in_ok-put.ensures.count
       c.put_padding.ensures.1,
 )
 

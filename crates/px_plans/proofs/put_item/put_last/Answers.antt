@@ -1,8 +1,8 @@
-use Rattle.std.proofs.Common.{ℕ, subst, sym, ◌∙◌, ltb-false}
+use Rattle.std.proofs.Common.{subst, sym, ◌∙◌, ltb-false}
 use Rattle.std.proofs.lemmas.Result.{err_from_is_err_and}
 use Rattle.px_layout.specs.calls.Items.{entry_of}
 use Rattle.px_plans.specs.calls.Layouts.{said_plan}
-use Rattle.px_bytes.specs.Devices.{CanFail, Counts}
+use Rattle.px_bytes.specs.Devices.{Calls, CanFail, Counts}
 use Rattle.px_layout.specs.lemmas.PutLaws.{both_as, first_as}
 use Rattle.px_layout.specs.lemmas.EntryBytes.{last_inside}
 use Rattle.px_plans.proofs.put_item.put_last.Goals as goal
@@ -24,7 +24,7 @@ returns g c = (
       (last_inside (said_plan c.args.layout.now) c.args.layout.now.order c.args.layout.now.filler c.args.dir (entry_of c.args.entry.now)
       c.size-size.result c.size-size.ensures (ltb-false 4 _ (sym c.needs_place.ensures ∙ c.if-needs_place.false)))
       c.in_ok-put_item.ensures.0 c.put_filler.ensures.0,
-  subst (λ (n : ℕ). Counts c.put_filler.result n (g.W.Device.failed c.put_filler.new.writer)) c.in_ok-put_item.ensures.1
+  subst (λ (n : Calls). Counts c.put_filler.result n (g.W.Device.calls c.put_filler.new.writer)) c.in_ok-put_item.ensures.1
       c.put_filler.ensures.1,
 )
 

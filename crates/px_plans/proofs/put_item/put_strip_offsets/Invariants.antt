@@ -12,5 +12,5 @@ abbrev pub invariant-loop-i : goal.invariant-loop-i
 invariant-loop-i g l = record {
   put : HasPut g.W.Sink.bytes_taken l.initial.writer l.writer l.initial.pending l.pending
       (flat_map (λ i. long_bytes l.layout.order (place (said_plan l.layout) (Strip i))) (take l.i (range_with_len 0 l.count)));
-  count : g.W.Device.failed l.writer ≡ g.W.Device.failed l.initial.writer;
+  count : g.W.Device.calls l.writer ≡ g.W.Device.calls l.initial.writer;
 }

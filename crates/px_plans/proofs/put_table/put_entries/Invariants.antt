@@ -9,5 +9,5 @@ abbrev pub invariant-loop-i : goal.invariant-loop-i
 invariant-loop-i g l = record {
   put : HasPut g.W.Sink.bytes_taken l.initial.writer l.writer l.initial.pending l.pending
       (flat_map (entry_bytes (said_plan l.layout) l.layout.order l.layout.filler l.dir) (take l.i l.entries));
-  count : g.W.Device.failed l.writer ≡ g.W.Device.failed l.initial.writer;
+  count : g.W.Device.calls l.writer ≡ g.W.Device.calls l.initial.writer;
 }

@@ -8,5 +8,5 @@ abbrev pub invariant-loop-rec : goal.invariant-loop-rec
 invariant-loop-rec g l = record {
   owes : (out : Held) × Owes (g.W.Sink.bytes_taken l.initial.writer) (g.W.Sink.bytes_taken l.writer) l.pending out
       × (out ⊕ dataset_lines l.rec-iterator ≡ l.initial.pending ⊕ dataset_lines l.iim);
-  count : g.W.Device.failed l.writer ≡ g.W.Device.failed l.initial.writer;
+  count : g.W.Device.calls l.writer ≡ g.W.Device.calls l.initial.writer;
 }

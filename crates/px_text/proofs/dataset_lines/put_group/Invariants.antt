@@ -10,5 +10,5 @@ abbrev pub invariant-loop-item : goal.invariant-loop-item
 invariant-loop-item g l = record {
   owes : Owes (g.W.Sink.bytes_taken l.initial.writer) (g.W.Sink.bytes_taken l.writer) l.pending (l.initial.pending ⊕ flat_map
       (dataset_line l.rec) (take l.item-index (map item_view l.items)));
-  count : g.W.Device.failed l.writer ≡ g.W.Device.failed l.initial.writer;
+  count : g.W.Device.calls l.writer ≡ g.W.Device.calls l.initial.writer;
 }

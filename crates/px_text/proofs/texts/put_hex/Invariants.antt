@@ -9,7 +9,7 @@ invariant-loop-at g l = record {
   inside : l.at ≤ length l.bytes;
   owes : Owes (g.W.Sink.bytes_taken l.initial.writer) (g.W.Sink.bytes_taken l.writer) l.pending (l.initial.pending ⊕ encode_lower (take
       l.at l.bytes));
-  count : g.W.Device.failed l.writer ≡ g.W.Device.failed l.initial.writer;
+  count : g.W.Device.calls l.writer ≡ g.W.Device.calls l.initial.writer;
 }
 
 abbrev pub decreases-loop-at : goal.decreases-loop-at
