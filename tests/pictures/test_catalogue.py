@@ -239,11 +239,12 @@ class Archive(InFolder):
         shutil.copy(self.path("c"), self.path("d"))
         self.rows_by_path("c")
         one, several = (
-            self.asked("index", "p", "--catalogue", name, "--quiet", "--again", "--jobs", jobs) for name, jobs in (("c", "1"), ("d", "3"))
+            [it.replace(f"--catalogue {name}", "") for it in self.asked("index", "p", "--catalogue", name, "--again", "--jobs", jobs)]
+            for name, jobs in (("c", "1"), ("d", "3"))
         )
         self.assertEqual(one, several)
         self.assertEqual(sum("Moved: to " in it for it in one), 3)
-        self.assertEqual([it.split() for it in one[-3:-1]][1], ["1", "trailer"])
+        self.assertIn(["1", "trailer"], [it.split() for it in one])
         rows = self.rows_by_path("d")
         self.assertEqual(self.rows_by_path("c"), rows)
         query = "SELECT exif, iptc, xmp, not_read FROM pictures WHERE path = ?"
@@ -275,7 +276,7 @@ class Archive(InFolder):
 
     def test_quiet_and_progress(self):
         self.asked("index", "p", "--catalogue", "d")
-        self.assertRegex(self.complaint, r"^(\d of 4 pictures, .* left\n)*4 of 4 pictures, \d+ a second\n$")
+        self.assertRegex(self.complaint, r"^(\d of 4 pictures(, .* left)?\n)*4 of 4 pictures, \d+ a second\n$")
         self.asked("index", "p", "--catalogue", "e", "--quiet")
         self.assertEqual(self.complaint, "")
         call = "import sys; from exifnorm_pictures.scan import index; from exifnorm_pictures.cli import main; index.BATCH = 2; sys.exit(main.main(sys.argv[1:]))"

@@ -16,7 +16,14 @@ class Index(WithPictures):
     def test_every_picture_is_kept_with_its_status(self):
         self.copied(collection())
         lines = self.asked("index", "pictures", "--catalogue", "c")
-        self.assertEqual(lines[-1], "4 accepted, 1 NoPicture, 1 no block, 1 refused")
+        self.assertEqual(
+            lines[1:],
+            [
+                "4 accepted, 1 NoPicture, 1 no block, 1 refused",
+                "1 group of equal pictures: exifnorm-pictures same --catalogue c",
+                "1 refused or unreadable: exifnorm-pictures report --catalogue c --html report.html",
+            ],
+        )
         self.assertIn(": Exif: refused: Overlap at 34", lines[0])
         self.assertIn("7 of 7 pictures, ", self.complaint)
         self.assertEqual([it for it in os.listdir(self.folder) if it.startswith("c")], ["c"])
@@ -44,7 +51,7 @@ class Index(WithPictures):
         self.copied(collection())
         self.asked("index", "pictures", "--catalogue", "c", "--quiet")
         lines = self.asked("index", "pictures", "--catalogue", "c")
-        self.assertEqual(lines, ["7 unchanged"] if shutil.which("exiv2") else lines)
+        self.assertEqual(lines[0], "7 unchanged" if shutil.which("exiv2") else lines[0])
         tool(self.folder, "exiftool", "-q", "-overwrite_original", "-Artist=Other", "pictures/first.jpg")
         os.remove(self.path("pictures", "bare.jpg"))
         shutil.copy(self.path("picture.jpg"), self.path("pictures", "new.jpg"))
@@ -260,6 +267,6 @@ class Words(WithPictures):
     def test_without_exiv2_a_raw_picture_is_a_line(self):
         self.copied(collection())
         os.rename(self.path("pictures", "scan.tif"), self.path("pictures", "scan.nrw"))
-        done = self.without("exiftool", "perl")("index", "pictures", "--catalogue", "c", "--quiet")
+        done = self.without("exiftool", "perl")("index", "pictures", "--catalogue", "c")
         self.assertEqual(done.returncode, 2, done.stderr)
         self.assertIn(b"scan.nrw: NeedsExiv2: ", done.stdout)

@@ -86,8 +86,8 @@ class Cluster(WithPictures):
             return False
         return True
 
-    def index(self, *words, status=0):
-        done = run([self.python, "-m", "exifnorm_pictures", "index", *words, "--catalogue", "c", "--quiet"], self.folder, seconds=240)
+    def index(self, *words, status=0, quiet=("--quiet",)):
+        done = run([self.python, "-m", "exifnorm_pictures", "index", *words, "--catalogue", "c", *quiet], self.folder, seconds=240)
         self.assertEqual(done.returncode, status, done)
         return done.stdout.decode().splitlines()
 
@@ -109,9 +109,9 @@ class Cluster(WithPictures):
 
     def test_a_picture_that_kills_workers_is_a_line(self):
         write(self.path("p", "a.exv"), EXV)
-        lines = self.index("p", "--scheduler", self.cluster(PATH=self.deadly("true"), failures="0"), status=2)
+        lines = self.index("p", "--scheduler", self.cluster(PATH=self.deadly("true"), failures="0"), status=2, quiet=())
         self.assertEqual(
-            lines, [f"{self.path('p', 'a.exv')}: ToolFailed: the workers that looked at it died", "150 accepted, 1 ToolFailed"]
+            lines[:2], [f"{self.path('p', 'a.exv')}: ToolFailed: the workers that looked at it died", "150 accepted, 1 ToolFailed"]
         )
 
     def test_another_path_of_the_folder_on_the_workers(self):
@@ -120,8 +120,8 @@ class Cluster(WithPictures):
         for name in sorted(os.listdir(self.path("there"))):
             write(self.path("p", name), bytes(len(GOOD)))  # what is here isn't read
         write(self.path("p", "missing.jpg"), GOOD)
-        lines = self.index("p", "--scheduler", self.cluster(), "--elsewhere", self.path("there"), status=2)
-        self.assertEqual(lines[-1], "150 accepted, 1 Unreadable")
+        lines = self.index("p", "--scheduler", self.cluster(), "--elsewhere", self.path("there"), status=2, quiet=())
+        self.assertEqual(lines[1], "150 accepted, 1 Unreadable")
         self.assertIn("missing.jpg: Unreadable: the worker has no such file", lines[0])
         paths = sqlite3.connect(self.path("c")).execute("SELECT CAST(path AS TEXT) FROM pictures").fetchall()
         self.assertEqual({os.path.dirname(it) for it, in paths}, {self.path("p")})

@@ -91,7 +91,7 @@ class Tools(WithPictures):
     def test_one_that_hangs_at_its_version(self):
         self.pictures()
         environment = self.fake("exiftool", "#!/bin/sh\nexec sleep 1000\n")
-        lines = self.asked("index", "p/a.exv", "--catalogue", "c", "--quiet", "--limit", "1", status=2, **environment)
+        lines = self.asked("index", "p/a.exv", "--catalogue", "c", "--limit", "1", status=2, **environment)
         self.assertIn("a.exv: TooSlow: exiftool", lines[0])
         self.asked("show", "p/a.exv", "--limit", "1", status=2, **environment)
         self.asked("mend", "p/a.exv", "out", "--limit", "1", status=2, **environment)
@@ -101,7 +101,7 @@ class Tools(WithPictures):
     def test_exiv2_that_hangs(self):
         write(self.path("a.nrw"), b"II*\0\x08\0\0\0\0\0\0\0\0\0")
         environment = self.fake("exiv2", '#!/bin/sh\n[ "$1" = --version ] && echo exiv2 0.27.6 && exit\nexec sleep 1000\n')
-        lines = self.asked("index", "a.nrw", "--catalogue", "c", "--quiet", "--limit", "2", status=2, **environment)
+        lines = self.asked("index", "a.nrw", "--catalogue", "c", "--limit", "2", status=2, **environment)
         self.assertIn("a.nrw: TooSlow: exiv2", lines[0])
 
     @needs("exiftool")
@@ -227,7 +227,7 @@ class Tools(WithPictures):
         )
         environment = self.fake("exiftool", "#!/bin/sh\n")
         for words, what, status in (
-            (["index", "p/a.exv", "--catalogue", "c", "--quiet"], "exiftool", 2),
+            (["index", "p/a.exv", "--catalogue", "c"], "exiftool", 2),
             (["show", "p/a.exv"], "exiftool", 2),
             (["mend", "p/a.exv", "out"], "exiftool", 2),
             (["index", "many", "--catalogue", "c", "--quiet", "--jobs", "2"], "a further process", 0),

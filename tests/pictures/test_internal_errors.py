@@ -181,7 +181,7 @@ def test_a_picture_at_which_we_fail(command, monkeypatch):
     with monkeypatch.context() as planted:
         reader_of = extraction.reader_of
         planted.setattr(extraction, "reader_of", lambda head, path: mistake if head.startswith(png.START) else reader_of(head, path))
-        lines = command("index", "p", "--catalogue", "c", "--quiet", status=2).out.splitlines()
+        lines = command("index", "p", "--catalogue", "c", status=2).out.splitlines()
         found = [json.loads(it) for it in command("show", "p/b.png", "p/a.jpg", "--json", status=2).out.splitlines()]
         explained = command("explain", "p/b.png", "--debug", status=2)
     assert [it.rpartition("/p/")[2].partition(":")[0] for it in lines[:-1]] == ["b.png"]

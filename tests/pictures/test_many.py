@@ -27,7 +27,7 @@ class Many(WithPictures):
         self.assertGreaterEqual(kept, told)
         self.assertGreater(told, 0)
         self.assertLess(kept, 2000, "it was killed too late to tell anything")
-        said = self.asked("index", folder, "--catalogue", "c")[-1]
+        said = self.asked("index", folder, "--catalogue", "c")[0]
         self.assertEqual(
             said,
             f"{max(kept, 2000 - kept)} "

@@ -115,8 +115,7 @@ class Progress(unittest.TestCase):
         steps = [(1.0, 10), (1.9, 20), (2.0, 500), (2.9, 600), (4.0, 2000), (4.1, 3000)]
         self.assertEqual(
             self.shown(Stream(), steps),
-            "10 of 3000 pictures, 10 a second, 4 min 59 s left\n500 of 3000 pictures, 250 a second, 10 s left\n"
-            "2000 of 3000 pictures, 500 a second, 2 s left\n3000 of 3000 pictures, 732 a second\n",
+            "10 of 3000 pictures\n500 of 3000 pictures\n2000 of 3000 pictures, 663 a second, 2 s left\n3000 of 3000 pictures, 732 a second\n",
         )
 
     def test_a_line_that_changes(self):
@@ -125,10 +124,32 @@ class Progress(unittest.TestCase):
         steps = [(1.0, 0), (1.19, 20), (1.2001, 600), (10000.0, 3000)]
         self.assertEqual(
             self.shown(stream, steps),
-            "\r\x1b[K0 of 3000 pictures, 0 a second\r\x1b[K600 of 3000 pictures, 500 a second, 5 s left"
-            "\r\x1b[K3000 of 3000 pictures, 0 a second\n",
+            "\r\x1b[K0 of 3000 pictures\r\x1b[K600 of 3000 pictures\r\x1b[K3000 of 3000 pictures, 0 a second\n",
         )
         self.assertEqual(stream.flushed, 3)
+
+    def test_the_time_left(self):
+        """From 5 s on it is within a factor of 2, however long the first results take, and soon after pictures take longer or shorter."""
+        for begin, rates in ((0.5, [240]), (3.0, [240]), (1.0, [50]), (1.0, [400, 100]), (1.0, [100, 400]), (3.0, [8])):
+            seconds = [80 / len(rates)] * len(rates)
+            total = int(sum(rate * time for rate, time in zip(rates, seconds)))
+            steps = []
+            for number in range(40):  # results come in batches, about every two seconds
+                at = begin + 2 * number + 2
+                done = sum(rate * max(0.0, min(time, at - begin - place)) for rate, time, place in zip(rates, seconds, (0.0, seconds[0])))
+                steps.append((at, min(int(done), total - 1)))
+            lines = self.shown(Stream(), steps, total).splitlines()
+            for line, (at, done) in zip(lines, steps):
+                since = at - begin - seconds[0]  # from the second results on
+                if (
+                    at >= max(5, begin + 4)
+                    and (at + 25 < begin + seconds[0] or since > 25 or len(rates) == 1)
+                    and total - done > 2 * rates[-1]
+                ):
+                    minutes = re.search(r"(?:(\d+) min )?(\d+) s left", line)
+                    left = 60 * int(minutes[1] or 0) + int(minutes[2])
+                    true = begin + 80 - at if len(rates) == 1 or since > 0 else (total - done) / rates[0]
+                    self.assertTrue(true / 2 - 1 <= left <= 2 * true + 1, (begin, rates, at, line, true))
 
     def test_nothing(self):
         self.assertEqual(self.shown(Stream(), [(5.0, 10)], quiet=True), "")

@@ -272,7 +272,7 @@ class Catalogues(Promises):
         self.files("p", a=jpeg(app1(A)), s__b=jpeg(app1(B)))
         self.files(".", direct=jpeg(app1(A)))
         first = self.printed("index", "@/p", "@/direct.jpg", "--catalogue", "@/c")
-        self.assertEqual((first[-1], self.names("c")), ("3 accepted", ["direct.jpg", "p/a.jpg", "p/s/b.jpg"]))
+        self.assertEqual((first[0], self.names("c")), ("3 accepted", ["direct.jpg", "p/a.jpg", "p/s/b.jpg"]))
         self.assertIn("3 of 3 pictures", self.complaint)
         self.assertEqual((self.index("@/p", "@/direct.jpg"), self.complaint), (["3 unchanged"], ""))
         self.assertEqual(self.index("@/p", "@/direct.jpg", "--again"), ["3 accepted"])

@@ -49,7 +49,7 @@ def make_link(path):
 )
 def test_a_line_and_the_status_of_index(asked, folder, make, problem, status):
     make(folder / "p/b.jpg")
-    lines = asked("index", "p", "--catalogue", "c", "--quiet", status=status)
+    lines = asked("index", "p", "--catalogue", "c", status=status)
     assert lines[0].startswith(f"{folder}/p/b.jpg: {problem}: ")
 
 
@@ -57,7 +57,7 @@ def test_a_line_and_the_status_of_index(asked, folder, make, problem, status):
 @pytest.mark.parametrize("octets, words", [(b"", "the file is empty"), (bytes(5000), "the file has only zeros")], ids=["empty", "zeros"])
 def test_a_file_of_which_nothing_is_left(asked, folder, octets, words):
     (folder / "p/b.jpg").write_bytes(octets)
-    assert asked("index", "p", "--catalogue", "c", "--quiet")[0] == f"{folder}/p/b.jpg: NoPicture: {words}"
+    assert asked("index", "p", "--catalogue", "c")[0] == f"{folder}/p/b.jpg: NoPicture: {words}"
 
 
 def test_a_mistyped_folder_makes_no_catalogue(asked, folder):

@@ -4,19 +4,22 @@ from __future__ import annotations
 
 import argparse
 import os
+import shlex
 import shutil
 from collections import Counter
-from typing import List
+from typing import Iterator, List
 
 from ..catalogue.store import Catalogue, NoCatalogue, head_is_ours
-from .signals import Failure
+from ..compare import groups
 from ..files import atomic, tempdir
 from ..scan.batches import How
+from ..scan.excluded import Excluded
 from ..scan.index import IndexOptions, index
 from .exit_codes import SUCCESS, UNKNOWN, USAGE
 from .names import named
-from . import objects
-from .output import kind_of_part, print_line, record_lines, shown_path
+from . import objects, signals
+from .output import escaped, kind_of_part, print_line, record_lines, shown_path
+from .signals import Failure
 
 # Pictures that should be readable and aren't
 NOT_READABLE = ("Unreadable", "ToolFailed", "InternalError", "TooMuch", "TooSlow", "NeedsExifTool", "NeedsExiv2")
@@ -54,19 +57,26 @@ def run(arguments: argparse.Namespace) -> int:
         if arguments.keep_old:
             keep_old(catalogue, arguments.keep_old, room)
         _check_sidecars(arguments, catalogue)
-        lines = objects.record_lines if arguments.json else record_lines
-        options = IndexOptions(names, arguments.again, arguments.quiet, How.of(arguments, room, lines), print_line)
+        lines = objects.record_lines if arguments.json else None if arguments.quiet else record_lines
+        excluded = Excluded(arguments.exclude)
+        how = How.of(arguments, room, lines)
+        options = IndexOptions(names, arguments.again, arguments.quiet, how, print_line, excluded=excluded, lines=lines or record_lines)
         if arguments.scheduler:
             from ..scan import cluster  # only this needs Dask
 
             options.look = cluster.looker(arguments.scheduler, arguments.elsewhere, names)
         counts = index(options, catalogue)
-        parts = _parts(catalogue)
+        parts = [] if arguments.quiet or arguments.json else _parts(catalogue)
+        steps = [] if arguments.quiet or arguments.json else list(_next_steps(catalogue, arguments.catalogue, excluded.known))
+    if excluded.count:
+        counts["excluded"] = excluded.count
+    for it in excluded.unused():
+        signals.say(f"exifnorm-pictures: note: --exclude {it} fits no file and no folder")
     if arguments.json:
         objects.print_object("index", "summary", {"counts": dict(counts)})
     else:
         summary = ", ".join(f"{count} {state}" for state, count in sorted(counts.items(), key=lambda it: (-it[1], it[0]))) or "no file"
-        for line in [*parts, summary]:
+        for line in [*parts, summary, *steps]:
             print_line(line)
     if any(counts[it] for it in NOT_READABLE) or any(os.path.exists(it) and not _may_be_read(it) for it in names):
         return UNKNOWN
@@ -76,6 +86,21 @@ def run(arguments: argparse.Namespace) -> int:
 def _may_be_read(name: bytes) -> bool:
     """Whether a name leads to a file or a folder, and not to a pipe or a device."""
     return os.path.isfile(name) or os.path.isdir(name)
+
+
+def _next_steps(catalogue: Catalogue, name: str, excluded: int) -> Iterator[str]:
+    """What can be done with the catalogue, a line for each."""
+    word = escaped(shlex.quote(name))
+    count, _ = groups.totals(catalogue)
+    if count:
+        yield f"{count:,} group{'s' * (count > 1)} of equal pictures: exifnorm-pictures same --catalogue {word}"
+    refused = next(catalogue.rows("SELECT count(*) FROM pictures WHERE problem IS NULL AND (exif IS NULL OR iptc IS NULL OR xmp IS NULL)"))[
+        0
+    ]
+    if refused:
+        yield f"{refused:,} refused or unreadable: exifnorm-pictures report --catalogue {word} --html report.html"
+    if excluded:
+        yield f"{excluded:,} excluded, and in the catalogue from an earlier run: exifnorm-pictures forget FOLDER --catalogue {word}"
 
 
 def _parts(catalogue: Catalogue) -> List[str]:

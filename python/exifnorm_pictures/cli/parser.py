@@ -140,8 +140,12 @@ def _looking_arguments(it: argparse.ArgumentParser) -> None:
 
 def _many_arguments(it: argparse.ArgumentParser) -> None:
     _looking_arguments(it)
-    it.add_argument("--jobs", type=_positive, default=0, metavar="N", help="processes that look at pictures (as many as processors)")
+    _jobs_argument(it)
     it.add_argument("--quiet", action="store_true", help="no progress on standard error")
+
+
+def _jobs_argument(it: argparse.ArgumentParser) -> None:
+    it.add_argument("--jobs", type=_positive, default=0, metavar="N", help="processes that look at pictures (as many as processors)")
 
 
 def _more_arguments(it: argparse.ArgumentParser) -> None:
@@ -152,9 +156,18 @@ def _more_arguments(it: argparse.ArgumentParser) -> None:
 
 
 def _index_arguments(it: argparse.ArgumentParser) -> None:
+    _example(it, "index /archive --catalogue archive.catalogue --exclude '*.tmp'")
     it.add_argument("folders", nargs="*", type=_name, metavar="FOLDER", help="a folder, with all below it, or a picture")
     it.add_argument("--catalogue", required=True, type=_name, metavar="FILE", help="the catalogue; created if it is missing")
     it.add_argument("--keep-old", type=_name, metavar="OLD", help="first copy the catalogue to OLD, for changed and report --since")
+    it.add_argument(
+        "--exclude",
+        action="append",
+        default=[],
+        type=_name,
+        metavar="PATTERN",
+        help="pass over files and folders with this name or path below FOLDER; * and ? are wildcards",
+    )
     it.add_argument("--again", action="store_true", help="look at all pictures, even if they haven't changed")
     it.add_argument(
         "--maker-notes", action="store_true", help="also keep what ExifTool reads of MakerNotes, so that changed needs no earlier files"
@@ -162,7 +175,11 @@ def _index_arguments(it: argparse.ArgumentParser) -> None:
     _more_arguments(it)
     it.add_argument("--scheduler", metavar="tcp://HOST:PORT", help="look at the pictures on the workers of this Dask cluster")
     it.add_argument("--elsewhere", type=_name, metavar="PATH", help="the path of FOLDER on the workers")
-    _many_arguments(it)
+    _looking_arguments(it)
+    _jobs_argument(it)
+    it.add_argument(
+        "--quiet", action="store_true", help="print only the counts: no progress, no picture and nothing that could be done next"
+    )
 
 
 def _merge_arguments(it: argparse.ArgumentParser) -> None:

@@ -16,7 +16,8 @@ from ..compare.moved import Departed
 from ..extract import programs
 from ..extract.formats.found import PROBLEMS, UNREAD_TRAILER
 from ..extract.sidecars import marks
-from .batches import LONGEST_WAIT, Batch, How, Result
+from .excluded import Excluded
+from .batches import LONGEST_WAIT, Batch, How, Lines, Result
 from .progress import Progress
 from .walk import FoundFile, Unlisted, below
 
@@ -45,6 +46,8 @@ class IndexOptions:
     how: How = How()
     say: Optional[PrintLine] = None  # prints a line about a picture that was looked at, once it is committed
     look: Look = _looked
+    excluded: Excluded = field(default_factory=Excluded)
+    lines: Optional[Lines] = None  # makes the lines about folders that can't be read and names without a file; that of `how` by default
 
 
 @dataclass
@@ -72,15 +75,17 @@ def index(options: IndexOptions, catalogue: Catalogue) -> "Counter[str]":
         work = _work(options, catalogue)
     if work.devices:
         catalogue.set_devices(work.devices)
-    gone, departed = _gone(options.names, work, catalogue)
+    gone, departed = _gone(options, work, catalogue)
     if work.taken:
         catalogue.forget_pictures(work.taken)
     if gone:
         catalogue.put(run, gone)
     at_work = _Looking(options, catalogue, run, work)
     at_work.all()
-    for it in [*departed.settle(catalogue, run, gone, work.new), *_named_wrong(work, catalogue)]:
-        at_work.count(it)
+    for it in departed.settle(catalogue, run, gone, work.new):
+        at_work.count(it, options.how.lines)
+    for it in _named_wrong(work, catalogue):
+        at_work.count(it, options.lines or options.how.lines)
     catalogue.end_run(run, _now())
     return work.counts
 
@@ -102,7 +107,8 @@ def _work(options: IndexOptions, catalogue: Catalogue) -> Work:
     many, first = len(options.names) > 1, catalogue.is_empty()
     if not first:
         work.unfinished.update(_unfinished(catalogue))
-    for it in below(options.names, work.unlisted.append, _own_files(catalogue.name), work.sidecars if options.how.sidecars else None):
+    sidecars = work.sidecars if options.how.sidecars else None
+    for it in below(options.names, work.unlisted.append, _own_files(catalogue.name), sidecars, options.excluded):
         if many:
             if it.path in named:
                 continue
@@ -153,14 +159,15 @@ def _worth_another(problem: Optional[str]) -> bool:
     )
 
 
-def _gone(names: Iterable[bytes], work: Work, catalogue: Catalogue) -> Tuple[List[PictureRecord], Departed]:
+def _gone(options: IndexOptions, work: Work, catalogue: Catalogue) -> Tuple[List[PictureRecord], Departed]:
     """The pictures below the folders that are missing now, and the facts by which they are recognised under another name.
 
-    Those of a folder that can't be read aren't gone: nothing is known of them.
+    Those of a folder that can't be read aren't gone: nothing is known of them. Neither are those that are excluded and still there.
     """
     hidden = tuple(it.path.rstrip(b"/") + b"/" for it in work.unlisted)
     gone, departed = [], Departed()
-    for top in {os.path.abspath(it) for it in names if os.path.isdir(it)}:
+    for top in {os.path.abspath(it) for it in options.names if os.path.isdir(it)}:
+        head = len(top.rstrip(b"/")) + 1
         for number, path, problem in catalogue.below(top):
             if work.seen.get(number >> 12, 0) >> (number & 4095) & 1 or problem in GONE or path.startswith(hidden):
                 continue
@@ -169,6 +176,8 @@ def _gone(names: Iterable[bytes], work: Work, catalogue: Catalogue) -> Tuple[Lis
             elif not os.path.lexists(path):
                 gone.append(PictureRecord(path, b"", problem="Vanished", detail=PROBLEMS["Vanished"]))
                 departed.add(catalogue, number, path)
+            elif options.excluded and options.excluded.has_below(path[head:]):
+                options.excluded.known += 1
     return gone, departed
 
 
@@ -203,6 +212,7 @@ class _Looking:
         """Looks at every picture that must be read."""
         if not self.work.to_read:
             return
+        self.progress.start()
         import exifnorm  # in most runs nothing has changed, and they don't load the library
 
         self.catalogue.set_versions(self.run, exifnorm.version(), _version("exiftool"), _version("exiv2"))
@@ -226,18 +236,18 @@ class _Looking:
                 self.say(it.lines)
                 os.unlink(it.file)
             else:
-                self.count(it)
+                self.count(it, self.options.how.lines)
         self.done += self.pictures
         self.ready.clear()
         self.pictures = self.files = 0
         self.last = time.monotonic()
         self.progress.done(self.done)
 
-    def count(self, it: PictureRecord) -> None:
+    def count(self, it: PictureRecord, lines: Optional[Lines]) -> None:
         """Counts and reports a picture."""
         self.work.counts[it.state] += 1
-        if self.options.how.lines:
-            self.say(self.options.how.lines(it))
+        if lines:
+            self.say(lines(it))
 
     def say(self, lines: Iterable[str]) -> None:
         """Prints lines about pictures."""

@@ -4,9 +4,13 @@ from __future__ import annotations
 
 import sys
 import time
-from typing import Optional, TextIO
+from collections import deque
+from typing import Deque, Optional, TextIO, Tuple
 
 from ..cli.signals import drop
+
+WINDOW = 20.0  # seconds over which the speed is measured: pictures of some folders take longer than others
+LEAST = 1.5  # seconds without which it isn't known: at first processes start, and results come in batches
 
 
 def duration(seconds: float) -> str:
@@ -30,10 +34,19 @@ class Progress:
         self.quiet = quiet
         self.began = time.monotonic()
         self.last = 0.0
+        self._reports: Deque[Tuple[float, int]] = deque()  # when how many were done, the newest last
+
+    def start(self) -> None:
+        """Shows on a terminal that a run has begun."""
+        if self.stream.isatty():
+            self.done(0)
 
     def done(self, count: int) -> None:
         """Reports that `count` pictures are committed."""
         now = time.monotonic()
+        self._reports.append((now, count))
+        while len(self._reports) > 2 and now - self._reports[1][0] > WINDOW:
+            self._reports.popleft()
         on_terminal = self.stream.isatty()
         if self.quiet or not self.total or (count < self.total and now - self.last < (0.2 if on_terminal else 1.0)):
             return
@@ -45,12 +58,21 @@ class Progress:
             drop(self.stream)
             self.quiet = True
 
+    def rate(self) -> Optional[float]:
+        """Pictures a second between the reports that are kept; the first one is the begin of results, not of the run."""
+        if len(self._reports) < 2:
+            return None
+        (since, before), (now, count) = self._reports[0], self._reports[-1]
+        return (count - before) / (now - since) if count > before and now - since >= LEAST else None
+
     def text(self, count: int, seconds: float) -> str:
         """How far a run is after some seconds.
 
-        >>> Progress(1000).text(250, 10.0)
-        '250 of 1000 pictures, 25 a second, 30 s left'
+        >>> Progress(1000).text(1000, 10.0)
+        '1000 of 1000 pictures, 100 a second'
         """
-        rate = count / max(seconds, 0.001)
-        left = f", {duration((self.total - count) / rate)} left" if count < self.total and count else ""
-        return f"{count} of {self.total} pictures, {rate:.0f} a second{left}"
+        if count >= self.total:
+            return f"{count} of {self.total} pictures, {count / max(seconds, 0.001):.0f} a second"
+        rate = self.rate()
+        left = f", {rate:.0f} a second, {duration((self.total - count) / rate)} left" if rate else ""
+        return f"{count} of {self.total} pictures{left}"

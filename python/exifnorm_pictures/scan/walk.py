@@ -12,6 +12,7 @@ from ..cli.exit_codes import USAGE
 from ..cli.output import reason
 from ..cli.signals import Failure
 from ..extract.sidecars import Folder, Folders, Sidecar
+from .excluded import Excluded
 
 
 class FoundFile(NamedTuple):
@@ -40,15 +41,21 @@ OnUnlisted = Callable[[Unlisted], None]
 
 
 def below(
-    names: Iterable[bytes], unlisted: OnUnlisted, leave_out: Collection[bytes] = (), sidecars: Optional[Set[bytes]] = None
+    names: Iterable[bytes],
+    unlisted: OnUnlisted,
+    leave_out: Collection[bytes] = (),
+    sidecars: Optional[Set[bytes]] = None,
+    excluded: Optional[Excluded] = None,
 ) -> Iterator[FoundFile]:
     """Each file of the arguments, and all files below each folder, in the order of their names.
 
-    Paths are absolute. Links to folders aren't followed. Hidden files and folders are included; the files of `leave_out` are not.
+    Paths are absolute. Links to folders aren't followed. Hidden files and folders are included; the files of `leave_out` are not, and
+    neither is what is excluded, with all below it.
     A folder that can't be read, and a name without a file, are passed to `unlisted`, and the other files are still returned.
     With a set `sidecars` the XMP files that belong to pictures go into it, and to their pictures; a name that is given is always returned.
     """
     folders = Folders()
+    excluded = excluded or Excluded()
     for name in names:
         top = os.path.abspath(name)
         try:
@@ -60,13 +67,16 @@ def below(
                 unlisted(Unlisted(top, reason(error)))
             continue
         if stat.S_ISDIR(now.st_mode):
-            yield from _below(top, unlisted, leave_out, sidecars)
-        elif top not in leave_out:
+            yield from _below(top, unlisted, leave_out, sidecars, excluded)
+        elif top not in leave_out and not excluded.passes_over(os.path.basename(top)):
             yield FoundFile(top, os.path.dirname(top), Stamp.of(now), () if sidecars is None else folders.of(top))
 
 
-def _below(top: bytes, unlisted: OnUnlisted, leave_out: Collection[bytes], sidecars: Optional[Set[bytes]]) -> Iterator[FoundFile]:
+def _below(
+    top: bytes, unlisted: OnUnlisted, leave_out: Collection[bytes], sidecars: Optional[Set[bytes]], excluded: Excluded
+) -> Iterator[FoundFile]:
     waiting = [top]
+    head = len(top.rstrip(b"/")) + 1  # bytes of a path before what is below the folder
     while waiting:
         folder = waiting.pop()
         try:
@@ -75,6 +85,8 @@ def _below(top: bytes, unlisted: OnUnlisted, leave_out: Collection[bytes], sidec
         except OSError as error:
             unlisted(Unlisted(folder, reason(error)))
             continue
+        if excluded:
+            found = [it for it in found if not excluded.passes_over(it.path[head:])]
         waiting += [it.path for it in reversed(found) if it.is_dir(follow_symlinks=False)]
         files = [it for it in found if not _leads_to_folder(it) and it.path not in leave_out]
         known = Folder([] if sidecars is None else [it.name for it in files])

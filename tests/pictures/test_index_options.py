@@ -1,0 +1,105 @@
+"""What `index` passes over, and what it prints."""
+
+import os
+import sqlite3
+
+import pytest
+from made_blocks import BLOCKS
+from made_files import app1, exif, jpeg
+
+ONE, OTHER = jpeg(app1(exif(b"abc"))), jpeg(app1(exif(b"xyz")))
+
+
+@pytest.fixture
+def archive(folder):
+    """A folder with pictures in folders."""
+    for name in (b"a.jpg", b"a.tmp", b"raw/b.jpg", b"raw/deep/c.jpg", b"sub/raw/d.jpg", b"sub/@eaDir/e.jpg", b"sub/f\xff.jpg", b"[x].jpg"):
+        path = os.path.join(os.fsencode(folder), b"p", name)
+        os.makedirs(os.path.dirname(path), exist_ok=True)
+        with open(path, "wb") as file:
+            file.write(ONE)
+    return folder
+
+
+def known(folder):
+    """The paths below the folder that are in the catalogue, and their problems."""
+    base = sqlite3.connect(folder / "c")
+    top = os.path.join(os.fsencode(folder), b"p/")
+    found = {path[len(top) :]: problem for path, problem in base.execute("SELECT path, problem FROM pictures")}
+    base.close()
+    return found
+
+
+ALL = {b"a.jpg", b"a.tmp", b"raw/b.jpg", b"raw/deep/c.jpg", b"sub/raw/d.jpg", b"sub/@eaDir/e.jpg", b"sub/f\xff.jpg", b"[x].jpg"}
+
+
+@pytest.mark.parametrize(
+    "patterns, without, count",
+    [
+        (["*.tmp"], {b"a.tmp"}, 1),
+        (["raw"], {b"raw/b.jpg", b"raw/deep/c.jpg", b"sub/raw/d.jpg"}, 2),
+        (["raw/"], {b"raw/b.jpg", b"raw/deep/c.jpg", b"sub/raw/d.jpg"}, 2),
+        (["raw/*"], {b"raw/b.jpg", b"raw/deep/c.jpg"}, 2),
+        (["sub/raw"], {b"sub/raw/d.jpg"}, 1),
+        (["@eaDir", "?.tmp"], {b"sub/@eaDir/e.jpg", b"a.tmp"}, 2),
+        (["[[]x].jpg"], {b"[x].jpg"}, 1),
+        ([os.fsdecode(b"f\xff*")], {b"sub/f\xff.jpg"}, 1),
+        (["RAW", "p", "nothing"], set(), 0),
+    ],
+)
+def test_excluded_files_and_folders(patterns, without, count, archive, called):
+    """By the name, or by the path below the folder; letters of either case differ, as in names of files."""
+    words = [word for it in patterns for word in ("--exclude", it)]
+    status, out, err = called("index", "p", "--catalogue", "c", "--quiet", *words)
+    assert (status, set(known(archive))) == (0, ALL - without)
+    assert (f", {count} excluded" in out) == bool(count)
+    assert err.count("fits no file and no folder") == (len(patterns) if not count else 0)
+
+
+def test_excluded_pictures_of_an_earlier_run_stay(archive, called):
+    """They aren't gone, and the answer says that they are there; one that was deleted is gone."""
+    called("index", "p", "--catalogue", "c", "--quiet")
+    os.remove(archive / "p/raw/b.jpg")
+    out = called("index", "p", "--catalogue", "c", "--exclude", "raw")[1]
+    found = known(archive)
+    assert {path for path, problem in found.items() if problem} == {b"raw/b.jpg"} and found[b"raw/b.jpg"] == "Vanished"
+    assert "2 excluded, and in the catalogue from an earlier run: exifnorm-pictures forget FOLDER --catalogue c" in out
+    called("forget", "p/raw", "p/sub/raw", "--catalogue", "c")
+    assert "in the catalogue from an earlier run" not in called("index", "p", "--catalogue", "c", "--exclude", "raw")[1]
+    assert set(known(archive)) == {it for it in ALL if b"raw" not in it}
+    called("index", "p", "--catalogue", "c", "--quiet")
+    assert set(known(archive)) == ALL - {b"raw/b.jpg"}
+
+
+def test_a_picture_that_is_named_is_excluded_by_its_name(archive, called):
+    out = called("index", "p/a.jpg", "p/a.tmp", "--catalogue", "c", "--quiet", "--exclude", "*.tmp")[1]
+    assert (out, set(known(archive))) == ("1 accepted, 1 excluded\n", {b"a.jpg"})
+
+
+def test_what_to_do_next(folder, called):
+    (folder / "p").mkdir()
+    for name, octets in {"a": ONE, "b": ONE, "c": OTHER, "d": OTHER, "e": jpeg(app1(exif(b"new")))}.items():
+        (folder / "p" / name).write_bytes(octets)
+    (folder / "p" / "bad").write_bytes(jpeg(app1(BLOCKS["HeaderCut"])))
+    name = "my catalogue's"
+    lines = called("index", "p", "--catalogue", name)[1].splitlines()
+    assert "HeaderCut" in lines[0]
+    assert lines[1:] == [
+        "5 accepted, 1 refused",
+        "2 groups of equal pictures: exifnorm-pictures same --catalogue 'my catalogue'\"'\"'s'",
+        "1 refused or unreadable: exifnorm-pictures report --catalogue 'my catalogue'\"'\"'s' --html report.html",
+    ]
+    assert called("same", "--catalogue", name)[1].splitlines()[-2].startswith("2 groups")
+    assert called("index", "p", "--catalogue", name)[1].splitlines() == ["6 unchanged", *lines[2:]]
+
+
+def test_quiet_prints_the_counts_alone(folder, called):
+    """A folder that is named and isn't there is still told."""
+    (folder / "p").mkdir()
+    for name, octets in {"a": ONE, "b": ONE, "bad": jpeg(app1(BLOCKS["HeaderCut"])), "open": ONE + b"trailer"}.items():
+        (folder / "p" / name).write_bytes(octets)
+    (folder / "p" / "nothing").symlink_to("nowhere")
+    status, out, err = called("index", "p", "--catalogue", "c", "--quiet")
+    assert (out, err) == ("3 accepted, 1 LinkToNothing, 1 refused\n", "")
+    status, out, _ = called("index", "p", "missing", "--catalogue", "c", "--quiet")
+    assert "missing: Unreadable" in out and status == 2
