@@ -77,6 +77,18 @@ def test_names_of_blocks():
     assert [it.block for it in folder.of(b"a.jpg")] == found
 
 
+@pytest.mark.parametrize("is_racy", [True, False])
+def test_a_sidecar_that_may_be_edited_again(folder, is_racy):
+    """By its times, where an edit could leave them: it gets a mark that differs, so the next run reads it again, and it is still recognised."""
+    put(folder, a__jpg=PICTURE, a__jpg__xmp=ONE)
+    path, now, asked = os.fsencode(folder / "a.jpg"), os.stat(folder / "a.jpg.xmp"), []
+    own = sidecars.Folder([b"a.jpg", b"a.jpg.xmp"]).of(b"a.jpg")
+    found = sidecars.marks(path, own, lambda *times: asked.append(times) or is_racy)
+    assert asked == [(now.st_mtime_ns, now.st_ctime_ns)]
+    assert (found != sidecars.marks(path, own)) is is_racy
+    assert sidecars.Folders().is_marked_as(path, found)
+
+
 def test_a_file_by_itself(folder, called):
     head = b"\xef\xbb\xbf<?xml version='1.0'?>\n<!-- a - comment -->\n"
     put(folder / "b", a__xmp=ONE, c__XMP=head + title("one").partition(b"?>")[2])

@@ -147,10 +147,10 @@ def _content(path: bytes, most: int) -> Optional[bytes]:
 _CHANGED = 3  # which number of a mark is the ctime
 
 
-def marks(path: bytes, sidecars: Sequence[Sidecar], is_racy: Callable[[int], bool] = lambda _: False) -> str:
+def marks(path: bytes, sidecars: Sequence[Sidecar], is_racy: Callable[[int, int], bool] = lambda *_: False) -> str:
     """The name, size, times and inode of each sidecar of a picture, as a text for the catalogue: empty without any.
 
-    A file with a time for which `is_racy` holds may be edited again without another mark; it gets a ctime that no file has.
+    A file for whose mtime and ctime `is_racy` holds may be edited again without another mark; it gets a ctime that no file has.
     """
     found = []
     for it in sidecars:
@@ -158,6 +158,6 @@ def marks(path: bytes, sidecars: Sequence[Sidecar], is_racy: Callable[[int], boo
             now = Stamp.of(os.stat(os.path.join(os.path.dirname(path), it.file)))
         except OSError:
             now = Stamp(0, 0, RACY, 0)
-        changed = RACY if is_racy(now.modified) or is_racy(now.changed) else now.changed
+        changed = RACY if is_racy(now.modified, now.changed) else now.changed
         found.append(f"{it.file.hex()} {now.size} {now.modified} {changed} {now.inode}")
     return "\n".join(found)

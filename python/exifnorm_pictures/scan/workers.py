@@ -44,7 +44,7 @@ def look(it: FoundFile, how: How) -> PictureRecord:
     """The result for one file. An error of any kind affects only this file."""
     began = _now()
     try:
-        marks = sidecars.marks(it.path, it.sidecars, lambda when: _is_racy(when, began)) if it.sidecars else ""
+        marks = sidecars.marks(it.path, it.sidecars, lambda *times: _is_racy(times, began)) if it.sidecars else ""
         blocks, judged = _read(it, how)
         whole_file = file_digest(it.path, blocks, how.whole)
         if it.sidecars:
@@ -124,8 +124,7 @@ def _unless_changed(it: FoundFile, began: int) -> Optional[Stamp]:
     """The marks that identify the file; none if it was written to meanwhile, so that the next run looks again.
 
     If it was changed so shortly before that a further edit could leave the same times, they are kept with a ctime that no file has, as
-    git does it: the next run looks again, and a file that moves is still recognised. So it is while the ctime is in the future, because the
-    clock of a share may be ahead of this one.
+    git does it: the next run looks again, and a file that moves is still recognised.
     """
     try:
         now = os.stat(it.path)
@@ -138,13 +137,14 @@ def _unless_changed(it: FoundFile, began: int) -> Optional[Stamp]:
         return it.stamp
     if not began:
         return it.stamp._replace(changed=RACY)
-    is_racy = now.st_ctime_ns > began or any(_is_racy(time_, began) for time_ in times)
-    return it.stamp._replace(changed=RACY) if is_racy else it.stamp
+    return it.stamp._replace(changed=RACY) if _is_racy(times, began) else it.stamp
 
 
-def _is_racy(when: int, began: int) -> bool:
-    """Whether a file with this time may have been changed again since without another time."""
-    return -COARSE < began - when < COARSE and (not when % 1_000_000_000 or -FINE < began - when < FINE)
+def _is_racy(times: Sequence[int], began: int) -> bool:
+    """Whether a file with this mtime and ctime may have been changed again since without other times: if one of them is hardly older than
+    the look, or the ctime is in the future, because the clock of a share may be ahead."""
+    near = [it for it in times if abs(began - it) < COARSE]
+    return times[1] > began or any(it % 1_000_000_000 == 0 or abs(began - it) < FINE for it in near)
 
 
 def looked(work: Sequence[FoundFile], how: How) -> Iterator[Result]:
