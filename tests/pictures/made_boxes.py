@@ -50,8 +50,22 @@ def mime(packet, describes=(), **more):
     return Item(b"mime", packet, RDF, describes, **more)
 
 
-def heif(*items, primary=1, brand=b"heic", in_meta=b"", properties=b"", behind=b"", version=1, size=4, padding=b"", large=False):
-    """A HEIF with these items. `padding` separates their parts, `version` is that of iloc and `size` the bytes of its offsets."""
+def heif(
+    *items,
+    primary=1,
+    brand=b"heic",
+    in_meta=b"",
+    properties=b"",
+    behind=b"",
+    version=1,
+    size=4,
+    padding=b"",
+    large=False,
+    base=None,
+    lengths=True,
+):
+    """A HEIF with these items. `padding` separates their parts. `version` is that of iloc, `size` the bytes of its offsets, and `base` where
+    they count from, if that isn't 0."""
     head = box(b"ftyp", brand + b"\0\0\0\0mif1" + brand)
     number = "I" if version == 2 else "H"
     idat = b"".join(it.data for it in items if it.method == 1)
@@ -62,10 +76,12 @@ def heif(*items, primary=1, brand=b"heic", in_meta=b"", properties=b"", behind=b
         places, at, inside = b"", start, 0
         for count, (parts, it) in enumerate(zip(split, items), 1):
             places += struct.pack(">" + number, count) + (struct.pack(">H", it.method) if version else b"")
-            places += struct.pack(">HH", it.elsewhere, len(parts))
+            places += struct.pack(">H", it.elsewhere) + (b"" if base is None else struct.pack(">I", base if it.method != 1 else 0))
+            places += struct.pack(">H", len(parts))
             for part in parts:
                 at += len(padding) if it.method != 1 else 0
-                places += (inside if it.method == 1 else at).to_bytes(size, "big") + len(part).to_bytes(size, "big")
+                places += (inside if it.method == 1 else at - (base or 0)).to_bytes(size, "big")
+                places += len(part).to_bytes(size, "big") if lengths else b""
                 inside, at = (inside + len(part), at) if it.method == 1 else (inside, at + len(part))
         return full(
             b"meta",
@@ -76,11 +92,17 @@ def heif(*items, primary=1, brand=b"heic", in_meta=b"", properties=b"", behind=b
             full(b"iref", 0, *_references(items)),
             box(b"iprp", box(b"ipco", full(b"ispe", 0, struct.pack(">II", 8, 8)), properties), full(b"ipma", 0, bytes(4))),
             box(b"idat", idat),
-            full(b"iloc", version, bytes((size << 4 | size, 0)), struct.pack(">" + number, len(items)), places),
+            full(
+                b"iloc",
+                version,
+                bytes((size << 4 | size * lengths, 0 if base is None else 4 << 4)),
+                struct.pack(">" + number, len(items)),
+                places,
+            ),
             in_meta,
         )
 
-    start = len(head) + len(meta(0)) + (16 if large else 8)
+    start = len(head) + len(meta(base or 0)) + (16 if large else 8)
     data = box(b"mdat", media)
     return head + meta(start) + (wide(data) if large else data) + behind
 

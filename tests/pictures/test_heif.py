@@ -5,6 +5,7 @@ The files are made here by the rules of ISO/IEC 14496-12 and 23008-12, so what i
 
 import hashlib
 import io
+import os
 import struct
 import zlib
 from unittest import mock
@@ -16,7 +17,7 @@ from made_boxes import CANON, PICTURE, RDF, XMP_UUID, Item, box, full, heif, ite
 from made_files import T_OTHERWISE, exif, title, turned
 from studio import needs
 
-from exifnorm_pictures.extract import budgets
+from exifnorm_pictures.extract import budgets, extraction
 from exifnorm_pictures.extract.formats import heif as heif_
 from exifnorm_pictures.extract.formats.found import Broken
 
@@ -60,6 +61,7 @@ READ = {
     "iloc of version 0": (heif(*ONE, version=0), IN_ONE),
     "iloc of version 2": (heif(*ONE, version=2), IN_ONE),
     "long offsets": (heif(*ONE, size=8, padding=b"-"), IN_ONE),
+    "a base": (heif(*ONE, base=100), IN_ONE),
     "a long length": (heif(*ONE, large=True), IN_ONE),
     "blocks that describe nothing": (heif(PICTURE, of_exif(A), mime(T)), IN_ONE),
     "no main picture": (heif(PICTURE, of_exif(A, (1,)), mime(T, (1,)), primary=0), IN_ONE),
@@ -197,6 +199,26 @@ BROKEN = {
     "after idat": (IN_IDAT[0].replace(struct.pack(">I", len(T)), struct.pack(">I", len(T) + 1)), "item 3 isn't in the file"),
     "many pictures": (heif(*[PICTURE] * 10, of_exif(A, tuple(range(2, 11)))), "item 11 describes more than 8 pictures"),
 }
+
+
+def test_items_without_lengths():
+    """They are the whole file, or all from an offset on."""
+    found = heif_.read(io.BytesIO(heif(*ONE, lengths=False)))
+    words = ["Exif item, protected or kept elsewhere", "mime item application/rdf+xml, protected or kept elsewhere"]
+    assert (found.found, [tuple(it) for it in found.not_read]) == ([], [(it, "") for it in words])
+
+
+def test_offsets_past_4_gb(tmp_path):
+    """A sparse file, of which little is read."""
+    made, far = heif(PICTURE, mime(T), size=8, large=True), 5 << 30
+    at, begin = made.index(T), made.index(b"mdat") - 4
+    length = struct.pack(">I4sQ", 1, b"mdat", far + len(T) - begin)
+    with open(tmp_path / "a.heic", "wb") as file:
+        file.write(made[:begin].replace(struct.pack(">Q", at), struct.pack(">Q", far)) + length)
+        file.seek(far)
+        file.write(T)
+    found = extraction.blocks_of(os.fsencode(tmp_path / "a.heic"))
+    assert [(it.kind, it.name, it.data) for it in found.found] == IN_ONE[1:] and found.not_read == []
 
 
 @pytest.mark.parametrize("name", BROKEN)

@@ -137,6 +137,19 @@ def test_a_picture_without_metadata(tmp_path):
     assert (found.problem, found.found, found.not_read) == (None, [], [])
 
 
+def test_layers_past_4_gb(tmp_path):
+    """A sparse PSB. So many bytes have no digest, so that it is never the same as another."""
+    made, length = psd(E, I, X, version=2), 5 << 30
+    at = len(made) - 18 - 2  # of the length of the layers, before a picture of 18 bytes
+    with open(tmp_path / "a.psb", "wb") as file:
+        file.write(made[: at - 8] + length.to_bytes(8, "big") + b"layers")
+        file.seek(at + length)
+        file.write(made[at:])
+    found = extraction.blocks_of(os.fsencode(tmp_path / "a.psb"))
+    assert sorted((it.kind, it.name, it.data) for it in found.found) == ALL
+    assert [tuple(it) for it in found.not_read] == [("Photoshop's layers", "")]
+
+
 @pytest.mark.parametrize("what, spent", [(budgets.RESOURCES, 5), (budgets.RESOURCE_BYTES, len(A + K + T))])
 def test_limits(what, spent):
     for most in (spent, spent - 1):

@@ -12,6 +12,8 @@ import test_psd
 from made_boxes import box, cr3
 from studio import needs, tool
 
+# The main directory with its values in another order than its entries, in which ExifTool writes them
+MAIN = b"II*\0\x08\0\0\0" + struct.pack("<HHHIIHHIII", 2, 0x010F, 2, 6, 44, 0x0110, 2, 6, 38, 0) + b"EOS R\0Canon\0"
 MADE = {
     "heic": test_heif.WHOLE,
     "avif": test_heif.READ["AVIF"][0],
@@ -21,7 +23,9 @@ MADE = {
     "jxl": test_jxl.READ["both"][0],
     "jp2": test_jp2.READ["all"][0],
     "cr3": cr3(
-        *test_cr3.structures(filling=bytes(100)), box(b"CTBO", struct.pack(">IIQQ", 1, 1, 620, 100)), packet=test_cr3.T + b" " * 100
+        *test_cr3.structures(main=MAIN, filling=bytes(100)),
+        box(b"CTBO", struct.pack(">IIQQ", 1, 1, 620, 100)),
+        packet=test_cr3.T + b" " * 100,
     ),
 }
 
