@@ -34,14 +34,14 @@ LIMITS: Dict[str, int] = {
     SEGMENT_BYTES: 64 << 20,  # of those that are kept; need 1.7 MB
     CHUNKS: 100_000,  # of a PNG or WebP; need 678, and 100 MB in pieces of 8 kB are 13,000
     CHUNK_BYTES: 32 << 20,  # of those that are kept, and of what they inflate to; twice as much takes 321 MB of memory; need 37 kB
-    EXTENSIONS: 100_000,  # of a GIF; need 400
-    BLOCK_BYTES: 32 << 20,  # of application extensions that are kept; need 20 kB
-    BOXES: 100_000,  # of a HEIC, CR3, JPEG XL or JPEG 2000; need 358, most of them tiles
+    EXTENSIONS: 100_000,  # of a GIF; need 85
+    BLOCK_BYTES: 32 << 20,  # of application extensions that are kept; need 1 kB
+    BOXES: 100_000,  # of a HEIC, CR3, JPEG XL or JPEG 2000; need 79
     BOX_BYTES: 64 << 20,  # of those that are kept; need 0.1 MB
-    ITEMS: 65_536,  # pictures, tiles and metadata of a HEIC; need 116
-    EXTENTS: 200_000,  # parts of these items, and references between them; need 400
-    RESOURCES: 10_000,  # each is an object of Python: 2.6 million take 2.4 GB; need 42
-    RESOURCE_BYTES: 64 << 20,  # of a PSD, of those that are kept; need 1 MB
+    ITEMS: 65_536,  # pictures, tiles and metadata of a HEIC; need 51
+    EXTENTS: 200_000,  # parts of these items, and references between them; need 152
+    RESOURCES: 10_000,  # each is an object of Python: 2.6 million take 2.4 GB; need 64
+    RESOURCE_BYTES: 64 << 20,  # of a PSD, of those that are kept; need 18 kB
     DIRECTORIES: 10_000,  # of a TIFF; need 15
     ENTRIES: 1_000_000,  # of all its directories; need 12,361
     VALUE_BYTES: 128 << 20,  # of these entries; twice as much takes 400 MB of memory; need 1.6 MB
