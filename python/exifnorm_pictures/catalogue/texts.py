@@ -6,6 +6,7 @@ import os
 from typing import List, NamedTuple, Sequence, Set, Tuple
 
 from ..cli.labelled import labelled
+from ..extract import sidecars
 from ..extract.formats.found import NAMES
 from ..fields.kept_labels import of_kept
 from ..fields.labels import STANDARDS, WORDS, LabelText
@@ -21,19 +22,22 @@ class PictureTexts(NamedTuple):
 
 
 def texts_of(picture: Picture, blocks: Sequence[Tuple[Block, List[Field]]], look: bool, wanted: Sequence[str] = WORDS) -> PictureTexts:
-    """The texts of a picture by its blocks, each with its fields. With `look` the file is read if a text of a wanted label isn't kept."""
-    found, missing = [], set()
+    """The texts of a picture by its blocks, each with its fields. With `look` the file is read if a text of a wanted label isn't kept.
+
+    Those of sidecars are the kept ones.
+    """
+    inside, beside = PictureTexts([], set()), PictureTexts([], set())
     for block, fields in blocks:
         kept = of_kept(fields)
         part = "" if block.name == NAMES[block.kind] else block.name
-        found += [it._replace(block=part) for it in kept.texts]
-        missing |= kept.missing & set(wanted)
-    if missing and look and _is_unchanged(picture):
+        into = beside if sidecars.NAME in block.name else inside
+        into.texts.extend(it._replace(block=part) for it in kept.texts)
+        into.missing.update(kept.missing & set(wanted))
+    if inside.missing and look and _is_unchanged(picture):
         it = labelled(picture.path)
-        if not it.problem:
-            return PictureTexts(it.texts, set())
-    found.sort(key=lambda it: STANDARDS.index(it.standard))
-    return PictureTexts(found, missing)
+        inside = inside if it.problem else PictureTexts(it.texts, set())
+    found = sorted([*inside.texts, *beside.texts], key=lambda it: STANDARDS.index(it.standard))
+    return PictureTexts(found, inside.missing | beside.missing)
 
 
 def _is_unchanged(it: Picture) -> bool:

@@ -5,6 +5,7 @@ from __future__ import annotations
 import argparse
 import os
 import shutil
+import sys
 from datetime import datetime, timezone
 
 import exifnorm
@@ -31,7 +32,7 @@ def run(arguments: argparse.Namespace) -> int:
             with tables(made) as written:
                 _add_about(written, catalogue)
                 work = Export(catalogue, written, None if chosen is None else catalogue.choose(chosen), not arguments.no_look)
-                work.all()
+                work.all(arguments.quiet or not sys.stderr.isatty())
         finally:
             exiftool.finish()
         _put(made, arguments)
@@ -41,8 +42,9 @@ def run(arguments: argparse.Namespace) -> int:
     else:
         print_line(f"{shown_path(arguments.file)}: {', '.join(f'{count:,} rows of {name}' for name, count in counts.items())}")
         if work.missing:
-            why = "have a text that is too long for the catalogue, and their files are gone, have changed or weren't looked at"
-            print_line(f"{work.missing:,} picture{'s' * (work.missing != 1)} {why}: these texts are NULL")
+            which = "picture has" if work.missing == 1 else "pictures have"
+            why = "too long for the catalogue, and the file is gone, has changed or wasn't looked at"
+            print_line(f"{work.missing:,} {which} a text that is NULL: it is {why}")
     return SUCCESS
 
 

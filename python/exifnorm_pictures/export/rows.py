@@ -18,6 +18,7 @@ from ..fields.plain_names import exact_key, group_name
 from ..fields.plain_values import plain
 from ..fields.typed import typed
 from ..refusals import steps
+from ..scan.progress import Progress
 from .tables import Row, Tables
 
 _BEGINNING = datetime(1970, 1, 1, tzinfo=timezone.utc)
@@ -30,17 +31,21 @@ class Export:
         self.catalogue, self.tables, self.only, self.look = catalogue, tables, only, look
         self.missing = 0  # pictures with a text that is neither kept nor read
 
-    def all(self) -> None:
-        """Adds each picture, and then the groups."""
-        for it in self.catalogue.pictures(self.only):
+    def all(self, quiet: bool) -> None:
+        """Adds each picture, and then the groups. Prints its progress, unless it is quiet."""
+        where = f" WHERE path IN {self.only}" if self.only else ""
+        progress = Progress(next(self.catalogue.rows(f"SELECT count(*) FROM pictures{where}"))[0], quiet=quiet)
+        for count, it in enumerate(self.catalogue.pictures(self.only), 1):
             self._picture(it)
+            progress.done(count)
         for number, group in enumerate(groups(self.catalogue, only=self.only, look=self.look), 1):
             keep = group.to_keep() if self.look else None
             about = (number, group.basis, group.sentence())
             self.tables.add("groups", ((*about, it.id, None if keep is None else int(it is keep)) for it in group.members))
 
     def _picture(self, it: Picture) -> None:
-        self.tables.add("pictures", [_picture_row(it)])
+        coded = next(self.catalogue.rows("SELECT coded_picture FROM pictures WHERE id = ?", (it.id,)))[0]
+        self.tables.add("pictures", [(*_picture_row(it), coded or None)])
         with self.catalogue.guarded():
             blocks = [(block, unpacked(kept) if kept else []) for block, kept in self.catalogue.blocks_of(it)]
         for number, (block, fields) in enumerate(blocks):

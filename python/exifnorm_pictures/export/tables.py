@@ -33,7 +33,8 @@ CREATE TABLE pictures (
     modified TEXT,
     exif TEXT,
     iptc TEXT,
-    xmp TEXT
+    xmp TEXT,
+    coded_picture TEXT
 );
 CREATE TABLE blocks (
     picture INTEGER NOT NULL REFERENCES pictures(id),
