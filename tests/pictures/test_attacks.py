@@ -160,6 +160,7 @@ COMMANDS = (
     ["changed", "good", "c"],
     ["report", "--catalogue", "c", "--html", "page"],
     ["report", "--catalogue", "c", "--json"],
+    ["export", "c", "tables"],
     ["merge", "c", "--catalogue", "into"],
     ["index", "p", "--catalogue", "c", "--quiet"],
     ["forget", "p", "--catalogue", "c"],
