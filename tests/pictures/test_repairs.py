@@ -209,6 +209,24 @@ def test_no_value_is_made_up(name):
     assert looked_at > 500
 
 
+def test_a_thumbnail_that_a_step_would_change():
+    """It lies in the main directory, whose entries are sorted before it is copied."""
+    rows = [entry(0x0110, ASCII, 4, b"Xyz\0"), entry(0x010F, ASCII, 4, b"Abc\0")]
+    image = [entry(0x0201, LONG, 1, 10), entry(0x0202, LONG, 1, 24)]
+    made = repairs.repaired(b"MM\0*\0\0\0\x08" + table(rows, 38) + table(image))
+    assert "the thumbnail" in steps.loses(made.steps)
+    assert [key for _, key, _ in fields_of(made)] == ["010f", "0110"]
+
+
+def test_a_directory_that_covers_all_and_more():
+    """GPS counts 60,000 entries, so that each copy of the Exif directory would be in it again."""
+    rows = [entry(0x010F, ASCII, 8, 12), entry(0x8769, LONG, 1, 50), entry(0x8825, LONG, 1, 64)]
+    short = table([entry(0x9000, 7, 4, b"0232")])[:-4]
+    made = repairs.repaired(b"MM\0*\0\0\0\x08" + table(rows) + short + b"\xea\x60" + entry(0x0001, ASCII, 2, b"N\0\0\0"))
+    assert "entries" in steps.loses(made.steps) and len(made.steps) < 6
+    assert [key for _, key, _ in fields_of(made)] == ["010f", "9000", "0001"]
+
+
 def test_a_hopeless_block_ends_soon(monkeypatch):
     """More than a hundred entries of no type, or with values that aren't there: no step is tried for each."""
     calls = []
