@@ -26,13 +26,13 @@ OLDEST = (2, 5)  # the glibc of manylinux1
 def glibc_needed(library: Path) -> tuple[int, int] | None:
     """The GNU C library that a library needs, as (2, 14). None if it needs another library, or a symbol whose version is no number
     of glibc: then it can't have a tag of manylinux."""
-    said = subprocess.run(["readelf", "-dVW", library], stdout=subprocess.PIPE, check=True, encoding="utf-8").stdout
-    needed = re.findall(r"\(NEEDED\).*\[(.*)\]", said)
+    listing = subprocess.run(["readelf", "-dVW", library], stdout=subprocess.PIPE, check=True, encoding="utf-8").stdout
+    needed = re.findall(r"\(NEEDED\).*\[(.*)\]", listing)
     if not needed:
         return OLDEST
     if needed != [LIBC]:
         return None
-    needs = said.partition(".gnu.version_r")[2]
+    needs = listing.partition(".gnu.version_r")[2]
     names = re.findall(r"Name: (\S+)", needs)
     versions = [re.fullmatch(r"GLIBC_(\d+)\.(\d+)(?:\.\d+)?", it) for it in names]
     if not versions or None in versions or re.findall(r"File: (\S+)", needs) != [LIBC]:

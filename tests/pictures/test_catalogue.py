@@ -301,7 +301,7 @@ class Processes(WithPictures):
             f"{before}\nlines = []\nos.mkdir('room')\n"
             "how = looking.How(jobs=2, room=os.path.abspath('room'), lines=entry_lines)\n"
             "with Catalogue('c', make=True) as made:\n"
-            "    counts = index.index(index.IndexOptions([b'p'], quiet=True, how=how, say=lines.append), made)\n"
+            "    counts = index.index(index.IndexOptions([b'p'], quiet=True, how=how, print_line=lines.append), made)\n"
             "print(json.dumps([counts, lines, [it for it in os.listdir('room') if it.startswith('rows')]]))"
         )
         done = run([sys.executable, "-c", text], self.folder)

@@ -160,7 +160,7 @@ class Picture:
     detail: str
     size: Optional[int]
     unread: Optional[str]  # the digest of all unread parts; empty: all was read; None: they can't be compared
-    said: Tuple[Optional[str], ...]  # by KINDS: the digest of the meaning, empty without a block, None if it isn't known
+    meanings: Tuple[Optional[str], ...]  # by KINDS: the digest of the meaning, empty without a block, None if it isn't known
     octets: Tuple[str, ...]  # by KINDS: the digest of the blocks' bytes, empty without a block
     marks: Tuple[Optional[int], ...] = ()  # size, times and inode, as in a stamp
     repaired: Optional[str] = None  # the digest of what its Exif means after repairs that lose nothing; None: no need, or no such repair
@@ -174,12 +174,12 @@ class Picture:
         """One word for the whole picture: a problem, `refused`, `accepted`, or `no block`."""
         if self.problem:
             return self.problem
-        return REFUSED if None in self.said else ACCEPTED if any(self.said) else "no block"
+        return REFUSED if None in self.meanings else ACCEPTED if any(self.meanings) else "no block"
 
     def sides(self) -> Dict[str, Side]:
         """The digest of its meaning, for each kind of block."""
         found = {}
-        for kind, digest, octets in zip(KINDS, self.said, self.octets):
+        for kind, digest, octets in zip(KINDS, self.meanings, self.octets):
             status = ABSENT if digest == "" else ACCEPTED if digest else UNREADABLE if kind == XMP else REFUSED
             found[kind] = Side(status, digest or "", octets, (self.repaired or "") if kind == EXIF else "")
         return found
@@ -205,11 +205,11 @@ def _digests(problem: Optional[str], blocks: Sequence[Block], not_read: Sequence
     for it in blocks:
         by_kind[it.kind].append(it)
     sides = [side_of(ours) for ours in by_kind.values()]
-    said = [one.digest if one.status == ACCEPTED else "" if one.status == ABSENT else None for one in sides]
+    meanings = [one.digest if one.status == ACCEPTED else "" if one.status == ABSENT else None for one in sides]
     parts = _parts_digest(not_read)
     other_parts = _parts_digest([it for it in not_read if not it.what.endswith(REACHED)]) if parts else parts
     notes = ",".join(f"{it.name}:{it.note}" for it in by_kind[EXIF] if it.note is not None)
-    return (*said, parts, other_parts, *(one.octets for one in sides), sides[0].repaired or None, notes)
+    return (*meanings, parts, other_parts, *(one.octets for one in sides), sides[0].repaired or None, notes)
 
 
 def _parts_digest(parts: Sequence[NotRead]) -> Optional[str]:

@@ -66,7 +66,7 @@ def _print_each(arguments: argparse.Namespace, found: Found, counts: "Counter[st
     """Each picture with its fields."""
     with contextlib.closing(changes.Equal()) as equal:
         for it in found:
-            equal.add(json.dumps(_said(it, arguments.exact)), it.name, it.moved_to is not None)
+            equal.add(json.dumps(_parts_of(it, arguments.exact)), it.name, it.moved_to is not None)
         _print_equal(equal)
     print_line(", ".join(f"{counts[it]} {it}" for it in changes.RESULTS if counts[it]) or "no picture")
     for text in lines_of_choice(choice, True):
@@ -105,7 +105,7 @@ def _side(name: str, arguments: argparse.Namespace, open_: contextlib.ExitStack)
     try:
         closed: List[str] = []
         quiet = arguments.quiet or not sys.stderr.isatty()
-        index(IndexOptions([os.fsencode(name)], quiet=quiet, how=How.of(arguments, room, closed_folder), say=closed.append), made)
+        index(IndexOptions([os.fsencode(name)], quiet=quiet, how=How.of(arguments, room, closed_folder), print_line=closed.append), made)
         if closed:  # its pictures would seem to be missing
             raise NoCatalogue("; ".join(closed))
     except BaseException:
@@ -114,7 +114,7 @@ def _side(name: str, arguments: argparse.Namespace, open_: contextlib.ExitStack)
     return made
 
 
-def _said(it: changes.Compared, exact: bool) -> List[object]:
+def _parts_of(it: changes.Compared, exact: bool) -> List[object]:
     """The changes of a picture, without its name."""
     note = f" ({it.note})" if it.note else ""
     to = f" to {shown_path(it.moved_to)}" if it.moved_to is not None else ""
@@ -130,8 +130,8 @@ def _readings(it: changes.Compared, exact: bool) -> Iterator[str]:
 
 def _print_equal(equal: changes.Equal) -> None:
     """Pictures with equal changes together; the others a head each."""
-    for said, count, names in equal.all():
-        grouped, head, lines = json.loads(said)
+    for text, count, names in equal.all():
+        grouped, head, lines = json.loads(text)
         if grouped and count > 1:
             print_line(f"{count:,} pictures: {head}")
             for line in [f"  {it} in {count:,} pictures" for it in lines]:

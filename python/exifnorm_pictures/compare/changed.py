@@ -330,11 +330,11 @@ def _repairs_of(it: Compared, name: str, one: Optional[Block], other: Optional[B
     if one and other and one.octets == other.octets:
         return f"; {name}: {one.refusal}"
     it.repairs.append((name, first, second))
-    said = [_repair_of(block) for block in (one, other)]
-    if said[0] == said[1]:
-        text = f"; {name}: {said[0]}"
+    texts = [_repair_of(block) for block in (one, other)]
+    if texts[0] == texts[1]:
+        text = f"; {name}: {texts[0]}"
     else:
-        text = "; " + "; ".join(f"{name} {word}: {text}" for word, text in zip(("before", "after"), said))
+        text = "; " + "; ".join(f"{name} {word}: {text}" for word, text in zip(("before", "after"), texts))
     lost = list(dict.fromkeys(steps.loses(first) + steps.loses(second)))
     return text + (f" (the repair loses {' and '.join(lost)}, so nothing is called the same by it)" if lost else "")
 
@@ -349,14 +349,14 @@ def _repair_of(block: Optional[Block]) -> str:
 
 def _report_of(name: str, one: Optional[Block], other: Optional[Block]) -> str:
     """The report on one block besides its fields: that only one side has it, or why it is refused."""
-    said = [None if it is None else it.refusal if it.status != ACCEPTED else "accepted" for it in (one, other)]
+    texts = [None if it is None else it.refusal if it.status != ACCEPTED else "accepted" for it in (one, other)]
     if one and other and one.octets == other.octets and one.status != ACCEPTED:
         return f"; {name}: {one.refusal}"
-    if said == ["accepted", "accepted"]:
+    if texts == ["accepted", "accepted"]:
         return ""
-    if None in said and "accepted" in said:
+    if None in texts and "accepted" in texts:
         return f"; no {name} {'before' if one is None else 'after'}"
-    return f"; {name}: " + ", ".join(f"{word} {text}" for word, text in zip(("before", "after"), said) if text)
+    return f"; {name}: " + ", ".join(f"{word} {text}" for word, text in zip(("before", "after"), texts) if text)
 
 
 class Equal:
@@ -376,14 +376,14 @@ class Equal:
         """Closes the connection, and with it the database."""
         self.base.close()
 
-    def add(self, said: str, name: bytes, alone: bool = False) -> None:
+    def add(self, text: str, name: bytes, alone: bool = False) -> None:
         """Adds the changes of a picture; `alone`, if no other picture has these."""
-        key = None if alone else hashlib.sha256(said.encode("utf-8", "surrogatepass")).digest()
+        key = None if alone else hashlib.sha256(text.encode("utf-8", "surrogatepass")).digest()
         number = self._number(key) if key else None
         if number is None:
             self._count += 1
             number = self._count
-            self._heads.append((number, key, said))
+            self._heads.append((number, key, text))
         if key:
             self._known[key] = number
         self._names.append((number, name))
@@ -409,15 +409,15 @@ class Equal:
         self._write()
         self.base.execute("CREATE INDEX names_by_head ON names (head, name)")
         counts = "(SELECT count(*) FROM names WHERE head = heads.id), (SELECT min(name) FROM names WHERE head = heads.id)"
-        for number, said, count, first in self.base.execute(f"SELECT id, said, {counts} FROM heads ORDER BY id"):
-            yield said, count, iter([first]) if count == 1 else self._named(number)
+        for number, text, count, first in self.base.execute(f"SELECT id, text, {counts} FROM heads ORDER BY id"):
+            yield text, count, iter([first]) if count == 1 else self._named(number)
 
     def _named(self, number: int) -> Iterator[bytes]:
         return (it[0] for it in self.base.execute("SELECT name FROM names WHERE head = ? ORDER BY name", (number,)))
 
 
 _EQUAL = """
-CREATE TABLE heads (id INTEGER PRIMARY KEY, key BLOB, said TEXT);
+CREATE TABLE heads (id INTEGER PRIMARY KEY, key BLOB, text TEXT);
 CREATE UNIQUE INDEX heads_by_key ON heads (key) WHERE key IS NOT NULL;
 CREATE TABLE names (head INTEGER, name BLOB);
 PRAGMA journal_mode = OFF;

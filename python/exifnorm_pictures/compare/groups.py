@@ -74,7 +74,7 @@ class Group:
         first, found = self.members[0], {}
         if self.is_partial or self.basis == CODED_PICTURE:  # no digest is of what they have in common
             return {}
-        for kind, digest in zip(KINDS, first.said):
+        for kind, digest in zip(KINDS, first.meanings):
             if kind in self.kinds and digest != "":
                 found[kind] = digest or (first.repaired if kind == EXIF and self.basis == REPAIR else "") or ""
         return found
@@ -102,8 +102,8 @@ class Group:
         first = self.members[0]
         if first.file:
             return f"the files are the same byte for byte, and not read ({first.problem or self.not_read})"
-        by_kind = dict(zip(KINDS, first.said))
-        refused = [it for it in self.kinds if any(picture.said[KINDS.index(it)] is None for picture in self.members)]
+        by_kind = dict(zip(KINDS, first.meanings))
+        refused = [it for it in self.kinds if any(picture.meanings[KINDS.index(it)] is None for picture in self.members)]
         there = [it for it in self.kinds if by_kind[it] != "" and it not in refused]
         parts = [clause(there, SAME, self.same_bytes)] if there else []
         for it in refused:
@@ -120,8 +120,8 @@ def _metadata_of(members: Sequence[Picture]) -> str:
     """What is true of the metadata of pictures that may have different ones."""
     known: Dict[str, List[str]] = {SAME: [], DIFFERENT: [], "refused or unreadable": [], ABSENT: []}
     for number, kind in enumerate(KINDS):
-        said = {it.said[number] for it in members}
-        word = ABSENT if said == {""} else "refused or unreadable" if None in said else SAME if len(said) == 1 else DIFFERENT
+        found = {it.meanings[number] for it in members}
+        word = ABSENT if found == {""} else "refused or unreadable" if None in found else SAME if len(found) == 1 else DIFFERENT
         known[word].append(kind)
     none = none_of(known.pop(ABSENT))
     text = ", ".join([*(clause(kinds, word, False) for word, kinds in known.items() if kinds), *none])
@@ -295,7 +295,7 @@ def _there(
     return group
 
 
-_SHARED = ("root", "type", "extractor", "detail", "unread", "said", "octets", "repaired", "maker_notes")
+_SHARED = ("root", "type", "extractor", "detail", "unread", "meanings", "octets", "repaired", "maker_notes")
 
 
 def _shrink(it: Picture, before: Sequence[Picture]) -> None:
@@ -329,7 +329,7 @@ def _groups_of(catalogue: Catalogue, found: Group, look: bool) -> Iterator[Group
     for group in _by_reading(found, look):
         if group.basis in (MAKER_NOTE, REPAIR):
             _take_one_of_each(group)
-        if group.count < 2 or (group.basis == REPAIR and all(None not in it.said for it in group.members)):
+        if group.count < 2 or (group.basis == REPAIR and all(None not in it.meanings for it in group.members)):
             continue
         first = group.members[0]
         if first.unread != "" and group.basis not in (MAKER_NOTE, CODED_PICTURE):
@@ -346,7 +346,7 @@ def _take_one_of_each(group: Group) -> None:
     by_key: Dict[Tuple[object, ...], List[Picture]] = {}
     at = [KINDS.index(it) for it in group.kinds]
     for it in group.members:
-        meaning = tuple(it.octets[number] if it.said[number] is None else it.said[number] for number in at)
+        meaning = tuple(it.octets[number] if it.meanings[number] is None else it.meanings[number] for number in at)
         by_key.setdefault((meaning, it.unread, it.maker_notes), []).append(it)
     group.members = [same[0] for same in by_key.values()]
     group.others = {same[0].id: len(same) - 1 for same in by_key.values() if len(same) > 1}

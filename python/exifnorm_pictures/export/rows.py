@@ -68,7 +68,7 @@ class Export:
 def _picture_row(it: Picture) -> Row:
     path, is_escaped = _path(it.path)
     about = (it.type or None, _state(it), it.problem, it.detail or None, it.size, _time(it.marks[1]))
-    return (it.id, path, int(is_escaped), it.path if is_escaped else None, _path(it.root)[0], *about, *(one or None for one in it.said))
+    return (it.id, path, int(is_escaped), it.path if is_escaped else None, _path(it.root)[0], *about, *(one or None for one in it.meanings))
 
 
 def _path(path: bytes) -> Tuple[str, bool]:

@@ -63,10 +63,10 @@ class Session:
             self.process.stdin.write(b"\n".join(lines))
         except OSError:
             raise Failed("ExifTool ended before it was asked") from None
-        said = programs.read_until(self.process, lambda it: it.endswith(done))
-        if not said.endswith(done):
+        output = programs.read_until(self.process, lambda it: it.endswith(done))
+        if not output.endswith(done):
             raise Failed(f"ExifTool ended with status {self._status()} at this file")
-        return _members(said[: -len(done)], names)
+        return _members(output[: -len(done)], names)
 
     def _handed_over(self, path: bytes, number: int) -> bytes:
         """The path itself if it is plain, otherwise a link to it in this process's folder."""
@@ -92,12 +92,12 @@ class Session:
         programs.end(self.process)
 
 
-def _members(said: bytes, names: Sequence[bytes]) -> List[Dict[str, str]]:
+def _members(output: bytes, names: Sequence[bytes]) -> List[Dict[str, str]]:
     """The object in an output about each file. Raises `Failed` for anything else."""
-    if not said.strip():
+    if not output.strip():
         return [{} for _ in names]
     try:
-        found = json.loads(said, parse_int=str, parse_float=str)
+        found = json.loads(output, parse_int=str, parse_float=str)
     except (ValueError, RecursionError):
         raise Failed("ExifTool's answer isn't understood: it is no JSON") from None
     if not isinstance(found, list) or len(found) != len(names) or not all(isinstance(it, dict) for it in found):

@@ -139,18 +139,18 @@ def _judge_xmp(at: FoundBlock, extensions: xmp.Extensions, left: Dict[str, bytes
     """Reads a packet with its extended XMP, which is taken out of `left`."""
     used: Set[str] = set()
     try:
-        said: Optional[xmp.Statements] = xmp.statements(at.data, extensions, used)
+        statements: Optional[xmp.Statements] = xmp.statements(at.data, extensions, used)
         cause = ""
     except xmp.Unreadable as error:
-        said, cause = None, error.cause
+        statements, cause = None, error.cause
     octets = hashlib.sha256(at.data)
     for it in sorted(used):
         octets.update(extensions.data.get(it, b""))
         left.pop(it, None)
-    if said is None:
+    if statements is None:
         return _unreadable(XMP, at, len(at.data), octets.hexdigest(), cause)
-    fields = packed(xmp.fields(said)) if with_fields else None
-    return Block(XMP, *at[2:5], ACCEPTED, xmp.digest(said), None, None, len(at.data), octets.hexdigest(), fields)
+    fields = packed(xmp.fields(statements)) if with_fields else None
+    return Block(XMP, *at[2:5], ACCEPTED, xmp.digest(statements), None, None, len(at.data), octets.hexdigest(), fields)
 
 
 def _unreadable(kind: str, at: FoundBlock, length: int, octets: str, cause: str) -> Block:

@@ -90,16 +90,16 @@ def version(program: str) -> Optional[str]:
     if not is_there(program):
         return None
     words = exiftool("-ver") if program == "exiftool" else [needed(program), "--version"]
-    said = run(words).stdout[:1000].decode("ascii", "replace").split("\n", 1)[0]
-    return said.rpartition(" ")[2].strip() or None
+    output = run(words).stdout[:1000].decode("ascii", "replace").split("\n", 1)[0]
+    return output.rpartition(" ")[2].strip() or None
 
 
 def run(words: List[str], folder: Optional[str] = None) -> Done:
     """Runs a program to its end. Raises `Failed` if it takes too long or writes too much."""
     started = start(words, folder)
     try:
-        said = read_until(started, lambda _: False)
-        return Done(started.wait(max(limit(), 1.0)), said)
+        output = read_until(started, lambda _: False)
+        return Done(started.wait(max(limit(), 1.0)), output)
     except subprocess.TimeoutExpired:
         raise TooSlow(f"{_name(words)} took longer than {limit():g} seconds") from None
     finally:
@@ -165,15 +165,15 @@ def read_until(started: "subprocess.Popen[bytes]", complete: Callable[[bytearray
     """A program's output until it is complete or ends. Raises `Failed` at the limits."""
     assert started.stdout is not None
     ends = time.monotonic() + limit()
-    said = bytearray()
-    while not complete(said):
+    output = bytearray()
+    while not complete(output):
         left = ends - time.monotonic()
         if left <= 0 or not select.select([started.stdout], [], [], left)[0]:
             raise TooSlow(f"{_name(started.args)} took longer than {limit():g} seconds")  # type: ignore[arg-type]
         piece = os.read(started.stdout.fileno(), _PIECE)
         if not piece:
             break
-        said += piece
-        if len(said) > OUTPUT:
+        output += piece
+        if len(output) > OUTPUT:
             raise Failed(f"{_name(started.args)} wrote more than {OUTPUT:,} bytes about one file")  # type: ignore[arg-type]
-    return bytes(said)
+    return bytes(output)

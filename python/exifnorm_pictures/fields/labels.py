@@ -87,8 +87,8 @@ def decoded(octets: bytes, declares_utf8: bool = False) -> Tuple[str, str]:
         text = bare.decode("utf-8")
         return text, "" if bare.isascii() or declares_utf8 else "character set guessed: UTF-8"
     except UnicodeDecodeError:
-        said = "declared as UTF-8, which it isn't" if declares_utf8 else "character set guessed"
-        return bare.decode("cp1252", "backslashreplace"), f"{said}: Windows-1252"
+        remark = "declared as UTF-8, which it isn't" if declares_utf8 else "character set guessed"
+        return bare.decode("cp1252", "backslashreplace"), f"{remark}: Windows-1252"
 
 
 # Exif and IPTC

@@ -153,7 +153,7 @@ def _best(picture: bytes, repair: Optional[_Repair], room: str) -> Optional[Atte
     first = os.path.join(room, "first" + suffix)
     with opening.reading(picture) as given, open(first, "xb") as made_first:
         shutil.copyfileobj(given, made_first)
-    said = _printed(first)
+    before = _printed(first)
     best: Optional[Attempt] = None
     for step in STEPS:
         made = os.path.join(room, step + suffix)
@@ -167,7 +167,7 @@ def _best(picture: bytes, repair: Optional[_Repair], room: str) -> Optional[Atte
         if taken.problem or _refusals(taken):
             continue
         after = _printed(made)
-        lost, gained = sorted((said - after).elements()), sorted((after - said).elements())
+        lost, gained = sorted((before - after).elements()), sorted((after - before).elements())
         if best is None or (len(lost), len(gained)) < (len(best[2]), len(best[3])):
             best = (step, made, lost, gained)
         if not lost and not gained:
@@ -180,8 +180,8 @@ _FREE = ("PageName", "DocumentName", "HostComputer")
 
 def _free_field(name: str) -> Optional[str]:
     """A field of the main directory that the picture doesn't have, so that adding and taking it away changes none."""
-    said = programs.run(programs.exiftool("-q", "-q", "-m", "-s", *(f"-IFD0:{it}" for it in _FREE), name)).stdout
-    there = {line.split(b":")[0].strip().decode("ascii", "replace") for line in said.split(b"\n")}
+    output = programs.run(programs.exiftool("-q", "-q", "-m", "-s", *(f"-IFD0:{it}" for it in _FREE), name)).stdout
+    there = {line.split(b":")[0].strip().decode("ascii", "replace") for line in output.split(b"\n")}
     return next((it for it in _FREE if it not in there), None)
 
 
@@ -220,7 +220,7 @@ _OFFSETS = re.compile(rb"Offset|Start |Padding|IPTCDigest")
 def _printed(name: str) -> "Counter[str]":
     """All values that ExifTool prints, except offsets."""
     words = ["-q", "-q", "-m", "-a", "-u", "-s", "-G1", "-x", "System:all", "-x", "File:all", "-x", "Composite:all"]
-    said = programs.run(programs.exiftool(*words, "-x", "ExifTool:all", "-x", "JFIF:all", name)).stdout
-    lines = [it for it in said.split(b"\n") if it and not _OFFSETS.search(it)]
+    output = programs.run(programs.exiftool(*words, "-x", "ExifTool:all", "-x", "JFIF:all", name)).stdout
+    lines = [it for it in output.split(b"\n") if it and not _OFFSETS.search(it)]
     cleaned = (re.sub(rb", use -b.*", b"", it).decode("utf-8", "backslashreplace") for it in lines)
     return Counter(re.sub(r"\s+", " ", it) for it in cleaned)

@@ -239,7 +239,7 @@ def _unknown_type(block: bytes, walk: Walk) -> _Done:
     it, one = wrong[0]
     if one.type == 13:
         return _with_type(block, walk, one), "type 13 (IFD) read as LONG", ""
-    return _without(block, walk, it, one.place), f"tag {one.tag:04x} of type {one.type}, which there isn't, left out", "a value"
+    return _without(block, walk, it, one.place), f"tag {one.tag:04x} of unknown type {one.type} left out", "a value"
 
 
 def _with_type(block: bytes, walk: Walk, one: Entry, number: Optional[int] = None) -> bytearray:

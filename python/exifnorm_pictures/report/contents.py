@@ -62,7 +62,7 @@ class EqualChanges:
 
     result: str
     note: str
-    lines: List[Tuple[str, Optional[str], Optional[str], str]]  # a field, its two values, and what is said in their place
+    lines: List[Tuple[str, Optional[str], Optional[str], str]]  # a field, its two values, and what is printed in their place
     count: int
     names: List[bytes]
 
@@ -168,12 +168,12 @@ def _gather_changes(found: Gathered, about: About) -> None:
             continue
         found.fields.update({change.name for change in it.changes})
         to = f"to {shown_path(it.moved_to)}" if it.moved_to is not None else ""
-        said = [it.result, it.note or to, [(one.name, *sides(one), one.note) for one in it.changes]]
-        equal.add(json.dumps(said), it.name, it.moved_to is not None)
+        text = [it.result, it.note or to, [(one.name, *sides(one), one.note) for one in it.changes]]
+        equal.add(json.dumps(text), it.name, it.moved_to is not None)
 
     def heads() -> Iterator[Tuple[int, int, int, EqualChanges]]:
-        for number, (said, count, names) in enumerate(equal.all()):
-            result, note, lines = json.loads(said)
+        for number, (text, count, names) in enumerate(equal.all()):
+            result, note, lines = json.loads(text)
             found.all_changed += 1
             kept = [name for name, _ in zip(names, range(MOST_NAMES))]
             yield changed.RESULTS.index(result), -count, number, EqualChanges(result, note, lines, count, kept)

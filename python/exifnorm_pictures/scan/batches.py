@@ -67,5 +67,5 @@ def batch(file: str, entries: Sequence[PictureRecord], left: Sequence[FoundFile]
         base.execute("BEGIN")
         put_rows(base, 0, 1, [it for it in entries if it.problem not in KEPT_BEFORE] if unread else entries)
         base.execute("COMMIT")
-    said = [line for it in entries for line in lines(it)] if lines else []
-    return Batch(file, Counter(it.state for it in entries), said, unread, left)
+    printed = [line for it in entries for line in lines(it)] if lines else []
+    return Batch(file, Counter(it.state for it in entries), printed, unread, left)

@@ -44,7 +44,7 @@ class IndexOptions:
     again: bool = False  # also the pictures that haven't changed
     quiet: bool = False
     how: How = How()
-    say: Optional[PrintLine] = None  # prints a line about a picture that was looked at, once it is committed
+    print_line: Optional[PrintLine] = None  # prints a line about a picture that was looked at, once it is committed
     look: Look = _looked
     excluded: Excluded = field(default_factory=Excluded)
     lines: Optional[Lines] = None  # makes the lines about folders that can't be read and names without a file; that of `how` by default
@@ -233,7 +233,7 @@ class _Looking:
         for it in self.ready:
             if isinstance(it, Batch):
                 self.work.counts += it.states
-                self.say(it.lines)
+                self.print_lines(it.lines)
                 os.unlink(it.file)
             else:
                 self.count(it, self.options.how.lines)
@@ -247,10 +247,10 @@ class _Looking:
         """Counts and reports a picture."""
         self.work.counts[it.state] += 1
         if lines:
-            self.say(lines(it))
+            self.print_lines(lines(it))
 
-    def say(self, lines: Iterable[str]) -> None:
+    def print_lines(self, lines: Iterable[str]) -> None:
         """Prints lines about pictures."""
-        if self.options.say:
+        if self.options.print_line:
             for line in lines:
-                self.options.say(line)
+                self.options.print_line(line)

@@ -34,16 +34,16 @@ class _Tree:
 
     def __init__(self, rdflib: Any, graph: Any) -> None:
         self._rdflib = rdflib
-        self._said: Dict[Any, List[Tuple[Any, Any]]] = {}
+        self._by_subject: Dict[Any, List[Tuple[Any, Any]]] = {}
         inner: List[Any] = []
         for subject, predicate, value in graph:
-            self._said.setdefault(subject, []).append((predicate, value))
+            self._by_subject.setdefault(subject, []).append((predicate, value))
             if isinstance(value, rdflib.BNode):
                 inner.append(value)
         below = set(inner)
         if len(below) < len(inner):
             raise Unreadable("Shared")
-        self._tops = [it for it in self._said if it not in below]
+        self._tops = [it for it in self._by_subject if it not in below]
         self._reached: Set[Any] = set()
 
     def statements(self) -> Statements:
@@ -51,8 +51,8 @@ class _Tree:
         names = {str(it).rstrip("/#") for it in self._tops if isinstance(it, self._rdflib.URIRef)}
         if len(names - {_BASE, ""}) > 1:
             raise Unreadable("SeveralSubjects")
-        found = tuple(self._statement(*it) for top in self._tops for it in self._said[top])
-        if len(self._reached) + len(self._tops) < len(self._said):
+        found = tuple(self._statement(*it) for top in self._tops for it in self._by_subject[top])
+        if len(self._reached) + len(self._tops) < len(self._by_subject):
             raise Unreadable("Shared")  # a ring that no statement points to
         return found
 
@@ -65,4 +65,4 @@ class _Tree:
         if isinstance(value, self._rdflib.URIRef):
             return Resource(str(value))
         self._reached.add(value)
-        return Node(tuple(self._statement(*it) for it in self._said.get(value, ())))
+        return Node(tuple(self._statement(*it) for it in self._by_subject.get(value, ())))

@@ -41,9 +41,9 @@ def _shortened(value: Value) -> str:
 def _form(value: Value) -> Tuple[str, int]:
     """A word for the form of a value, and the number of its members."""
     if isinstance(value, Node):
-        said = unique(value.statements)
-        members = sum(MEMBER.match(it.predicate) is not None for it in said)
-        return (value.container, members) if value.container else ("structure", len(said))
+        statements = unique(value.statements)
+        members = sum(MEMBER.match(it.predicate) is not None for it in statements)
+        return (value.container, members) if value.container else ("structure", len(statements))
     return ("text" if isinstance(value, Literal) else "URI"), 1
 
 
@@ -53,10 +53,10 @@ def _shown(value: Value) -> str:
         return text + (f"@{escaped(value.language)}" if value.language else "") + (f"^^{escaped(value.datatype)}" if value.datatype else "")
     if isinstance(value, Resource):
         return f"<{escaped(value.uri)}>"
-    said = unique(value.statements)
+    statements = unique(value.statements)
     word = value.container
-    members = [it for it in said if word and MEMBER.match(it.predicate)]
-    if word and len(members) + 1 == len(said):  # nothing but its type
+    members = [it for it in statements if word and MEMBER.match(it.predicate)]
+    if word and len(members) + 1 == len(statements):  # nothing but its type
         members.sort(key=lambda it: key_of(it.value) if word == "Bag" else f"{len(it.predicate):09}{it.predicate}")
         return f"{word}[" + ", ".join(_shown(it.value) for it in members) + "]"
-    return "{" + ", ".join(sorted(f"{escaped(short_name(it.predicate))}={_shown(it.value)}" for it in said)) + "}"
+    return "{" + ", ".join(sorted(f"{escaped(short_name(it.predicate))}={_shown(it.value)}" for it in statements)) + "}"
