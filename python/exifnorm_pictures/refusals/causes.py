@@ -376,10 +376,11 @@ exifnorm-pictures explain refused.jpg || test $? -eq 2
 exifnorm-pictures mend refused.jpg mended.jpg
 ```
 
-`mend` tries four steps on a copy. The first repairs an Exif block as `explain` names it: entries are sorted, shared values copied, the
-second of two equal entries left out. The rest of the file stays as it is. The other steps let programs write the block again. `mend` uses
-the first step whose block is accepted and that changes no printed value, and otherwise the step that loses fewest values. It lists the
-values that were lost and those that are new. By hand the other steps are:
+`mend` tries four steps on a copy. The first repairs an Exif block of a JPEG, PNG or WebP file: entries are sorted, shared values copied,
+the second of two equal entries left out. The rest of the file stays as it is, and no other program is needed if nothing is lost. In other
+files, such as TIFF, the other steps are tried. The other steps let programs write the block again. `mend` uses the first step whose block
+is accepted and that changes no printed value, and otherwise the step that loses fewest values. It lists the values that were lost and those
+that are new. By hand the other steps are:
 
 *Touch*: ExifTool adds a field and removes it, and so lays the block out again.
 
