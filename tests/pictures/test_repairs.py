@@ -11,7 +11,7 @@ from exifnorm_pictures.cli import main
 from exifnorm_pictures.extract.formats.found import EXIF, FoundBlock
 from exifnorm_pictures.fields import normal_form
 from exifnorm_pictures.refusals import repaired_file, repairs, steps
-from made_blocks import ASCII, BLOCKS, LONG, SHORT, entry, table
+from made_blocks import ASCII, BLOCKS, LONG, MAKE, SHORT, entry, table
 from made_files import app1, chunk, exif, jpeg, page, png, tiff, webp
 from studio import needs
 
@@ -225,6 +225,17 @@ def test_a_directory_that_covers_all_and_more():
     made = repairs.repaired(b"MM\0*\0\0\0\x08" + table(rows) + short + b"\xea\x60" + entry(0x0001, ASCII, 2, b"N\0\0\0"))
     assert "entries" in steps.loses(made.steps) and len(made.steps) < 6
     assert [key for _, key, _ in fields_of(made)] == ["010f", "9000", "0001"]
+
+
+@pytest.mark.parametrize("tag, name", [(0xA005, "Interoperability directory"), (None, "thumbnail directory")])
+def test_a_directory_that_cannot_be_one(tag, name):
+    """Its pointer leads into other bytes. The rest of the block is read, but for an entry of a type that there isn't."""
+    made_up = table([entry(it, 77, 1, 0) for it in range(1, 200)])
+    rows = [entry(0x9000, 7, 4, b"0232"), entry(0x9001, 77, 1, 0), *([entry(tag, LONG, 1, 92)] if tag else [])]
+    main = table([MAKE, entry(0x8769, LONG, 1, 38)], 0 if tag else 92)
+    made = repairs.repaired((b"MM\0*\0\0\0\x08" + main + table(rows)).ljust(92, b"\0") + made_up)
+    assert sorted(it.loses for it in made.steps) == ["a directory", "a value"] and name in steps.words(made.steps)
+    assert [key for _, key, _ in fields_of(made)] == ["010f", "9000"]
 
 
 def test_a_hopeless_block_ends_soon(monkeypatch):

@@ -201,15 +201,17 @@ def _cut_directory(block: bytes, walk: Walk) -> _Done:
 
 def _empty(block: bytes, walk: Walk) -> _Done:
     for it in walk.directories:
-        if it.size:
-            continue
-        if it.name == "thumb":
-            return _put(block, walk, it.named_at, 0), "an empty directory left out", ""
-        for outer in walk.directories:
-            for one in outer.entries:
-                if one.place + 8 == it.named_at:
-                    return _without(block, walk, outer, one.place), "an empty directory left out", ""
+        if not it.size and (out := _without_directory(block, walk, it)):
+            return out, "an empty directory left out", ""
     return None
+
+
+def _without_directory(block: bytes, walk: Walk, it: Directory) -> Optional[bytearray]:
+    """The block without the pointer to a directory; None for the main directory."""
+    if it.name == "thumb":
+        return _put(block, walk, it.named_at, 0)
+    pointers = ((outer, one) for outer in walk.directories for one in outer.entries if one.place + 8 == it.named_at)
+    return next((_without(block, walk, outer, one.place) for outer, one in pointers), None)
 
 
 def _doubled(block: bytes, walk: Walk) -> _Done:
@@ -234,8 +236,12 @@ def _doubled(block: bytes, walk: Walk) -> _Done:
 
 def _unknown_type(block: bytes, walk: Walk) -> _Done:
     wrong = [(it, one) for it in walk.directories for one in it.entries if one.type == 13 or one.type not in SIZE]
-    if not wrong or len(wrong) > MOST:  # one is left out in a step
+    if not wrong:
         return None
+    if len(wrong) > MOST:  # one is left out in a step; a directory of such entries can't be one
+        it = max(walk.directories, key=lambda one: sum(of is one for of, _ in wrong))
+        left = _without_directory(block, walk, it)
+        return (left, f"the {_NAMES[it.name]}, whose entries have unknown types, left out", "a directory") if left else None
     it, one = wrong[0]
     if one.type == 13:
         return _with_type(block, walk, one), "type 13 (IFD) read as LONG", ""
