@@ -1,6 +1,7 @@
 """--json: each line of each command has the shape that the installed JSON Schema has and docs/JSON.md describes, and typed values."""
 
 import copy
+import hashlib
 import json
 import os
 import re
@@ -15,6 +16,7 @@ import pytest
 from made_blocks import BLOCKS, with_exif
 from made_files import app1, app1_xmp, exif, jpeg, title, xmp
 from studio import SMALL_JPEG, TOP, needs
+from test_captions import data_set, with_record, with_texts
 
 from exifnorm_pictures.fields.listing import Field
 from exifnorm_pictures.fields.typed import typed
@@ -226,6 +228,20 @@ def test_typed_values(kind, count, shown, value):
 )
 def test_typed_values_of_xmp(kind, count, shown, value):
     assert typed(Field("xmp", "dc:title", kind, count, shown)) == value
+
+
+def test_long_texts_are_whole(objects, folder):
+    """Of Exif and IPTC, in the order of a DataSet that is repeated; other long values are digests."""
+    texts = [b"a" * 500, b"b", "ü".encode() * 300, b"\xfc" * 500]
+    record = with_record(*(data_set(25, it) for it in texts))
+    (folder / "a.jpg").write_bytes(jpeg(with_texts(description=b"x" * 900), record))
+    (found,) = objects("show", "@/a.jpg")
+    values = [(it["name"], it["value"]) for block in found["blocks"] for it in block["fields"]]
+    digest = hashlib.sha256(texts[3]).hexdigest()[:32]
+    assert values == [
+        ("IFD0:ImageDescription", "x" * 900),
+        *(("IPTC:Keywords", it) for it in ("a" * 500, "b", "ü" * 300, {"sha256": digest, "count": 500})),
+    ]
 
 
 # The schema and its description

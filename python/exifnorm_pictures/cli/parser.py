@@ -188,6 +188,7 @@ def _merge_arguments(it: argparse.ArgumentParser) -> None:
 
 
 def _same_arguments(it: argparse.ArgumentParser) -> None:
+    _example(it, "same --catalogue archive.catalogue --csv > same.csv")
     it.add_argument("--catalogue", required=True, type=_name, metavar="FILE")
     words = "the blocks that must mean the same (all); pixels: the coded picture must be the same, by the digests of index --pixels"
     it.add_argument("--kind", choices=("all", *KIND_OF, PIXELS), default="all", help=words)
@@ -263,6 +264,11 @@ def _pictures_arguments(it: argparse.ArgumentParser) -> None:
     _looking_arguments(it)
 
 
+def _show_arguments(it: argparse.ArgumentParser) -> None:
+    _example(it, "show --csv picture.jpg > fields.csv")
+    _pictures_arguments(it)
+
+
 def _captions_arguments(it: argparse.ArgumentParser) -> None:
     _example(it, "captions --csv pictures > captions.csv")
     it.add_argument("pictures", nargs="*", type=_name, metavar="PICTURE", help="a picture, or a folder with all below it")
@@ -322,7 +328,7 @@ _COMMANDS: Tuple[Tuple[str, str, Callable[[argparse.ArgumentParser], None]], ...
     ("same", "list groups of pictures that mean the same", _same_arguments),
     ("changed", "list the differences between two catalogues or folders, with the fields", _changed_arguments),
     ("compare", "compare two pictures: what differs, side by side, in plain words", _compare_arguments),
-    ("show", "print the fields of pictures", _pictures_arguments),
+    ("show", "print the fields of pictures", _show_arguments),
     ("captions", "print captions, names, keywords and rights of pictures, each with its fields", _captions_arguments),
     ("conflicts", "list pictures whose Exif, IPTC and XMP contradict each other", _conflicts_arguments),
     ("explain", "explain why a block is refused, and name remedies", _pictures_arguments),

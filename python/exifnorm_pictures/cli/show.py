@@ -3,9 +3,10 @@
 from __future__ import annotations
 
 import argparse
-from typing import Iterator, List
+from typing import Iterator, List, Optional, Tuple
 
 from ..catalogue.records import Block
+from ..compare.two_pictures import Octets, octets_of
 from ..compare.verdicts import ACCEPTED
 from ..extract.formats.found import PROGRAMS, FoundBlock
 from ..fields.listing import Field, readable, unpacked
@@ -39,6 +40,18 @@ def _fields(it: Block) -> List[Field]:
     return unpacked(it.kept) if it.kept else []
 
 
+def _with_octets(picture: Judged, it: Block) -> Iterator[Tuple[Field, Optional[bytes]]]:
+    """The fields of a block, each with its bytes if it has bytes and is only kept by a digest."""
+    fields = _fields(it)
+    known: Octets = {}
+    if any("sha256:" in one.shown for one in fields):
+        known = octets_of(it.kind, next(one.data for one in picture.read.found if one.name == it.name))
+    for one in fields:
+        same = known.get((one.where, one.key), [])
+        octets = same.pop(0) if same else None
+        yield one, octets if "sha256:" in one.shown else None
+
+
 # Lines
 
 
@@ -64,8 +77,9 @@ def _print_rows(table: Table, it: Judged) -> None:
         note = "read after repair in memory" if block.repair else None
         if block.status != ACCEPTED:
             table.row(it.name, block.name, *_NO_FIELD, block.line + (f"; repaired in memory: {steps.words(block.steps)}" if note else ""))
-        for one in _fields(block):
-            values = (group_name(one.where, one.key), exact_key(one.where, one.key), one.type, one.elements, plain(one), one.shown)
+        for one, octets in _with_octets(it, block):
+            name = (group_name(one.where, one.key), exact_key(one.where, one.key))
+            values = (*name, one.type, one.elements, plain(one, octets), one.shown)
             table.row(it.name, block.name, *values, note)
     for text in _notes(it):
         table.row(it.name, None, *_NO_FIELD, text)
@@ -87,18 +101,19 @@ def _notes(it: Judged) -> Iterator[str]:
 
 
 def _members(it: Judged) -> Members:
-    blocks = [{**block_object(one), **_block_members(one)} for one in it.blocks]
+    blocks = [{**block_object(one), **_block_members(it, one)} for one in it.blocks]
     about = {**picture_object(it.name, it.read.problem, it.read.detail), "type": it.read.type or None}
     return {**about, "blocks": blocks, "not_read": [part.what for part in it.read.not_read]}
 
 
-def _block_members(it: Block) -> Members:
+def _block_members(picture: Judged, it: Block) -> Members:
     repair = [step._asdict() for step in it.steps]
-    return {"extractor": it.extractor, "repair": repair, "fields": [field_members(one) for one in _fields(it)]}
+    fields = [_field_members(*one) for one in _with_octets(picture, it)]
+    return {"extractor": it.extractor, "repair": repair, "fields": fields}
 
 
-def field_members(it: Field) -> Members:
+def _field_members(it: Field, octets: Optional[bytes]) -> Members:
     """A field: its name for people, what identifies it, and its value for people, exactly and for programs."""
     name = {"name": group_name(it.where, it.key), "directory": it.where, "key": exact_key(it.where, it.key)}
-    values = {"type": it.type, "count": it.elements, "plain": plain(it), "exact": it.shown, "value": typed(it)}
+    values = {"type": it.type, "count": it.elements, "plain": plain(it, octets), "exact": it.shown, "value": typed(it, octets)}
     return {**name, **values}

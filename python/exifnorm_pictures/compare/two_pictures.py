@@ -156,7 +156,7 @@ class _Whole:
     def octets(self, block: str, it: Field) -> List[bytes]:
         """The bytes of a field; none if it has others by now."""
         if block not in self._octets:
-            self._octets[block] = _octets_of(*self._block(block))
+            self._octets[block] = octets_of(*self._block(block))
         return self._octets[block].get((it.where, it.key), [])
 
     def xmp(self, block: str, key: str) -> Optional[str]:
@@ -176,7 +176,8 @@ class _Whole:
         return self._blocks.get(name, ("", b""))
 
 
-def _octets_of(kind: str, data: bytes) -> Octets:
+def octets_of(kind: str, data: bytes) -> Octets:
+    """The bytes of the fields of a block that have bytes, each as a list; those of a refused one after its repair, if one is known."""
     found: Octets = {}
     if not data or kind == XMP:
         return found

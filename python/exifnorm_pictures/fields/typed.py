@@ -15,8 +15,8 @@ _PATTERNS = {"FLOAT": ">f", "DOUBLE": ">d"}
 _DIGEST = re.compile("sha256:([0-9a-f]+)$")
 
 
-def typed(it: Field) -> Any:
-    """The value of a field as JSON has it; None for a structure of XMP.
+def typed(it: Field, octets: Optional[bytes] = None) -> Any:
+    """The value of a field as JSON has it; None for a structure of XMP. `octets`, its bytes if they are known, are for a long text.
 
     >>> typed(Field("main", "0112", "SHORT", 1, "6")), typed(Field("exif", "829a", "RATIONAL", 1, "10/1250"))
     (6, 0.008)
@@ -25,6 +25,9 @@ def typed(it: Field) -> Any:
     """
     short = _DIGEST.search(it.shown)
     if short and not it.shown.endswith('"'):
+        text = _long_text(it, octets)
+        if text is not None:
+            return text
         return {"sha256": short[1], "count": it.elements}
     if it.where == "xmp":
         return _of_xmp(it)
@@ -36,6 +39,15 @@ def typed(it: Field) -> Any:
         return {"hex": octets.hex()}
     numbers = _numbers(it)
     return numbers[0] if len(numbers) == 1 else numbers
+
+
+def _long_text(it: Field, octets: Optional[bytes]) -> Optional[str]:
+    if octets is None or not (it.type in ("ASCII", "UTF8") or it.where == "iptc"):
+        return None
+    try:
+        return (octets[:-1] if octets.endswith(b"\0") else octets).decode("utf-8")
+    except UnicodeDecodeError:
+        return None
 
 
 def together(fields: Sequence[Field]) -> Any:
