@@ -10,7 +10,7 @@ from made_files import app1, app13
 from studio import WithPictures, write
 
 from exifnorm_pictures.extract import exiftool, programs, readers
-from exifnorm_pictures.extract.formats import tiff
+from exifnorm_pictures.extract.formats import bigtiff, tiff
 from exifnorm_pictures.extract.formats.found import PROBLEMS, Blocks, NotRead
 
 ASKED = ("-EXIF:Exif", "-IPTC:IPTC", "-XMP:XMP", "-FileType#", "-MIMEType#", "-Error#")
@@ -66,7 +66,7 @@ class Answers(unittest.TestCase):
                 read = readers.reader_of(b"II*\0" + bytes(12), f"/a.b/c.{name}".encode())
                 self.assertEqual((read is None, read is tiff.read), (is_left, not is_left), name)
                 self.assertIs(readers.reader_of(b"II*\0" + bytes(12), f"/a.b/c.{name[:-1]}".encode()), tiff.read)
-        for name, head, expected in ((b"c.nef", b"GIF8", None), (b"c.rwl", b"IIU\0", tiff.read), (b"c.nef", b"MM\0+", tiff.read_big)):
+        for name, head, expected in ((b"c.nef", b"GIF8", None), (b"c.rwl", b"IIU\0", tiff.read), (b"c.nef", b"MM\0+", bigtiff.read)):
             self.assertIs(readers.reader_of(head + bytes(12), name), expected, name)
 
 

@@ -285,7 +285,7 @@ class Tiff(Pairs):
             words = self.answer(pointer, pointer)[1]
             self.assertIn("not wholly read: GlobalParametersIFD of page 1", words)
 
-    def test_big_tiff_is_not_read(self):
+    def test_big_tiff_that_is_broken(self):
         from exifnorm_pictures.extract import extraction
 
         write(self.path("big.tif"), b"II+\0\x08\0\0\0" + bytes(24))

@@ -16,7 +16,7 @@ from studio import SMALL_JPEG
 
 from exifnorm_pictures.extract import budgets
 from exifnorm_pictures.extract.formats import jpeg as jpeg_, mpf as mpf_, tiff as tiff_
-from exifnorm_pictures.extract.formats.found import PROBLEMS, Blocks, Broken, ordinal
+from exifnorm_pictures.extract.formats.found import Blocks, Broken, ordinal
 
 MIN = b"\xff\xd8\xff\xda\0\2\xff\xd9"  # a JPEG of one scan without data
 
@@ -567,10 +567,6 @@ class Readers(unittest.TestCase):
             self.broken(tiff([], [(0x010F, ASCII, b"12345678")]), "page 2 has more than 33 bytes of values")
         with mock.patch.object(tiff_, "LIMIT", 34):
             self.assertEqual(len(found_in(tiff([(0x010F, ASCII, b"12345678")])).found), 1)
-
-    def test_big_tiff(self):
-        big = tiff_.read_big(io.BytesIO(b""))
-        self.assertEqual((big.type, big.problem, big.detail), ("BTF", "BigTIFF", PROBLEMS["BigTIFF"]))
 
     def test_ordinals(self):
         words = ["first", "second", "third", "fourth", "fifth", "sixth", "seventh", "eighth", "ninth", "10th", "11th"]

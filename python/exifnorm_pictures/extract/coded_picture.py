@@ -4,7 +4,7 @@ Files with the same digest show the same picture, whatever their metadata are. F
 it was coded again. Colour profiles don't count.
 
 JPEG: all segments but those of applications and comments, of which Adobe's APP14 counts, and all data of the scans. PNG: the chunks of
-`_PNG`. WebP: the chunks of `_WEBP`, and of an animation the size in VP8X. TIFF, and raw pictures in its structure: of each page and SubIFD the tags of
+`_PNG`. WebP: the chunks of `_WEBP`, and of an animation the size in VP8X. TIFF, BigTIFF, and raw pictures in this structure: of each page and SubIFD the tags of
 `_CODING`, and the strips and tiles in their order.
 """
 
@@ -16,7 +16,7 @@ from typing import Dict, Iterator, List, Optional, Tuple
 
 from ..files import opening
 from .budgets import CHUNKS, SEGMENTS, STRIPS, Budget, TooMuch
-from .formats import jpeg, png, tiff, webp
+from .formats import bigtiff, jpeg, png, tiff, webp
 from .formats.found import Broken
 from .formats.jpeg_segments import EOI, SOI, SOS
 from .formats.jpeg_tail import Markers
@@ -47,7 +47,9 @@ def digest(stream: Stream, budget: Budget) -> str:
     elif webp.is_webp(head):
         _webp(stream, found, budget)
     elif head[:4] in tiff.HEADS:
-        _tiff(stream, found, budget)
+        _tiff(Directories(stream), found, budget)
+    elif head[:4] in bigtiff.HEADS:
+        _tiff(bigtiff.BigDirectories(stream), found, budget)
     else:
         return ""
     return found.hexdigest()
@@ -163,8 +165,7 @@ _OFFSETS = {0x0111: 0x0117, 0x0144: 0x0145, 0x0201: 0x0202}  # of strips, tiles 
 _OLD_TABLES = (0x0207, 0x0208, 0x0209)  # of JPEG in TIFF 6.0, whose lengths aren't in the file's directories
 
 
-def _tiff(stream: Stream, found: "hashlib.blake2b", budget: Budget) -> None:
-    directories = Directories(stream)
+def _tiff(directories: Directories, found: "hashlib.blake2b", budget: Budget) -> None:
     left, strips = directories.size, 0  # strips may share bytes in a made file
     for page in tiff.Reader(directories, False).pages():
         by_tag: Dict[int, Entry] = {it.tag: it for it in page.directory.entries}
@@ -179,7 +180,7 @@ def _tiff(stream: Stream, found: "hashlib.blake2b", budget: Budget) -> None:
             if left < 0 or strips > STRIPS:
                 raise Broken("the strips are more than the file")
             budget.check_time()
-            _add(stream, found, start, end)
+            _add(directories.stream, found, start, end)
 
 
 def _value(directories: Directories, it: Entry) -> bytes:

@@ -8,7 +8,7 @@ from __future__ import annotations
 import re
 from typing import Callable, NamedTuple, Optional, Tuple
 
-from .formats import cr3, gif, heif, jp2, jpeg, jxl, png, psd, raf, tiff, webp, xmp_file
+from .formats import bigtiff, cr3, gif, heif, jp2, jpeg, jxl, png, psd, raf, tiff, webp, xmp_file
 from .formats.found import Blocks
 from .formats.streams import Stream
 
@@ -178,7 +178,17 @@ FORMATS: Tuple[Format, ...] = (
         "",
         "pixels, comments, plain texts, ICC profiles, loops",
     ),
-    Format("BigTIFF", lambda head, _: head[:4] in tiff.BIG_HEADS, tiff.read_big, "not read", "not read", "not read"),
+    Format(
+        "BigTIFF",
+        lambda head, _: head[:4] in bigtiff.HEADS,
+        bigtiff.read,
+        "as of a TIFF; LONG8 counts as LONG",
+        "as of a TIFF",
+        "as of a TIFF",
+        "as of a TIFF",
+        "as of a TIFF; one that is damaged",
+        "as of a TIFF",
+    ),
     Format("NAME.xmp", lambda _, path: xmp_file.is_named_so(path), xmp_file.read, "", "", "the whole file"),
 )
 _OTHERS = ("others, damaged files, other raw pictures", "by ExifTool and exiv2, never wholly read", "by ExifTool", "by ExifTool")

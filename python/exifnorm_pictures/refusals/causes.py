@@ -64,8 +64,8 @@ _CAUSES = (
         "UnknownKind",
         "The input is neither an Exif block nor an IPTC record.",
         "An Exif block begins with `II*\\0` or `MM\\0*`, an IPTC record with the octet 1C. An empty block, a whole JPEG, XMP and"
-        " Photoshop resources begin otherwise. So does a BigTIFF (`II+\\0` or `MM\\0+`), whose offsets have eight bytes; it is"
-        " not read. A picture without metadata gives an empty block.",
+        " Photoshop resources begin otherwise. So does a BigTIFF (`II+\\0` or `MM\\0+`), whose offsets have eight bytes; as"
+        " a picture `exifnorm-pictures` reads it. A picture without metadata gives an empty block.",
         "3C 78 3A 78 6D 70 ..      <x:xmp .. is XMP\nFF D8 FF E1 ..            a whole JPEG\n!",
         (("pictures without metadata, extracted by a tool that gives an empty block with status 0", "many"),),
         "ExifTool: `Malformed APP1 EXIF segment`. exiv2: `This does not look like a TIFF image`. exif: `Corrupt data`. Pillow:"

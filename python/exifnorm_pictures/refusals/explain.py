@@ -18,8 +18,8 @@ _OTHER_FILES = (
     (b"\x89PNG", "This is a whole PNG; give it without --block."),
     (b"8BIM", "These are Photoshop resources; the IPTC record inside: exiftool -b -IPTC PICTURE"),
     (b"Photoshop 3.0", "These are Photoshop resources; the IPTC record inside: exiftool -b -IPTC PICTURE"),
-    (b"II+\0", "This is a BigTIFF, whose offsets have eight bytes; it is not read."),
-    (b"MM\0+", "This is a BigTIFF, whose offsets have eight bytes; it is not read."),
+    (b"II+\0", "This is a BigTIFF, whose offsets have eight bytes; as a picture it is read."),
+    (b"MM\0+", "This is a BigTIFF, whose offsets have eight bytes; as a picture it is read."),
     (b"RIFF", "This is a whole WebP; give it without --block."),
     (b"<", "This is XML, perhaps XMP, which is compared in whole pictures: give the picture without --block."),
 )

@@ -43,7 +43,7 @@ STATE_WORDS = {
     "LinkToNothing": "a link that leads to no file",
     "NotAFile": "a pipe, a socket or a device",
     "SeveralBlocks": "damaged CR3, or a film of Canon",
-    "BigTIFF": "BigTIFF, which is not read",
+    "BigTIFF": "BigTIFF that can't be read",
     "NeedsExiv2": "raw, and exiv2 is not installed",
     "NeedsExifTool": "of another format, and ExifTool is not installed",
     "TooMuch": "that go over a limit",

@@ -25,7 +25,7 @@ PROBLEMS = {
     "NoPicture": "the file is no picture that ExifTool knows",
     "SeveralBlocks": "a damaged CR3 or a film of Canon, which have several Exif blocks (CMT1 to CMT4): ExifTool extracts only the first,"
     " so two different ones could seem to be the same",
-    "BigTIFF": "a BigTIFF, whose offsets have eight bytes, is not read",
+    "BigTIFF": "a BigTIFF, of which no other program extracts an Exif block, can't be read",
     "NeedsExiv2": "ExifTool gives no Exif block of raw files; exiv2 does, and it isn't installed (package exiv2)",
     "TooMuch": "reading the file goes over a limit that no real picture reaches",
     "TooSlow": "the program that extracts blocks took longer than its limit; the next run tries again",

@@ -22,11 +22,11 @@ from .streams import Stream, digest_of_rest, pieces
 from .tiff_block import Layout, Table, is_pointer
 from .tiff_directories import HEADS, IFD, LONG, Directories, Directory, Entry
 
-__all__ = ["BIG_HEADS", "HEADS", "RAW_HEADS", "read", "read_big"]
+__all__ = ["BIG", "HEADS", "PIXELS", "RAW_HEADS", "read", "read_pages"]
 
 _ORF_HEADS = (b"IIRO", b"IIRS", b"MMOR")
 RAW_HEADS = (*_ORF_HEADS, RW2_HEAD)
-BIG_HEADS = (b"II+\0", b"MM\0+")
+BIG = "BigTIFF"
 DEEPEST = 10  # SubIFDs below one another
 
 PIXELS: Dict[int, str] = {
@@ -69,7 +69,12 @@ class _Page(NamedTuple):
 
 def read(stream: Stream, whole: bool = False) -> Blocks:
     """The blocks of a TIFF, or of a raw picture in its structure. Raises `Broken`."""
-    reader = Reader(Directories(stream), whole)
+    return read_pages(Directories(stream), whole)
+
+
+def read_pages(directories: Directories, whole: bool) -> Blocks:
+    """The blocks of the pages of a TIFF or BigTIFF. Raises `Broken`."""
+    reader = Reader(directories, whole)
     for page in reader.pages():
         reader.take(page)
     reader.directories.check()
@@ -77,15 +82,12 @@ def read(stream: Stream, whole: bool = False) -> Blocks:
     return reader.blocks
 
 
-def read_big(stream: Stream, whole: bool = False) -> Blocks:
-    """A BigTIFF, which is not read."""
-    return Blocks(type="BTF", problem="BigTIFF", detail="a BigTIFF, whose offsets have eight bytes, is not read")
-
-
 def _type_of(head: bytes) -> str:
     """The type of a file that begins like this."""
     if head[:4] in _ORF_HEADS:
         return "ORF"
+    if b"+" in head[2:4]:
+        return BIG
     return "RW2" if head[:4] == RW2_HEAD else "CR2" if head[8:] == b"CR" else "TIFF"
 
 
@@ -96,7 +98,7 @@ class Reader:
         self.directories = directories
         directories.stream.seek(0)
         self.blocks = Blocks(type=_type_of(directories.stream.read(10)), budget=directories.budget)
-        length = 16 if self.blocks.type == "CR2" else 8  # of the header
+        length = 16 if self.blocks.type in ("CR2", BIG) else 8  # of the header
         self._covered: List[Tuple[int, int]] = [(0, length)]  # all these parts
         self._has_note = False
         self._end: Optional[int] = length  # after all parts that the directories point to; None if it is unknown

@@ -64,7 +64,7 @@ class Layout:
         if entry.tag in table.below:
             offset = self._places[id(table.below[entry.tag])]
         elif entry.size <= 4:
-            return entry.last
+            return entry.last[:4]
         else:
             place = self._directories.place_of(entry)
             offset = self._moved(place[0]) if place else NOWHERE
