@@ -6,9 +6,10 @@ import struct
 import zlib
 
 from made_blocks import ASCII, segment
-from made_boxes import PICTURE, RDF, box, cr3, full, heif, jxl
+from made_boxes import PICTURE, RDF, box, cr3, full, heif, jp2, jxl
 from made_files import EXTENSION_HEAD, SPACES, app1_xmp, app13, chunk, jpeg, page, png, png_xmp, profile, tiff, webp, xmp
 from made_more_files import gif, psd
+from made_raw import rw2, whole_raf
 from studio import SMALL_JPEG
 
 SHARED = 8  # where the value begins that the pages of `sharing` share
@@ -127,6 +128,12 @@ FILES = {
     "boxes.jxl": (written(lambda: jxl(box(b"free") * 1_000_000)), "TooMuch"),
     "resources.psd": (written(lambda: psd(resources(2_600_000))), "TooMuch"),
     "sparse.psd": (sparse(psd()), "trailer"),
+    "sparse.gif": (sparse(gif()), "trailer"),
+    "sparse.jp2": (sparse(jp2()), "trailer"),
+    "sparse.jxl": (sparse(jxl()), "trailer"),
+    "sparse.raf": (sparse(whole_raf()), "trailer"),
+    "sparse.rw2": (sparse(rw2()), ""),  # whose pixels may go on to its end
+    "sparse.xmp": (sparse(xmp("")), "TooMuch"),
     "extensions.gif": (written(lambda: gif(b"\x21\xfe\0" * 1_000_000)), "TooMuch"),
     "scans.jpg": (written(lambda: SMALL_JPEG[:-2] + b"\xff\xc0\0\2" * 1_500_000), ""),
 }

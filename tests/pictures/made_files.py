@@ -197,8 +197,8 @@ def small_tiff(*entries, order="<", head=b"", more=b""):
     return tiff(list(entries), order=order, head=head, more=more)
 
 
-def raf(picture, directory=b"", pixels=b"", several=0, gap=0):
-    """A RAF: its header, a JPEG, a directory of Fujifilm's and what is at the pixels, each behind a gap."""
+def raf(picture, directory=b"", pixels=b"", several=0, gap=0, behind=b""):
+    """A RAF: its header, a JPEG, a directory of Fujifilm's and what is at the pixels, each behind a gap, and bytes after its end."""
     places, parts, at = [], b"", 148
     for it in (picture, directory, pixels):
         places.append((at + gap, len(it)) if it else (0, 0))
@@ -209,7 +209,7 @@ def raf(picture, directory=b"", pixels=b"", several=0, gap=0):
         struct.pack_into(">II", head, place, *it)
     struct.pack_into(">I", head, 0x48, several)
     struct.pack_into(">I", head, 0x4C, several)
-    return bytes(head) + parts
+    return bytes(head) + parts + behind
 
 
 def turned(octets):

@@ -108,7 +108,7 @@ FORMATS: Tuple[Format, ...] = (
         "those of the JPEG; Fujifilm's TIFF",
         "those of the JPEG",
         "those of the JPEG",
-        "as of the JPEG; Fujifilm's directories of the raw data",
+        "as of the JPEG; trailers, Fujifilm's directories of the raw data",
         "the header of several pictures",
         "pixels",
     ),

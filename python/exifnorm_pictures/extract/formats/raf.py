@@ -9,7 +9,7 @@ from __future__ import annotations
 from typing import Tuple
 
 from .embedded import add_jpeg
-from .found import Blocks, Broken, NotRead
+from .found import Blocks, Broken, NotRead, length_of
 from .private import add_directory
 from .streams import Stream, digest_of_rest, read_at, size_of
 from .tiff_block import is_pointer
@@ -36,19 +36,25 @@ def read(stream: Stream, whole: bool = False) -> Blocks:
     if jpeg < _JPEG + 8 or not length or jpeg + length > size:
         raise Broken("the JPEG of the RAF isn't in the file")
     add_jpeg(blocks, stream, jpeg, length, "", whole)
+    end = jpeg + length
     for at in (_SEVERAL, *_DIRECTORIES, *_TIFFS):
         start, length = _place(head, at)
         if at + 8 > jpeg or not start or not length:
             continue
         if at == _SEVERAL:
             blocks.name(NotRead("Fujifilm's header of several pictures", ""))
-        elif start + length > size:
+            continue
+        end = max(end, start + length)
+        if start + length > size:
             raise Broken(f"the part at {start} ends after the RAF")
         elif at in _DIRECTORIES:
             digest = digest_of_rest(stream, start, start + length)
             blocks.name(NotRead("Fujifilm's directory of the raw data", digest or ""))
         elif read_at(stream, start, 4) in HEADS:
             _add_own(blocks, Window(stream, start, length), start)
+    digest = digest_of_rest(stream, end, size) if end < size else None
+    if digest is not None:
+        blocks.name(NotRead(f"trailer of {length_of(size - end)}", digest))
     return blocks
 
 
