@@ -110,12 +110,12 @@ class SameAndChanged(InFolder):
 class ShowAndCaptions(WithPictures):
     def test_listing_is_readable(self):
         self.copied(collection())
-        lines = [it.split(None, 2) for it in self.asked("show", "picture.jpg")]
+        lines = [it.split(None, 2) for it in self.asked("show", "--exact", "picture.jpg")]
         self.assertIn(["013b", "Artist", 'ascii[8]       "Zürich"'], lines)
-        self.assertIn(["2:25", "Keywords", 'octets[3]      "one"'], lines)
-        self.assertIn('ascii "a comment"', "\n".join(self.asked("show", "picture.jpg")))
+        self.assertIn(["2:25", "Keywords", 'bytes[3]       "one"'], lines)
+        self.assertIn('ascii "a comment"', "\n".join(self.asked("show", "--exact", "picture.jpg")))
         thumbnail = [it for it in lines if it[0] == "jpeg"]
-        self.assertRegex(thumbnail[0][2], r"thumbnail +octets\[\d+\] +sha256:[0-9a-f]{12}$")
+        self.assertRegex(thumbnail[0][2], r"^bytes\[\d+\] +sha256:[0-9a-f]{12}$")
 
     def test_captions_are_texts(self):
         self.copied(collection())
@@ -128,7 +128,7 @@ class ShowAndCaptions(WithPictures):
     @needs("exiv2")
     def test_tiff(self):
         self.copied(collection())
-        self.assertTrue(any(it.split()[1:2] == ["Artist"] for it in self.asked("show", "picture.tif")))
+        self.assertIn(["IFD0:Artist", "Someone"], [it.split() for it in self.asked("show", "picture.tif")])
 
 
 class Explain(InFolder):

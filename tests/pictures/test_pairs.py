@@ -406,7 +406,7 @@ class Explained(WithPictures):
         for side, text in (("before", "one"), ("after", "two")):
             os.mkdir(self.path(side))
             write(self.path(side, "a.jpg"), jpeg(app1(A), app1_xmp(title(text))))
-        lines = self.asked("show", "before/a.jpg")
+        lines = self.asked("show", "--exact", "before/a.jpg")
         self.assertIn(["dc:format", "text", '"one"'], [it.split() for it in lines])
         words = "\n".join(self.asked("changed", "before", "after", "--each", status=1))
         self.assertIn('XMP-dc:format: "one" -> "two"', words)

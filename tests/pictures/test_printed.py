@@ -94,6 +94,7 @@ class Commands(InProcess):
             "show.txt",
             self.transcript(
                 (2, "show", *names),
+                (2, "show", "--exact", *names),
                 (0, "show", *self.named("e.jpg")),
                 (2, "show", "--block", "@/nothing", "@/block"),
                 (2, "show", *self.named("c.jpg", "f.jpg", "s/g.jpg", "nothing"), "--json"),

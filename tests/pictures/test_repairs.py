@@ -328,4 +328,4 @@ def test_shown_fields_of_a_refused_block(folder, capsys, monkeypatch):
     (folder / "a.jpg").write_bytes(jpeg(app1(REFUSED["unsorted"])))
     assert main._run(["show", "a.jpg"]) == 2
     printed = capsys.readouterr().out
-    assert "entries sorted" in printed and '"Model 7"' in printed and "tested, and not proved" in printed
+    assert "entries sorted" in printed and "Model 7" in printed and "tested, and not proved" in printed

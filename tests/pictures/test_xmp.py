@@ -240,7 +240,7 @@ class Packets(unittest.TestCase):
         self.assertEqual(found, [("xmp:dc:format", '"one"', '"two"')])
         self.assertEqual(one[1][1:], ("dc:subject", "Bag", 2, 'Bag["a", "b"]'))
         lines = list(listing.readable(one, "xmp"))
-        self.assertEqual([it.split() for it in lines[1:3]], [["[xmp]"], ["dc:format", "text", '"one"']])
+        self.assertEqual([it.split() for it in lines[1:3]], [["[XMP]"], ["dc:format", "text", '"one"']])
         long = [fields(title("x" * 1000 + it))[0].shown for it in "ab"]
         self.assertNotEqual(*long)
         self.assertLess(len(long[0]), 200)

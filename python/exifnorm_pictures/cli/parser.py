@@ -266,6 +266,7 @@ def _pictures_arguments(it: argparse.ArgumentParser) -> None:
 
 def _show_arguments(it: argparse.ArgumentParser) -> None:
     _example(it, "show --csv picture.jpg > fields.csv")
+    it.add_argument("--exact", action="store_true", help="each field with its tag, its type and its exact value")
     _pictures_arguments(it)
 
 

@@ -8,23 +8,24 @@ from typing import Iterator, List, Optional, Tuple
 from ..catalogue.records import Block
 from ..compare.two_pictures import Octets, octets_of
 from ..compare.verdicts import ACCEPTED
-from ..extract.formats.found import PROGRAMS, FoundBlock
+from ..extract.formats.found import PROGRAMS
 from ..fields.listing import Field, readable, unpacked
 from ..fields.plain_names import exact_key, group_name
 from ..fields.plain_values import plain
 from ..fields.typed import typed
 from ..refusals import steps
+from .columns import LONGEST_NAME, width
 from .each_block import Described, Judged, each_block, each_picture
 from .exit_codes import SUCCESS
 from .objects import block_object, picture_object, print_object
-from .output import Members
+from .output import Members, escaped
 from .tables import Table
 
 
 def run(arguments: argparse.Namespace) -> int:
     """Lists the fields of pictures."""
     if not arguments.json and not arguments.csv:
-        return each_block(arguments, _describe)
+        return each_block(arguments, lambda _, it: _described(it, arguments.exact))
     worst = SUCCESS
     table = Table(["picture", "block", "field", "key", "type", "count", "value", "exact value", "note"]) if arguments.csv else None
     for it in each_picture(arguments):
@@ -55,10 +56,20 @@ def _with_octets(picture: Judged, it: Block) -> Iterator[Tuple[Field, Optional[b
 # Lines
 
 
-def _describe(_: FoundBlock, it: Block) -> Described:
+def _described(it: Block, exact: bool) -> Described:
+    """The lines of a block."""
     by = f", extracted by {PROGRAMS[it.extractor]}" if it.extractor in PROGRAMS else ""
-    lines = list(readable(_fields(it), it.name + by))
+    fields = _fields(it)
+    lines = list(readable(fields, it.name + by)) if exact else [f"{it.name}{by}:", *_plain_lines(fields)]
     return (lines if it.status == ACCEPTED else [*_repaired(it), *lines[1:]]), {}
+
+
+def _plain_lines(fields: List[Field]) -> Iterator[str]:
+    """Each field with its name and its plain value."""
+    names = [group_name(it.where, it.key) for it in fields]
+    column = min(LONGEST_NAME, max(map(width, names), default=0))
+    for name, it in zip(names, fields):
+        yield f"  {name}{' ' * max(0, column - width(name))}  {escaped(plain(it))}"
 
 
 def _repaired(it: Block) -> List[str]:

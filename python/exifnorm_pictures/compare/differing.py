@@ -5,7 +5,7 @@ from __future__ import annotations
 from fractions import Fraction
 from typing import Dict, List, NamedTuple, Optional, Sequence, Tuple
 
-from ..fields.listing import Field, order_of, shortened
+from ..fields.listing import Field, counted_type, order_of, shortened
 from ..fields.names import full_name
 from ..fields.plain_names import group_name, group_of
 from ..fields.plain_numbers import FRACTION
@@ -54,7 +54,7 @@ def exact(fields: Sequence[Field]) -> Optional[str]:
     >>> exact([Field("main", "013b", "ASCII", 5, '"Otto"')])
     'ascii[5] "Otto"'
     """
-    return ", ".join(f"{it.type.lower()}[{it.elements}] {shortened(it.shown)}" for it in fields) if fields else None
+    return ", ".join(f"{counted_type(it)} {shortened(it.shown)}" for it in fields) if fields else None
 
 
 def bare(fields: Sequence[Field]) -> Optional[str]:

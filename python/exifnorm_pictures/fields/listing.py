@@ -12,6 +12,7 @@ from ..catalogue.records import Damaged
 from ..cli.output import escaped
 from ..extract.budgets import FIELD_BYTES
 from .names import full_name
+from .plain_names import group_of, plain_name
 
 LONGEST_TEXT = 400  # characters of a text that is shown whole
 LONGEST_BYTES = 32  # bytes that are shown in hexadecimal
@@ -149,19 +150,23 @@ def shortened(shown: str) -> str:
 
 
 def readable(found: List[Field], kind: str) -> Iterator[str]:
-    """The lines of a readable listing: a line for each directory, and one for each field below it."""
+    """The lines of an exact listing: a line for each directory, and one for each field below it."""
     yield f"{kind}:"
     where = None
     for it in found:
         if it.where != where:
             where = it.where
-            yield f"  [{where}]"
-        name = it.name.partition(":")[2]
+            yield f"  [{group_of(it.where)}]"
+        name = plain_name(it.where, it.key)
         if where == "xmp":
             yield f"    {name:<35} {it.type:<14} {shortened(it.shown)}"
             continue
-        count = f"{it.type.lower()}[{it.elements}]"
-        yield f"    {it.key:<6} {name:<28} {count:<14} {shortened(it.shown)}".rstrip()
+        yield f"    {it.key:<6} {name:<28} {counted_type(it):<14} {shortened(it.shown)}".rstrip()
+
+
+def counted_type(it: Field) -> str:
+    """The type of a field and the number of its elements: `short[1]`; bytes of IPTC and of a thumbnail have no type."""
+    return f"{'bytes' if it.type == 'octets' else it.type.lower()}[{it.elements}]"
 
 
 _quoted: Callable[[str], str] = json.encoder.encode_basestring_ascii  # type: ignore[attr-defined]  # typeshed lacks it
