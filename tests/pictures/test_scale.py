@@ -8,7 +8,9 @@ from collections import Counter
 import made_files as made
 from studio import WithPictures, needs, run, write
 
+from exifnorm_pictures.catalogue.records import Block, PictureRecord, Stamp
 from exifnorm_pictures.catalogue.store import Catalogue
+from exifnorm_pictures.extract.formats.found import EXIF
 
 EXV = b"\xff\x01Exiv2\xff\xd9"  # exiv2's own format, which has no reader here and goes to ExifTool
 GROWTH = 8  # MB by which ten times as many pictures may need more: SQLite's caches (2 MB each) and Python's own memory, no list of all
@@ -67,26 +69,37 @@ with open("/proc/self/status") as file:
 sys.exit(status)
 """
 
-_ROWS = """
-WITH RECURSIVE numbers(n) AS (SELECT 0 UNION ALL SELECT n + 1 FROM numbers WHERE n + 1 < {count})
-INSERT INTO pictures (path, root, size, modified, changed, inode, type, extractor, detail, exif, iptc, xmp, not_read, exif_octets,
-    iptc_octets, xmp_octets, maker_notes, file, run)
-SELECT CAST(printf('/archive/{folder}/%08d.jpg', {name}) AS BLOB), CAST('/archive' AS BLOB), 1000, {mark} + n, n, {mark} + n, 'JPEG', 'own',
-    '', printf('%064x', {says}), '', '', '', printf('%064x', {says}), '', '', '', '', 1 FROM numbers
-"""
-_BLOCKS = """
-INSERT INTO blocks (picture, number, kind, name, source, extractor, status, digest, length, octets)
-SELECT id, 0, 'exif', 'Exif', 'APP1 at 2', 'own', 'accepted', exif, 100, exif_octets FROM pictures
-"""
+_NUMBERS = "WITH RECURSIVE numbers(n) AS (SELECT 0 UNION ALL SELECT n + 1 FROM numbers WHERE n + 1 < {count})"
+
+
+def many_rows(base, count, says, folder, mark, name):
+    """Puts pictures into a catalogue that has one, each with a number as its meaning, by SQL over the number n of a picture. They have the
+    other values of that one, which then goes, and one block."""
+    meaning = f"printf('%064x', {says})"
+    picture = {
+        "id": "NULL",
+        "path": f"CAST(printf('/archive/{folder}/%08d.jpg', {name}) AS BLOB)",
+        **{"modified": f"{mark} + n", "changed": "n", "inode": f"{mark} + n"},
+        **{"exif": meaning, "exif_octets": meaning},
+    }
+    block = {"picture": "pictures.id", "digest": "exif", "octets": "exif_octets"}
+
+    def values(table, own):
+        return ", ".join(own.get(it[1], f"{table}.{it[1]}") for it in base.execute(f"PRAGMA table_info({table})"))
+
+    base.execute(f"{_NUMBERS.format(count=count)} INSERT INTO pictures SELECT {values('pictures', picture)} FROM pictures, numbers")
+    base.execute(f"INSERT INTO blocks SELECT {values('blocks', block)} FROM pictures, blocks WHERE pictures.id != blocks.picture")
+    base.execute("DELETE FROM pictures WHERE id = (SELECT min(id) FROM pictures)")
 
 
 class Scale(WithPictures):
     def catalogue(self, name, count, says="n / 20", folder="one", mark=0, named="n"):
         """A catalogue with this many pictures, each with a number as its meaning; all is SQL over the number n of a picture."""
         with Catalogue(self.path(name), make=True) as made_:
-            made_.begin_run("2000-01-01T00:00:00Z")
-            made_.base.execute(_ROWS.format(count=count, says=says, folder=folder, mark=mark, name=named))
-            made_.base.execute(_BLOCKS)
+            block = Block(EXIF, "Exif", "APP1 at 2", "own", "accepted", "0" * 64, None, None, 100, "0" * 64)
+            one = PictureRecord(b"/archive", b"/archive", Stamp(1000, 0, 0, 0), "JPEG", "own", blocks=(block,))
+            made_.put(made_.begin_run("2000-01-01T00:00:00Z"), [one])
+            many_rows(made_.base, count, says, folder, mark, named)
         return name
 
     def counted(self, *words, status=0):
