@@ -132,7 +132,20 @@ def of_fujifilm():
         yield Pair(f"a RAF with {name}", whole, bytes(wrong), NOT_SAME)
 
 
-@of_pairs(everywhere, of_dng, of_sony, of_panasonic, of_fujifilm)
+def with_another_type(octets, order, tag, kind, other):
+    """A file in which the entry of a tag has another type."""
+    at = octets.index(struct.pack(order + "HH", tag, kind))
+    return octets[: at + 2] + struct.pack(order + "H", other) + octets[at + 4 :]
+
+
+def of_damaged_entries():
+    """An entry that is left out of its block, with a type that is none for offsets: ExifTool then shows no tag after it."""
+    for name, octets, tag in (("rw2", rw2(), 0x0118), ("raf", whole_raf(), 0xF007), ("raf", whole_raf(), 0xF008), ("arw", arw(), 0xC634)):
+        for other in (2, 9, 11, 0xFF04):
+            yield Pair(f"{name}: tag {tag:04x} of type {other}", octets, with_another_type(octets, "<", tag, LONG, other), NOT_SAME)
+
+
+@of_pairs(of_damaged_entries, everywhere, of_dng, of_sony, of_panasonic, of_fujifilm)
 def test_pair(pair, compared):
     status, objects = compared(pair.before, pair.after)
     assert status == pair.status if pair.status != NOT_SAME else status != SAME, objects

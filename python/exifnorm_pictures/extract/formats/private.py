@@ -45,10 +45,15 @@ class Private:
         self.tags = PANASONIC_TAGS if self.is_panasonic else TAGS
 
     def takes(self, it: Entry, of: str) -> bool:
-        """Reads or names what an entry leads to. Returns whether the entry is taken out of its directory. Raises `Broken`."""
+        """Reads or names what an entry leads to. Returns whether the entry is taken out of its directory. Raises `Broken`.
+
+        Where an offset has a type that is none for offsets, ExifTool gives up the whole directory, so such a file isn't read here.
+        """
         if it.tag == _SONY:
             if it.size != 4:  # as in a DNG, where it is a value
                 return False
+            if it.type not in (*_BYTES, LONG):
+                raise Broken(f"the entry {it.tag:04x} of {of} has no offset")
             self._sony(it, f"Sony's private directory of {of}")
         elif it.tag == _ORIGINAL:
             return self._compare(it, f"the original raw file in {of}")
@@ -61,6 +66,8 @@ class Private:
         elif it.tag == _PANASONIC_CAMERA:
             return self._compare(it, f"Panasonic's CameraIFD of {of}")
         elif it.tag == _PANASONIC_PIXELS:
+            if not is_pointer(it):
+                raise Broken(f"the entry {it.tag:04x} of {of} has no offset")
             self._reaches(self.directories.size, self.directories.size)  # they have no length, and no trailer is known
         return True
 
