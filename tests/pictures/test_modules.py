@@ -31,7 +31,7 @@ from exifnorm_pictures.extract.formats import png as png_
 from exifnorm_pictures.extract.formats.found import Broken, NotRead
 from exifnorm_pictures.catalogue.records import PictureRecord, digests
 from exifnorm_pictures.fields.listing import Field
-from exifnorm_pictures.xmp import names as short_names
+from exifnorm_pictures.fields import xmp_names as short_names
 
 
 # Names of the standards that ExifTool doesn't use: by TIFF 6.0, CIPA DC-008 and IPTC-NAA IIM 4.2.

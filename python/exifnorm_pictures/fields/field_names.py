@@ -7,7 +7,7 @@ import re
 from typing import FrozenSet, List, Tuple
 
 from ..cli.output import safe
-from ..xmp.names import PREFIXES
+from .xmp_names import PREFIXES
 from .names import TABLES, name_of
 from .plain_names import group_name, group_of, plain_name
 

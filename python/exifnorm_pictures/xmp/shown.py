@@ -7,7 +7,7 @@ from typing import Dict, List, Tuple
 
 from ..cli.output import escaped
 from ..fields.listing import DIGITS, LONGEST_TEXT, Field
-from .names import short_name
+from ..fields.xmp_names import short_name
 from .tree import MEMBER, Literal, Node, Resource, Statement, Statements, Value, key_of, unique
 
 WHERE = "xmp"

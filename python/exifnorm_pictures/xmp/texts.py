@@ -4,7 +4,7 @@ from __future__ import annotations
 
 from typing import Dict, Tuple
 
-from .names import short_name
+from ..fields.xmp_names import short_name
 from .tree import MEMBER, Literal, Resource, Statements, Value, unique
 
 
