@@ -3,6 +3,7 @@
 import json
 import os
 import shutil
+import sqlite3
 import struct
 import subprocess
 
@@ -118,8 +119,10 @@ OTHER_NAMES = [
 @needs("exiftool")
 def test_other_names(folder, compared, checks):
     compared(a=SMALL_JPEG, b=by_exiftool(folder))
+    every = compared()[2]
     for name, printed in OTHER_NAMES:
         checks.equal(name, compared("--only", name)[2], [printed])
+        checks.equal(f"without {name}", compared("--ignore", name)[2], [it for it in every if it != printed])
 
 
 @needs("exiftool")
@@ -476,3 +479,19 @@ def test_a_report_without_some_fields(run, folder):
     page = (folder / "page.html").read_text()
     assert "Left out though it differs: IFD0:Make (1 picture)." in page and "the same but for the fields left out" in page
     assert run(*report, "--ignore", "Maek")[0] == 3
+
+
+def test_pictures_that_differ_in_what_no_field_shows_are_no_group(called, folder):
+    """Two digests, and one listing: what differs isn't known, so nothing can be left out."""
+    (folder / "p").mkdir()
+    for name in ("a", "b"):
+        (folder / "p" / name).write_bytes(jpeg(app1(exif(b"abc"))))
+    called("index", "p", "--catalogue", "c", "--quiet")
+    assert called("same", "--catalogue", "c", "--ignore", "Artist")[1].splitlines()[-1] == "1 group of 2 pictures"
+    base = sqlite3.connect(folder / "c")
+    base.execute("UPDATE pictures SET exif = 'other' WHERE id = 1")
+    base.execute("UPDATE blocks SET digest = 'other' WHERE picture = 1")
+    base.commit()
+    base.close()
+    for words in ([], ["--ignore", "Artist"], ["--ignore", "Make"]):
+        assert called("same", "--catalogue", "c", *words)[1].splitlines()[-1] == "0 groups of 0 pictures", words

@@ -130,7 +130,7 @@ class Progress(unittest.TestCase):
 
     def test_the_time_left(self):
         """From 5 s on it is within a factor of 2, however long the first results take, and soon after pictures take longer or shorter."""
-        for begin, rates in ((0.5, [240]), (3.0, [240]), (1.0, [50]), (1.0, [400, 100]), (1.0, [100, 400]), (3.0, [8])):
+        for begin, rates in ((0.5, [240]), (3.0, [240]), (8.0, [240]), (1.0, [50]), (1.0, [400, 100]), (1.0, [100, 400]), (3.0, [8])):
             seconds = [80 / len(rates)] * len(rates)
             total = int(sum(rate * time for rate, time in zip(rates, seconds)))
             steps = []
