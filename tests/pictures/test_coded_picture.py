@@ -16,7 +16,7 @@ from made_raw import dng
 from studio import SMALL_JPEG, needs, tool, write
 
 from exifnorm_pictures.extract import coded_picture
-from exifnorm_pictures.extract.budgets import Budget, TooMuch
+from exifnorm_pictures.extract.budgets import BYTES_READ, Budget, TooMuch
 from exifnorm_pictures.extract.formats.found import Broken
 
 T, K = title("one"), iim(b"one")
@@ -110,7 +110,7 @@ def test_different(one, other):
 @pytest.mark.parametrize("octets", NONE.values(), ids=NONE)
 def test_none(octets, tmp_path):
     write(tmp_path / "a", octets)
-    assert coded_picture.digest_of(bytes(tmp_path / "a")) == ""
+    assert coded_picture.digest_of(bytes(tmp_path / "a"), Budget()) == ""
 
 
 def test_idat_in_other_pieces():
@@ -160,6 +160,15 @@ class TestHarm:
         self.ends(bytes(octets))
 
 
+def test_a_picture_has_one_budget(tmp_path):
+    """What was read for its blocks counts: a digest may not cost a second budget."""
+    write(tmp_path / "a", jpeg(base=SMALL_JPEG[:-2] + bytes(100_000) + SMALL_JPEG[-2:]))
+    budget = Budget()
+    assert coded_picture.digest_of(bytes(tmp_path / "a"), budget) != ""
+    budget.left[BYTES_READ] = 1000
+    assert coded_picture.digest_of(bytes(tmp_path / "a"), budget) == ""
+
+
 @needs("exiftool", "convert")
 def test_beside_exiftool(tmp_path):
     """What ExifTool and ImageMagick write: the digest stays when metadata are written, and another picture has another one."""
@@ -168,10 +177,10 @@ def test_beside_exiftool(tmp_path):
         colour = "tomato-steelblue" if name[0] == "a" else "black-white"
         more = ["-interlace", "Plane"] if name == "b.jpg" else []
         tool(tmp_path, "convert", "-size", "60x40", "-seed", "7", f"plasma:{colour}", *more, name)
-        before = coded_picture.digest_of(bytes(tmp_path / name))
+        before = coded_picture.digest_of(bytes(tmp_path / name), Budget())
         words = ["-Artist=Anna", "-XMP:Title=Title", "-Comment=words"] + ["-IPTC:Keywords=one"] * (not name.endswith("webp"))
         tool(tmp_path, "exiftool", "-config", "", "-q", "-q", "-m", "-overwrite_original", *words, name)
-        assert coded_picture.digest_of(bytes(tmp_path / name)) == before != "", name
+        assert coded_picture.digest_of(bytes(tmp_path / name), Budget()) == before != "", name
         found[name] = before
     assert len(set(found.values())) == len(found)
 

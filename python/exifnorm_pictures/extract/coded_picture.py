@@ -24,12 +24,13 @@ from .formats.streams import File, Stream, pieces, read_at, size_of
 from .formats.tiff_directories import Directories, Directory, Entry
 
 
-def digest_of(path: bytes, whole: bool = False) -> str:
-    """BLAKE2b of the coded picture of a file in 64 hexadecimal digits; empty if its format has none here, or if it is damaged."""
+def digest_of(path: bytes, budget: Budget) -> str:
+    """BLAKE2b of the coded picture of a file in 64 hexadecimal digits; empty if its format has none here, if it is damaged, or if it goes
+    over what is left of a budget."""
     with contextlib.suppress(Broken, TooMuch, OSError):
-        file = File(*opening.opened(path), Budget(whole))
+        file = File(*opening.opened(path), budget)
         try:
-            return digest(file, file.budget)
+            return digest(file, budget)
         finally:
             file.close()
     return ""

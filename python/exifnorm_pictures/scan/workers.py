@@ -50,7 +50,7 @@ def look(it: FoundFile, how: How) -> PictureRecord:
         if it.sidecars:
             whole_file = sidecars.with_sidecars(whole_file, it.path, it.sidecars)
         notes = _maker_notes(it.path, judged) if how.maker_notes else None
-        coded = _coded_picture(it.path, blocks, how.whole) if how.pixels else None
+        coded = _coded_picture(it.path, blocks) if how.pixels else None
     except LibraryMissing:  # an OSError too, but not of this file
         raise
     except programs.Failed as error:
@@ -91,11 +91,11 @@ def _maker_notes(path: bytes, judged: Sequence[Block]) -> Optional[bytes]:
     return maker_notes.packed(maker_notes.values_of([path])[0])
 
 
-def _coded_picture(path: bytes, blocks: Blocks, whole: bool) -> str:
+def _coded_picture(path: bytes, blocks: Blocks) -> str:
     """The digest of the coded picture; empty if there is none, as of a file that can't be read."""
     from ..extract import coded_picture
 
-    return "" if blocks.problem else coded_picture.digest_of(path, whole)
+    return "" if blocks.problem else coded_picture.digest_of(path, blocks.budget)
 
 
 def file_digest(path: bytes, blocks: Blocks, whole: bool) -> str:
