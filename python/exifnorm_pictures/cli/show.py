@@ -6,7 +6,6 @@ import argparse
 from typing import Iterator, List, Optional, Tuple
 
 from ..catalogue.records import Block
-from ..compare.two_pictures import Octets, octets_of
 from ..compare.verdicts import ACCEPTED
 from ..extract.formats.found import PROGRAMS
 from ..fields.listing import Field, readable, unpacked
@@ -14,6 +13,7 @@ from ..fields.plain_names import exact_key, group_name
 from ..fields.plain_values import plain
 from ..fields.typed import typed
 from ..refusals import steps
+from ..refusals.octets import Octets, octets_of
 from .columns import LONGEST_NAME, width
 from .each_block import Described, Judged, each_block, each_picture
 from .exit_codes import SUCCESS

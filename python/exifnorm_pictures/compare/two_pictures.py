@@ -8,18 +8,16 @@ import os
 from dataclasses import dataclass, field
 from typing import Dict, List, NamedTuple, Optional, Sequence, Tuple
 
-import exifnorm
-
 from .. import xmp
 from ..catalogue.records import KINDS, Block, Picture, PictureRecord, Stamp, digests
 from ..extract import extraction, programs
 from ..extract.budgets import TooMuch
-from ..extract.formats.found import NAMES, PROBLEMS, XMP, NotRead
+from ..extract.formats.found import NAMES, PROBLEMS, NotRead
 from ..fields.choosing import EVERYTHING, Choice
 from ..fields.listing import MAKER_NOTE, Field, unpacked
 from ..fields.plain_names import group_name
 from ..fields.plain_values import POSITION, plain, position
-from ..refusals import repairs
+from ..refusals.octets import Octets, octets_of
 from ..scan.batches import How
 from ..scan.walk import FoundFile
 from ..scan.workers import look
@@ -28,8 +26,6 @@ from .changed import Compared, compared
 from .differing import Difference, exact
 from .pairs import Pair
 from .verdicts import ABSENT, SAME
-
-Octets = Dict[Tuple[str, str], List[bytes]]  # the values of fields of bytes, by directory and key
 
 
 class _KeepsNothing(NamedTuple):
@@ -174,26 +170,6 @@ class _Whole:
                 found = extraction.blocks_of(self.path, self.whole).found
                 self._blocks = {it.name: (it.kind, it.data) for it in found}
         return self._blocks.get(name, ("", b""))
-
-
-def octets_of(kind: str, data: bytes) -> Octets:
-    """The bytes of the fields of a block that have bytes, each as a list; those of a refused one after its repair, if one is known."""
-    found: Octets = {}
-    if not data or kind == XMP:
-        return found
-    try:
-        fields = exifnorm.fields(data)
-    except exifnorm.NormalTooLong:
-        return found
-    except exifnorm.Refused:
-        made = repairs.repaired(data)
-        fields = exifnorm.fields(made.block) if made else []
-    for it in fields:
-        if isinstance(it.values, bytes):
-            is_record = it.directory == "record"
-            key = ("iptc", f"{it.tag >> 8}:{it.tag & 255}") if is_record else (it.directory, f"{it.tag:04x}")
-            found.setdefault(key, []).append(it.values)
-    return found
 
 
 def _rows(changes: Sequence[Difference], whole: Sequence[_Whole]) -> List[Row]:
