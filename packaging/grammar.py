@@ -12,8 +12,7 @@ WIDE = "1000"  # columns, so that no help text is wrapped
 MANY = 99  # operands
 COMMANDS = ("Commands:", "positional arguments:")
 OPERANDS = ("Arguments:", "positional arguments:")
-OPTIONS = ("Options:", "options:", "optional arguments:")
-NO_FILES = ("N", "TEXT", "TITLE")  # values that are no file names
+NO_FILES = ("FIELD", "N", "PATTERN", "SECONDS", "TEXT", "TITLE")  # values that are no file names
 
 
 @dataclass
@@ -70,14 +69,14 @@ def section(text: str, headings: tuple[str, ...]) -> list[str]:
 
 
 def options_of(text: str) -> Iterator[Option]:
-    """The options in a help text.
+    """The options in a help text, in all groups.
 
     >>> list(options_of("options:\\n  -n N, --jobs N   how many"))
     [Option(names=['-n', '--jobs'], value='N', text='how many')]
     >>> list(options_of("options:\\n  --kind {both,exif,iptc}\\n                which blocks"))
     [Option(names=['--kind'], value='{both,exif,iptc}', text='which blocks')]
     """
-    for line in re.sub(r"\n +(?=[^ -])", "  ", "\n".join(section(text, OPTIONS))).splitlines():
+    for line in re.findall(r"^ +-.*", re.sub(r"\n +(?=[^ -])", "  ", text), re.M):
         heads, _, words = line.strip().partition("  ")
         parts = [it.split(" ", 1) for it in re.split(r", (?=-)", heads)]
         value = "".join(it[1] for it in parts[-1:] if len(it) > 1).strip("<>")
