@@ -301,7 +301,6 @@ def _export_arguments(it: argparse.ArgumentParser) -> None:
     it.add_argument("file", type=_name, metavar="FILE", help="the file to write, which may replace an earlier export and no other file")
     it.add_argument("--no-look", action="store_true", help="don't look at the files, as for a catalogue from elsewhere")
     it.add_argument("--quiet", action="store_true", help="no progress on standard error")
-    _choice_arguments(it)
     _limit_arguments(it)
 
 
