@@ -455,12 +455,14 @@ def test_a_proof_that_is_killed_is_tried_again_with_one_job(room):
 
 
 def test_the_first_crate_that_fails_ends_the_others(room):
-    room.hold("px_field")
+    room.hold("px_field", "px_iim")
     (room.folder / "fails-px_iim").write_text("no\n")
-    ran = room.call("a")
-    assert ran.returncode == 70, ran
-    assert "px_iim was not proved" in ran.stderr, ran
-    field = room.until("begin", "px_field")
+    started = room.start("a")
+    field, _ = room.until("begin", "px_field"), room.until("begin", "px_iim")
+    room.let_go("px_iim")
+    why = started.communicate(timeout=300)[1]
+    assert started.returncode == 70, why
+    assert "px_iim was not proved" in why, why
     require_end(field)
 
 
