@@ -433,6 +433,7 @@ def test_a_form_has_its_own_bytes_alone(large):
 
 def test_nothing_stays_allocated():
     blocks = ONE, LOOP, ONE + bytes(50_000), bytearray(ONE)
+    gc.collect()  # what other tests left may refer to these blocks
     counts = [sys.getrefcount(it) for it in blocks]
     tracemalloc.start()
     try:
