@@ -13,6 +13,7 @@ import re
 import sqlite3
 import sys
 import stat
+import time
 from typing import Any, Callable, Iterable, Iterator, List, NamedTuple, Optional, Sequence, Tuple, TypeVar, overload
 
 from ..cli import signals
@@ -26,6 +27,7 @@ APPLICATION = 0x45584E50  # 'EXNP', which distinguishes a catalogue from other S
 VERSION = 4
 CACHE = 32_000  # kB of a catalogue that is written to: digests go into its index in no order
 PATIENCE = 200  # milliseconds that closing waits for other programs; while they read, the write-ahead log stays
+WAIT = 10  # seconds for other processes that set the journal's mode
 
 _TABLES = """
 CREATE TABLE runs (
@@ -289,9 +291,21 @@ class Catalogue:
                 self.base.execute(statement)
         check_schema(self.base, self.name)
         self.base.execute("COMMIT")
-        self.base.execute(f"PRAGMA journal_mode = {'DELETE' if mounts.is_on_network(self.name) else 'WAL'}")
+        self._set_journal("DELETE" if mounts.is_on_network(self.name) else "WAL")
         self.base.execute("PRAGMA synchronous = FULL")
         self.base.execute(f"PRAGMA cache_size = -{CACHE}")
+
+    def _set_journal(self, mode: str) -> None:
+        """Sets the journal's mode. SQLite doesn't wait for another process that sets it at the same time, so this tries again."""
+        end = time.monotonic() + WAIT
+        while True:
+            try:
+                self.base.execute(f"PRAGMA journal_mode = {mode}")
+                return
+            except sqlite3.OperationalError as error:
+                if "locked" not in str(error) or time.monotonic() > end:
+                    raise
+            time.sleep(PATIENCE / 1000)
 
     @contextlib.contextmanager
     def guarded(self) -> Iterator[None]:
