@@ -209,7 +209,7 @@ OTHER = SMALL_JPEG[: SCAN + 16] + b"\x11" + SMALL_JPEG[SCAN + 17 :]
 
 
 def test_same(folder, called):
-    """Groups of files with the same picture, whatever their metadata are; what is the same of these is told."""
+    """Groups of files with the same coded picture. Each group says which of their metadata are the same."""
     put(
         folder,
         {

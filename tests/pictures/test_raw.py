@@ -103,7 +103,7 @@ def of_sony():
 
 
 def of_panasonic():
-    """The JPEG in an RW2 has most of its metadata; CameraIFD stands at a number that TIFF has for free space."""
+    """The JPEG in an RW2 has most of its metadata. CameraIFD has a tag that TIFF uses for free space."""
     yield Pair("XMP of the JPEG", rw2(), rw2(inside=inner(b"Anna", "other")), DIFFERENT)
     for wrong in (b"no JPEG", b"\xff\0" + inner(b"Anna")[2:]):
         yield Pair(f"no JPEG {len(wrong)}", rw2(), rw2(inside=wrong), NOT_SAME)

@@ -40,7 +40,7 @@ def _is_tiff(head: bytes, path: bytes) -> bool:
 
 
 def type_of(blocks: Blocks, path: bytes) -> str:
-    """The type of a file that was read: its reader's word, or that of its name where raw pictures can't be told from a TIFF."""
+    """The type of a file that was read. A raw picture that has the structure of a TIFF has the type of its name."""
     named = _RAW_NAME.search(path) if blocks.type == "TIFF" else None
     return named[1].decode("ascii").upper() if named else blocks.type
 
