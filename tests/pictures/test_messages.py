@@ -211,7 +211,8 @@ class Messages(WithPictures):
                 self.assertEqual(self.raised(NoCatalogue, Catalogue, name, True), text)
             self.assertEqual((read(name), os.listdir(self.folder)), (octets, ["c"]))
         self.assertEqual(
-            self.raised(NoCatalogue, index.run, argparse.Namespace(folders=[""], files_from=None, catalogue=name)), "a name is empty"
+            self.raised(NoCatalogue, index.run, argparse.Namespace(folders=[""], files_from=None, catalogue=name, null=False)),
+            "a name is empty",
         )
         os.remove(name)
         with Catalogue(name, make=True) as made:

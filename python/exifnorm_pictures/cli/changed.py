@@ -24,15 +24,23 @@ from ..scan.batches import How
 from ..scan.index import IndexOptions, index
 from . import changed_tables
 from .choice import choice_of, lines as lines_of_choice, listings_of, refuse_unknown, say_unseen
-from .exit_codes import DIFFERENCE, SUCCESS, UNKNOWN
+from .exit_codes import DIFFERENCE, SUCCESS, UNKNOWN, USAGE
 from .names import from_list, refuse_pictures
 from .output import closed_folder, print_line, shown_path
+from .signals import Failure
 from .summary import lines
+
+
+class NotRead(Failure):
+    """An option says how pictures are read, and they were read by an earlier `index` without it."""
+
+    status = USAGE
 
 
 def run(arguments: argparse.Namespace) -> int:
     """Prints the differences between two states."""
     refuse_pictures(arguments.before, arguments.after)
+    _refuse_for_catalogues(arguments)
     names = from_list(arguments)
     only = None if names is None else {*names, *(os.path.abspath(it) for it in names)}
     counts: "Counter[str]" = Counter()
@@ -88,12 +96,22 @@ def status_of(counts: "Counter[str]") -> int:
     return DIFFERENCE if any(counts[it] for it in changes.DIFFERENCES) else SUCCESS
 
 
+def _refuse_for_catalogues(arguments: argparse.Namespace) -> None:
+    """Raises `NotRead` if an option is for folders, and two catalogues are compared."""
+    given = [it for it in ("pixels", "whole") if getattr(arguments, it)]
+    if given and not any(map(os.path.isdir, (arguments.before, arguments.after))):
+        raise NotRead(f"--{given[0]} is for folders: a catalogue has what index --{given[0]} read")
+
+
 def _go_on_with_sidecars(arguments: argparse.Namespace) -> None:
-    """A folder is read with XMP sidecars if the catalogue that it is compared with has them."""
+    """A folder is read with XMP sidecars if the catalogue that it is compared with has them. Raises `NotRead`."""
+    asked = arguments.sidecars
     for name in (arguments.before, arguments.after):
-        if not arguments.sidecars and not os.path.isdir(name):
+        if not os.path.isdir(name):
             with Catalogue(name) as it:
-                arguments.sidecars = it.has_sidecars()
+                if asked and not it.has_sidecars() and not it.is_empty():
+                    raise NotRead(f"{it.name} was made without --sidecars: leave it out, or make a new catalogue")
+                arguments.sidecars = arguments.sidecars or it.has_sidecars()
 
 
 def _side(name: str, arguments: argparse.Namespace, open_: contextlib.ExitStack) -> Catalogue:

@@ -40,6 +40,12 @@ def _check_sidecars(arguments: argparse.Namespace, catalogue: Catalogue) -> None
         raise NoSidecars("XMP sidecars are read here only, not on the workers of a cluster: leave out --scheduler")
 
 
+class NoScheduler(Failure):
+    """An option is for the workers of a cluster, and no cluster was named."""
+
+    status = USAGE
+
+
 class NothingThere(Failure):
     """No name leads to a folder or a file, and there is no catalogue yet: a mistyped name makes none."""
 
@@ -51,6 +57,8 @@ def run(arguments: argparse.Namespace) -> int:
     names = named(arguments, arguments.folders)
     if any(not it for it in names):
         raise NoCatalogue("a name is empty")
+    if arguments.elsewhere and not arguments.scheduler:
+        raise NoScheduler("--elsewhere is a path on the workers of --scheduler, which is missing")
     if names and not os.path.lexists(arguments.catalogue) and not any(map(os.path.lexists, names)):
         raise NothingThere(f"there is no folder or file {', '.join(map(shown_path, names))}")
     with tempdir.room() as room, Catalogue(arguments.catalogue, make=True) as catalogue:

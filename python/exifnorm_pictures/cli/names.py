@@ -16,6 +16,8 @@ from .signals import Failure
 
 def from_list(arguments: argparse.Namespace) -> Optional[List[bytes]]:
     """The names of --files-from."""
+    if arguments.null and not arguments.files_from:
+        parser().error(f"{arguments.command}: -0 is for the names of --files-from")
     return listed(arguments.files_from, arguments.null) if arguments.files_from else None
 
 

@@ -1,0 +1,85 @@
+"""An option that a command accepts has an effect, or is refused."""
+
+import argparse
+import importlib
+
+import pytest
+from made_files import A, app1, jpeg
+from studio import TOP
+
+from exifnorm_pictures.cli import parser
+
+BOWL, PHONE = f"{TOP}/samples/before/ceramics/2003-12-bowl.jpg", f"{TOP}/samples/before/arrivals/IMG_20240502.jpg"
+LISTED = ("--files-from", "list", "-0")
+COMMANDS = {
+    "index": (*LISTED, "--catalogue", "other"),
+    "merge": ("--catalogue", "other", "c"),
+    "forget": (*LISTED, "--catalogue", "c"),
+    "same": (*LISTED, "--catalogue", "c"),
+    "changed": (*LISTED, "p", "p"),
+    "compare": (BOWL, PHONE),
+    "show": LISTED,
+    "captions": LISTED,
+    "conflicts": LISTED,
+    "explain": LISTED,
+    "report": (*LISTED, "--catalogue", "c", "--html", "page"),
+    "export": (*LISTED, "c", "tables"),
+    "mend": (*LISTED, "p"),
+}
+
+
+class Recorded(argparse.Namespace):
+    """Arguments that record which of them were read."""
+
+    def __init__(self):
+        self.read = set()
+
+    def __getattribute__(self, name):
+        if not name.startswith("_") and name != "read":
+            self.read.add(name)
+        return super().__getattribute__(name)
+
+
+@pytest.fixture
+def archive(folder, called):
+    """A folder of one picture, its catalogue, and a list of its names."""
+    (folder / "p").mkdir()
+    (folder / "p" / "a.jpg").write_bytes(jpeg(app1(A)))
+    (folder / "list").write_bytes(b"p/a.jpg\0")
+    assert called("index", "p", "--catalogue", "c", "--quiet")[0] == 0
+    return folder
+
+
+@pytest.mark.parametrize("command", [name for name, *_ in parser._COMMANDS])
+def test_each_option_is_looked_at(command, archive, capsys):
+    """An option that no statement looks at would be accepted and have no effect. `main` itself looks at --debug."""
+    arguments = parser.parser().parse_args([command, *COMMANDS[command]], Recorded())
+    accepted = set(vars(arguments)) - {"read", "command", "version", "debug"}
+    arguments.read.clear()
+    importlib.import_module(f"exifnorm_pictures.cli.{command}").run(arguments)
+    assert accepted <= arguments.read, "an option of this command is never looked at"
+
+
+@pytest.mark.parametrize(
+    "words, why",
+    [
+        (("index", "p", "--catalogue", "d", "--elsewhere", "/mnt"), "--scheduler"),
+        (("changed", "c", "c", "--pixels"), "for folders"),
+        (("changed", "c", "c", "--whole"), "for folders"),
+        (("changed", "c", "c", "--sidecars"), "without --sidecars"),
+        (("changed", "p", "c", "--sidecars"), "without --sidecars"),
+    ],
+)
+def test_options_without_effect(words, why, archive, called):
+    """Each is for something that isn't there: silence would look like an answer that heeds it."""
+    status, printed, messages = called(*words)
+    assert (status, printed) == (3, "")
+    assert why in messages
+    assert not (archive / "d").exists()
+
+
+def test_an_option_of_a_list_without_a_list(archive, called, capsys):
+    with pytest.raises(SystemExit) as ended:
+        called("index", "p", "--catalogue", "d", "-0")
+    assert ended.value.code == 3
+    assert "--files-from" in capsys.readouterr().err
