@@ -188,17 +188,6 @@ def test_beside_exiftool(tmp_path):
 # The commands
 
 
-@pytest.fixture
-def called(called):
-    """Runs a command in the test's folder: its status, its lines, and its messages."""
-
-    def call(*words):
-        status, printed, messages = called(*words)
-        return status, printed.splitlines(), messages
-
-    return call
-
-
 def put(folder, files):
     for name, octets in files.items():
         (folder / name).parent.mkdir(parents=True, exist_ok=True)
@@ -208,7 +197,7 @@ def put(folder, files):
 OTHER = SMALL_JPEG[: SCAN + 16] + b"\x11" + SMALL_JPEG[SCAN + 17 :]
 
 
-def test_same(folder, called):
+def test_same(folder, called_lines):
     """Groups of files with the same coded picture. Each group says which of their metadata are the same."""
     put(
         folder,
@@ -219,70 +208,74 @@ def test_same(folder, called):
             "p/d.gif": b"GIF89a",
         },
     )
-    assert called("index", "p", "--catalogue", "c", "--pixels", "--quiet")[0] == 0
-    status, lines, _ = called("same", "--catalogue", "c", "--kind", "pixels")
+    assert called_lines("index", "p", "--catalogue", "c", "--pixels", "--quiet")[0] == 0
+    status, lines, _ = called_lines("same", "--catalogue", "c", "--kind", "pixels")
     assert status == 0 and lines[0] == "2 pictures: the coded picture is the same; XMP is the same, Exif is different, no IPTC:"
     assert [os.path.basename(it) for it in lines[1:3]] == ["a.jpg", "b.jpg"] and lines[3] == "1 group of 2 pictures", lines
-    (group, summary) = (json.loads(it) for it in called("same", "--catalogue", "c", "--kind", "pixels", "--json")[1])
+    (group, summary) = (json.loads(it) for it in called_lines("same", "--catalogue", "c", "--kind", "pixels", "--json")[1])
     assert (group["basis"], group["digests"], group["wholly_read"]) == ("coded picture", {}, False)
     assert {it["keep"] for it in group["pictures"]} == {None} and summary["groups"] == 1
-    rows = called("same", "--catalogue", "c", "--kind", "pixels", "--csv")[1]
+    rows = called_lines("same", "--catalogue", "c", "--kind", "pixels", "--csv")[1]
     assert len(rows) == 3 and "coded picture" in rows[1]
 
 
-def test_a_catalogue_without_digests(folder, called):
+def test_a_catalogue_without_digests(folder, called_lines):
     put(folder, {"p/a.jpg": jpeg(app1(A)), "p/b.jpg": jpeg(app1(B)), "p/c.webp": b"RIFF\0\0\0\0WEBPVP8 "})
-    called("index", "p", "--catalogue", "c", "--quiet")
-    status, lines, errors = called("same", "--catalogue", "c", "--kind", "pixels")
+    called_lines("index", "p", "--catalogue", "c", "--quiet")
+    status, lines, errors = called_lines("same", "--catalogue", "c", "--kind", "pixels")
     assert (status, lines) == (3, []) and "index --pixels" in errors
-    assert "unchanged" not in called("index", "p", "--catalogue", "c", "--pixels", "--quiet")[1][-1], "they are looked at again"
-    assert called("index", "p", "--catalogue", "c", "--pixels", "--quiet")[1][-1].startswith("3 unchanged")
-    assert called("index", "p", "--catalogue", "c", "--quiet")[1][-1].startswith("3 unchanged"), "what is known stays"
-    assert called("same", "--catalogue", "c", "--kind", "pixels")[0] == 0
+    assert "unchanged" not in called_lines("index", "p", "--catalogue", "c", "--pixels", "--quiet")[1][-1], "they are looked at again"
+    assert called_lines("index", "p", "--catalogue", "c", "--pixels", "--quiet")[1][-1].startswith("3 unchanged")
+    assert called_lines("index", "p", "--catalogue", "c", "--quiet")[1][-1].startswith("3 unchanged"), "what is known stays"
+    assert called_lines("same", "--catalogue", "c", "--kind", "pixels")[0] == 0
 
 
-def moved(called):
-    status, lines, _ = called("changed", "b", "a", "--pixels", "--json", "--no-exiftool")
+def moved(called_lines):
+    status, lines, _ = called_lines("changed", "b", "a", "--pixels", "--json", "--no-exiftool")
     found = [json.loads(it) for it in lines]
     return status, {it["path"]: (it["result"], (it["moved_to"] or {}).get("path")) for it in found if "path" in it}
 
 
 class TestChanged:
-    def test_moved_and_edited(self, folder, called):
+    def test_moved_and_edited(self, folder, called_lines):
         put(folder, {"b/x.jpg": jpeg(app1(A)), "b/y.jpg": jpeg(app1(A), base=OTHER)})
         put(folder, {"a/new/x.jpg": jpeg(app1(B)), "a/z.jpg": jpeg(app1(B), base=OTHER)})
-        assert moved(called) == (1, {"x.jpg": ("moved and edited", "new/x.jpg"), "y.jpg": ("moved and edited", "z.jpg")})
-        lines = called("changed", "b", "a", "--pixels", "--each", "--no-exiftool")[1]
+        assert moved(called_lines) == (1, {"x.jpg": ("moved and edited", "new/x.jpg"), "y.jpg": ("moved and edited", "z.jpg")})
+        lines = called_lines("changed", "b", "a", "--pixels", "--each", "--no-exiftool")[1]
         assert lines[0].startswith("x.jpg: moved and edited to new/x.jpg (the coded picture is the same; Exif is different"), lines
         assert "Abc" in lines[1] and "Xyz" in lines[1], lines
-        without = called("changed", "b", "a", "--each", "--no-exiftool")[1][-1]
+        without = called_lines("changed", "b", "a", "--each", "--no-exiftool")[1][-1]
         assert "moved" not in without and "2 missing after" in without, without
 
-    def test_written_again_with_the_same_metadata(self, folder, called):
+    def test_written_again_with_the_same_metadata(self, folder, called_lines):
         put(folder, {"b/x.jpg": jpeg(app1(A)), "a/y.jpg": jpeg(segment(0xFE, b"comment"), app1(A))})
-        assert moved(called)[1] == {"x.jpg": ("moved", "y.jpg")}
+        assert moved(called_lines)[1] == {"x.jpg": ("moved", "y.jpg")}
 
-    def test_a_copy_is_not_guessed(self, folder, called):
+    def test_a_copy_is_not_guessed(self, folder, called_lines):
         """With two pictures that it may be, a picture is missing; unless one of them has its name."""
         put(folder, {"b/x.jpg": jpeg(app1(A)), "a/y.jpg": jpeg(app1(B)), "a/z.jpg": jpeg(app1(B))})
-        assert moved(called)[1] == {"x.jpg": ("missing after", None), "y.jpg": ("missing before", None), "z.jpg": ("missing before", None)}
+        assert moved(called_lines)[1] == {
+            "x.jpg": ("missing after", None),
+            "y.jpg": ("missing before", None),
+            "z.jpg": ("missing before", None),
+        }
         put(folder, {"a/new/x.jpg": jpeg(app1(B))})
-        assert moved(called)[1]["x.jpg"] == ("moved and edited", "new/x.jpg")
+        assert moved(called_lines)[1]["x.jpg"] == ("moved and edited", "new/x.jpg")
 
-    def test_another_picture_in_its_place(self, folder, called):
+    def test_another_picture_in_its_place(self, folder, called_lines):
         put(folder, {"b/x.jpg": jpeg(app1(A)), "a/y.jpg": jpeg(app1(B), base=OTHER)})
-        assert moved(called)[1] == {"x.jpg": ("missing after", None), "y.jpg": ("missing before", None)}
+        assert moved(called_lines)[1] == {"x.jpg": ("missing after", None), "y.jpg": ("missing before", None)}
 
-    def test_names_come_first(self, folder, called):
+    def test_names_come_first(self, folder, called_lines):
         """A picture under its own name is compared there, even if its coded picture is elsewhere now."""
         put(folder, {"b/x.jpg": jpeg(app1(A)), "a/x.jpg": jpeg(app1(A), base=OTHER), "a/y.jpg": jpeg(app1(B))})
-        assert moved(called)[1] == {"y.jpg": ("missing before", None)}
+        assert moved(called_lines)[1] == {"y.jpg": ("missing before", None)}
 
 
-def test_same_beside_what_was_indexed_without(folder, called):
+def test_same_beside_what_was_indexed_without(folder, called_lines):
     put(folder, {"p/a.jpg": jpeg(app1(A))})
-    called("index", "p", "--catalogue", "c", "--pixels", "--quiet")
+    called_lines("index", "p", "--catalogue", "c", "--pixels", "--quiet")
     put(folder, {"p/b.jpg": jpeg(app1(A))})
-    called("index", "p", "--catalogue", "c", "--quiet")
-    status, _, errors = called("same", "--catalogue", "c", "--kind", "pixels")
+    called_lines("index", "p", "--catalogue", "c", "--quiet")
+    status, _, errors = called_lines("same", "--catalogue", "c", "--kind", "pixels")
     assert status == 3 and "1 picture has no digest" in errors

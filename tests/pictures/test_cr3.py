@@ -8,7 +8,6 @@ import hashlib
 import io
 import os
 import struct
-from unittest import mock
 
 import pytest
 from beside import blocks_of_exiftool, changed, hidden_by_one_byte, tags_of_exiftool
@@ -16,6 +15,7 @@ from hypothesis import given
 from made_blocks import ASCII, LONG, SHORT, UNDEFINED
 from made_boxes import CANON, box, cr3
 from made_files import T_OTHERWISE, app1, jpeg, tiff, title
+from all_readers import blocks_in, check_limit
 from studio import needs, run
 
 from exifnorm_pictures.extract import budgets, extraction, judge, structure
@@ -232,29 +232,14 @@ def test_exiv2(tmp_path):
 
 @pytest.mark.parametrize("what, spent", [(budgets.BOXES, 40), (budgets.EXTENTS, 2), (budgets.BOX_BYTES, None)])
 def test_limits(what, spent):
-    budget = budgets.Budget()
-    cr3_.read(mock.Mock(wraps=io.BytesIO(WHOLE), budget=budget))
-    needed = budgets.LIMITS[what] - budget.left[what]
-    assert spent in (needed, None)
-    for most in (needed, needed - 1):
-        with mock.patch.dict(budgets.LIMITS, {what: most}):
-            stream = mock.Mock(wraps=io.BytesIO(WHOLE), budget=budgets.Budget())
-            if most == needed:
-                assert len(cr3_.read(stream).found) == 2
-            else:
-                with pytest.raises(budgets.TooMuch, match=f"more than {most} {what}"):
-                    cr3_.read(stream)
+    check_limit(cr3_.read, WHOLE, what, spent)
 
 
 @given(changed(WHOLE))
 def test_changed_files(octets):
     """Blocks of bytes of the file, or a reason."""
-    try:
-        found = found_in(octets)
-    except (Broken, LeftToOthers, budgets.TooMuch):
-        return
-    for it in found.found:
-        assert values_are_of(it.data, octets), it
+    for it in blocks_in(cr3_.read, octets):
+        assert values_are_of(it, octets), it
 
 
 def values_are_of(block, octets):

@@ -2,13 +2,13 @@
 
 import hashlib
 import io
-from unittest import mock
 
 import pytest
 from beside import blocks_of_exiftool, changed, hidden_by_one_byte, is_of
 from hypothesis import given
 from made_files import T_OTHERWISE, app1_xmp, app13, exif, iim, jpeg, resource, title
 from made_more_files import application, blocks_of_data, gif, gif_xmp
+from all_readers import blocks_in, check_limit
 from studio import needs
 
 from exifnorm_pictures.extract import budgets
@@ -105,15 +105,7 @@ def test_exiftools_blocks(tmp_path):
 
 def test_limits():
     for what, spent in ((budgets.EXTENSIONS, 4), (budgets.BLOCK_BYTES, len(K) + len(T))):
-        for most in (spent, spent - 1):
-            octets = gif(I, COMMENT, application(b"XMP DataXMP", T))
-            with mock.patch.dict(budgets.LIMITS, {what: most}):
-                stream = mock.Mock(wraps=io.BytesIO(octets), budget=budgets.Budget())
-                if most == spent:
-                    assert len(gif_.read(stream).found) == 2
-                else:
-                    with pytest.raises(budgets.TooMuch, match=f"more than {most} {what}"):
-                        gif_.read(stream)
+        check_limit(gif_.read, gif(I, COMMENT, application(b"XMP DataXMP", T)), what, spent)
 
 
 WHOLE = gif(COMMENT, I, CONTROL, R, X, application(b"ABC 1.0", b"data"), images=2, behind=b"more")
@@ -122,12 +114,8 @@ WHOLE = gif(COMMENT, I, CONTROL, R, X, application(b"ABC 1.0", b"data"), images=
 @given(changed(WHOLE))
 def test_changed_files(octets):
     """Blocks of bytes of the file, or a reason."""
-    try:
-        found = gif_.read(io.BytesIO(octets))
-    except (Broken, budgets.TooMuch):
-        return
-    for it in found.found:
-        assert is_of(it.data, octets, 40), it
+    for it in blocks_in(gif_.read, octets):
+        assert is_of(it, octets, 40), it
 
 
 @needs("exiftool")

@@ -15,6 +15,7 @@ from hypothesis import given
 from beside import blocks_of_exiftool, changed, hidden_by_one_byte, is_of, makers_of_exiv2
 from made_boxes import CANON, PICTURE, RDF, XMP_UUID, Item, box, full, heif, item_exif, mime
 from made_files import T_OTHERWISE, exif, title, turned
+from all_readers import blocks_in, check_limit, stream_of
 from studio import needs
 
 from exifnorm_pictures.extract import budgets, extraction
@@ -231,27 +232,14 @@ def test_broken(name):
 
 def test_limits():
     """Boxes, items, their parts, and the bytes of boxes: up to a limit, and not one more."""
-    needed = {budgets.BOXES: 18, budgets.ITEMS: 3, budgets.EXTENTS: 8, budgets.BOX_BYTES: None}
-    for what in needed:
-        budget = budgets.Budget()
-        stream = mock.Mock(wraps=io.BytesIO(heif(*ONE)), budget=budget)
-        heif_.read(stream)
-        spent = budgets.LIMITS[what] - budget.left[what]
-        assert needed[what] in (spent, None), (what, spent)
-        for most in (spent, spent - 1):
-            with mock.patch.dict(budgets.LIMITS, {what: most}):
-                stream = mock.Mock(wraps=io.BytesIO(heif(*ONE)), budget=budgets.Budget())
-                if most == spent:
-                    assert len(heif_.read(stream).found) == 2
-                else:
-                    with pytest.raises(budgets.TooMuch, match=f"more than {most} {what}"):
-                        heif_.read(stream)
+    for what, spent in {budgets.BOXES: 18, budgets.ITEMS: 3, budgets.EXTENTS: 8, budgets.BOX_BYTES: None}.items():
+        check_limit(heif_.read, heif(*ONE), what, spent)
 
 
 def test_items_that_share_bytes():
     """A thousand items of the same megabyte: each has a digest, and what is read again and again counts."""
     shared = heif(PICTURE, *[Item(b"abcd", b"x" * 1000)] * 3, behind=box(b"free", b"x" * 4000))
-    stream = mock.Mock(wraps=io.BytesIO(shared), budget=budgets.Budget())
+    stream = stream_of(shared)
     found = heif_.read(stream)
     assert budgets.LIMITS[budgets.BYTES_READ] - stream.budget.left[budgets.BYTES_READ] == 3000
     with mock.patch.object(budgets, "UNREAD_BYTES", 999):
@@ -273,12 +261,8 @@ WHOLE = heif(
 @given(changed(WHOLE))
 def test_changed_files(octets):
     """Blocks of bytes of the file, or a reason."""
-    try:
-        found = heif_.read(io.BytesIO(octets))
-    except (Broken, budgets.TooMuch):
-        return
-    for it in found.found:
-        assert is_of(it.data, octets, 4), it
+    for it in blocks_in(heif_.read, octets):
+        assert is_of(it, octets, 4), it
 
 
 @needs("exiftool")

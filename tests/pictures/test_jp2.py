@@ -3,13 +3,13 @@ made files."""
 
 import hashlib
 import io
-from unittest import mock
 
 import pytest
 from beside import blocks_of_exiftool, changed, hidden_by_one_byte, makers_of_exiv2
 from hypothesis import given
 from made_boxes import SMALL_J2C, XMP_UUID, box, jp2, uuid, wide
 from made_files import T_OTHERWISE, app1, app1_xmp, app13, exif, iim, jpeg, page, resource, tiff, title, turned
+from all_readers import blocks_in, check_limit
 from studio import needs
 
 from exifnorm_pictures.extract import budgets
@@ -129,14 +129,7 @@ def test_exiv2(tmp_path):
 
 def test_limits():
     for what, spent in ((budgets.BOXES, 9), (budgets.BOX_BYTES, len(A + K + T))):
-        for most in (spent, spent - 1):
-            with mock.patch.dict(budgets.LIMITS, {what: most}):
-                stream = mock.Mock(wraps=io.BytesIO(jp2(E, I, X)), budget=budgets.Budget())
-                if most == spent:
-                    assert len(jp2_.read(stream).found) == 3
-                else:
-                    with pytest.raises(budgets.TooMuch, match=f"more than {most} {what}"):
-                        jp2_.read(stream)
+        check_limit(jp2_.read, jp2(E, I, X), what, spent)
 
 
 WHOLE = jp2(E, uuid(PHOTOSHOP, resource(0x0404, L)), I, box(b"xml ", b"<gml/>"), in_header=X, behind=box(b"xml ", U))
@@ -145,12 +138,8 @@ WHOLE = jp2(E, uuid(PHOTOSHOP, resource(0x0404, L)), I, box(b"xml ", b"<gml/>"),
 @given(changed(WHOLE))
 def test_changed_files(octets):
     """Blocks of bytes of the file, or a reason."""
-    try:
-        found = jp2_.read(io.BytesIO(octets))
-    except (Broken, budgets.TooMuch):
-        return
-    for it in found.found:
-        assert it.data in octets, it
+    for it in blocks_in(jp2_.read, octets):
+        assert it in octets, it
 
 
 @needs("exiftool")

@@ -2,13 +2,13 @@
 
 import hashlib
 import io
-from unittest import mock
 
 import pytest
 from beside import blocks_of_exiftool, changed, hidden_by_one_byte
 from hypothesis import given
 from made_boxes import XMP_UUID, box, item_exif, jxl, wide
 from made_files import T_OTHERWISE, app1, app1_xmp, exif, jpeg, title, turned
+from all_readers import blocks_in, check_limit
 from studio import needs
 
 from exifnorm_pictures.extract import budgets, judge
@@ -116,14 +116,7 @@ def test_exiftools_blocks(tmp_path):
 
 def test_limits():
     for what, spent in ((budgets.BOXES, 5), (budgets.BOX_BYTES, 4 + len(A) + len(T))):
-        for most in (spent, spent - 1):
-            with mock.patch.dict(budgets.LIMITS, {what: most}):
-                stream = mock.Mock(wraps=io.BytesIO(jxl(E, X)), budget=budgets.Budget())
-                if most == spent:
-                    assert len(jxl_.read(stream).found) == 2
-                else:
-                    with pytest.raises(budgets.TooMuch, match=f"more than {most} {what}"):
-                        jxl_.read(stream)
+        check_limit(jxl_.read, jxl(E, X), what, spent)
 
 
 WHOLE = jxl(E, box(b"brob", b"Exif\1\2"), X, box(b"jbrd", b"jpeg"), box(b"uuid", XMP_UUID, U), behind=box(b"Exif", item_exif(B)))
@@ -132,12 +125,8 @@ WHOLE = jxl(E, box(b"brob", b"Exif\1\2"), X, box(b"jbrd", b"jpeg"), box(b"uuid",
 @given(changed(WHOLE))
 def test_changed_files(octets):
     """Blocks of bytes of the file, or a reason."""
-    try:
-        found = jxl_.read(io.BytesIO(octets))
-    except (Broken, budgets.TooMuch):
-        return
-    for it in found.found:
-        assert it.data.removeprefix(b"brob") in octets, it
+    for it in blocks_in(jxl_.read, octets):
+        assert it.removeprefix(b"brob") in octets, it
 
 
 @needs("exiftool")

@@ -6,13 +6,13 @@ The files are made here by Adobe's specification, so what is in them is known; E
 import hashlib
 import io
 import os
-from unittest import mock
 
 import pytest
-from beside import blocks_of_exiftool, changed, hidden_by_one_byte, is_of, makers_of_exiv2
+from beside import blocks_of_exiftool, changed, hidden_by_one_byte, makers_of_exiv2
 from hypothesis import given
 from made_files import T_OTHERWISE, exif, iim, jpeg, app1, resource, title, turned
 from made_more_files import named, psd
+from all_readers import blocks_in, check_limit, stream_of
 from studio import needs
 
 from exifnorm_pictures.extract import budgets, extraction
@@ -152,18 +152,12 @@ def test_layers_past_4_gb(tmp_path):
 
 @pytest.mark.parametrize("what, spent", [(budgets.RESOURCES, 5), (budgets.RESOURCE_BYTES, len(A + K + T))])
 def test_limits(what, spent):
-    for most in (spent, spent - 1):
-        with mock.patch.dict(budgets.LIMITS, {what: most}):
-            if most == spent:
-                assert len(psd_.read(io.BytesIO(READ["all"][0])).found) == 3
-            else:
-                with pytest.raises(budgets.TooMuch, match=f"more than {most} {what}"):
-                    psd_.read(io.BytesIO(READ["all"][0]))
+    check_limit(psd_.read, READ["all"][0], what, spent)
 
 
 def test_other_resources_are_not_read():
     """The thumbnail and the like, of which there may be many megabytes."""
-    stream = mock.Mock(wraps=io.BytesIO(psd(resource(0x040C, bytes(1 << 20)), E)), budget=budgets.Budget())
+    stream = stream_of(psd(resource(0x040C, bytes(1 << 20)), E))
     psd_.read(stream)
     assert sum(min(call.args[0], 1 << 20) for call in stream.read.call_args_list) < 2000
 
@@ -174,12 +168,8 @@ WHOLE = psd(OTHER, E, I, X, resource(0x0423, B), layers=b"layers", compression=1
 @given(changed(WHOLE))
 def test_changed_files(octets):
     """Blocks of bytes of the file, or a reason."""
-    try:
-        found = psd_.read(io.BytesIO(octets))
-    except (Broken, budgets.TooMuch):
-        return
-    for it in found.found:
-        assert is_of(it.data, octets, 0), it
+    for it in blocks_in(psd_.read, octets):
+        assert it in octets, it
 
 
 @needs("exiftool")

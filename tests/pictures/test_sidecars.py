@@ -20,17 +20,6 @@ ONE, OTHER = title("one"), title("two")
 PICTURE = jpeg(app1(A))
 
 
-@pytest.fixture
-def called(called):
-    """Runs a command in the test's folder: its status, its lines, and its messages."""
-
-    def call(*words):
-        status, printed, messages = called(*words)
-        return status, printed.splitlines(), messages
-
-    return call
-
-
 def put(folder, **files):
     """Writes files into a folder; of a name `__` is a dot."""
     folder.mkdir(parents=True, exist_ok=True)
@@ -89,24 +78,24 @@ def test_a_sidecar_that_may_be_edited_again(folder, is_racy):
     assert sidecars.Folders().is_marked_as(path, found)
 
 
-def test_a_file_by_itself(folder, called):
+def test_a_file_by_itself(folder, called_lines):
     head = b"\xef\xbb\xbf<?xml version='1.0'?>\n<!-- a - comment -->\n"
     put(folder / "b", a__xmp=ONE, c__XMP=head + title("one").partition(b"?>")[2])
     put(folder / "a", a__xmp=ONE + b"  ", c__XMP=OTHER)
-    assert results(called, "b", "a") == (1, {"c.XMP": "different"})
+    assert results(called_lines, "b", "a") == (1, {"c.XMP": "different"})
 
 
 @pytest.mark.parametrize("octets", [b"", b"<svg/>", b"no XML", b"<?" * 1000, b"<!--" * 500, ONE.decode().encode("utf-16")])
-def test_a_file_that_does_not_begin_like_a_packet(octets, folder, called):
+def test_a_file_that_does_not_begin_like_a_packet(octets, folder, called_lines):
     """It is left to ExifTool, and never the same as another with other bytes."""
     put(folder / "b", a__xmp=octets)
     put(folder / "a", a__xmp=octets + b" ")
-    assert called("changed", "b", "a", "--no-exiftool")[0] != 0
+    assert called_lines("changed", "b", "a", "--no-exiftool")[0] != 0
 
 
-def results(called, *words):
+def results(called_lines, *words):
     """The result of each picture that isn't the same, and the status."""
-    status, lines, _ = called("changed", *words, "--json", "--no-exiftool")
+    status, lines, _ = called_lines("changed", *words, "--json", "--no-exiftool")
     return status, {it["path"]: it["result"] for it in map(json.loads, lines) if "path" in it}
 
 
@@ -119,84 +108,84 @@ class TestChanged:
         shutil.copytree(folder / "b", folder / "a")
         self.folder = folder
 
-    def test_the_same(self, called):
-        assert results(called, "b", "a", "--sidecars") == (0, {})
+    def test_the_same(self, called_lines):
+        assert results(called_lines, "b", "a", "--sidecars") == (0, {})
         write(self.folder / "a" / "x.jpg.xmp", ONE.replace(b"?xpacket begin", b"?xpacket  begin") + b" " * 20)
-        assert results(called, "b", "a", "--sidecars") == (0, {}), "other bytes of the same meaning"
+        assert results(called_lines, "b", "a", "--sidecars") == (0, {}), "other bytes of the same meaning"
 
     @pytest.mark.parametrize("name", ["x.jpg.xmp", "y.xmp"])
-    def test_an_edited_sidecar(self, name, called):
+    def test_an_edited_sidecar(self, name, called_lines):
         write(self.folder / "a" / name, OTHER)
-        assert results(called, "b", "a", "--sidecars") == (1, {name[0] + ".jpg": "different"})
-        status, lines, _ = called("changed", "b", "a", "--sidecars", "--each", "--no-exiftool")
+        assert results(called_lines, "b", "a", "--sidecars") == (1, {name[0] + ".jpg": "different"})
+        status, lines, _ = called_lines("changed", "b", "a", "--sidecars", "--each", "--no-exiftool")
         assert (status, [it.strip()[:2] for it in lines[1:2]]) == (1, ["~ "]) and "sidecar" in lines[1] and "two" in lines[1], lines
 
-    def test_a_lost_sidecar(self, called):
+    def test_a_lost_sidecar(self, called_lines):
         os.remove(self.folder / "a" / "y.xmp")
-        assert results(called, "b", "a", "--sidecars") == (1, {"y.jpg": "different"})
-        assert results(called, "a", "b", "--sidecars") == (1, {"y.jpg": "different"})
+        assert results(called_lines, "b", "a", "--sidecars") == (1, {"y.jpg": "different"})
+        assert results(called_lines, "a", "b", "--sidecars") == (1, {"y.jpg": "different"})
 
-    def test_a_sidecar_is_no_embedded_packet(self, called):
+    def test_a_sidecar_is_no_embedded_packet(self, called_lines):
         write(self.folder / "b" / "y.jpg", jpeg(app1(A), app1_xmp(ONE)))
         os.remove(self.folder / "b" / "y.xmp")
-        assert results(called, "b", "a", "--sidecars") == (1, {"y.jpg": "different"})
+        assert results(called_lines, "b", "a", "--sidecars") == (1, {"y.jpg": "different"})
 
-    def test_a_moved_picture_takes_it_along(self, called):
+    def test_a_moved_picture_takes_it_along(self, called_lines):
         write(self.folder / "a" / "y.xmp", OTHER)
         write(self.folder / "b" / "y.xmp", OTHER)
         (self.folder / "a" / "new").mkdir()
         for name in ("y.jpg", "y.xmp"):
             os.rename(self.folder / "a" / name, self.folder / "a" / "new" / name)
-        assert results(called, "b", "a", "--sidecars") == (1, {"y.jpg": "moved"})
+        assert results(called_lines, "b", "a", "--sidecars") == (1, {"y.jpg": "moved"})
 
-    def test_a_moved_picture_with_another_sidecar(self, called):
+    def test_a_moved_picture_with_another_sidecar(self, called_lines):
         (self.folder / "a" / "new").mkdir()
         os.rename(self.folder / "a" / "y.jpg", self.folder / "a" / "new" / "y.jpg")
         os.rename(self.folder / "b" / "y.jpg", self.folder / "b" / "z.jpg")
         os.link(self.folder / "a" / "new" / "y.jpg", self.folder / "b" / "y.jpg")  # the same file by its marks
         os.remove(self.folder / "b" / "z.jpg")
-        status, found = results(called, "b", "a", "--sidecars")
+        status, found = results(called_lines, "b", "a", "--sidecars")
         assert (status, found["y.jpg"]) == (1, "missing after"), found
 
-    def test_by_another_name(self, called):
+    def test_by_another_name(self, called_lines):
         for side, name in (("b", "y"), ("a", "z")):
             if name == "z":
                 os.rename(self.folder / side / "y.jpg", self.folder / side / "z.jpg")
                 os.rename(self.folder / side / "y.xmp", self.folder / side / "z.xmp")
-        assert results(called, "b", "a", "--sidecars")[1] == {"y.jpg": "moved"}
+        assert results(called_lines, "b", "a", "--sidecars")[1] == {"y.jpg": "moved"}
 
-    def test_what_cannot_be_read(self, called):
+    def test_what_cannot_be_read(self, called_lines):
         for side in ("b", "a"):
             os.remove(self.folder / side / "y.xmp")
             os.mkfifo(self.folder / side / "y.xmp")
-        status, found = results(called, "b", "a", "--sidecars")
+        status, found = results(called_lines, "b", "a", "--sidecars")
         assert (status, found) == (2, {"y.jpg": "not wholly read"})
 
-    def test_what_is_no_xmp(self, called):
+    def test_what_is_no_xmp(self, called_lines):
         for side in ("b", "a"):
             write(self.folder / side / "y.xmp", b"<x:xmpmeta" + side.encode())
-        assert results(called, "b", "a", "--sidecars") == (2, {"y.jpg": "unreadable"})
+        assert results(called_lines, "b", "a", "--sidecars") == (2, {"y.jpg": "unreadable"})
 
-    def test_of_a_file_that_is_no_picture(self, called):
+    def test_of_a_file_that_is_no_picture(self, called_lines):
         """What can be compared of it is its bytes, and those of its sidecar."""
         for side in ("b", "a"):
             write(self.folder / side / "y.jpg", b"<html>")
-        assert results(called, "b", "a", "--sidecars") == (0, {})
+        assert results(called_lines, "b", "a", "--sidecars") == (0, {})
         write(self.folder / "a" / "y.xmp", OTHER)
-        assert results(called, "b", "a", "--sidecars") == (1, {"y.jpg": "not read, different bytes"})
+        assert results(called_lines, "b", "a", "--sidecars") == (1, {"y.jpg": "not read, different bytes"})
 
 
 class TestCatalogue:
     """A catalogue goes on as it was begun."""
 
     @pytest.fixture(autouse=True)
-    def catalogue(self, folder, called):
+    def catalogue(self, folder, called_lines):
         put(folder / "p", x__jpg=PICTURE, y__jpg=PICTURE, x__jpg__xmp=ONE, y__xmp=ONE, z__xmp=ONE)
         self.folder = folder
-        assert called("index", "p", "--catalogue", "c", "--sidecars", "--quiet")[:2] == (0, ["3 accepted"])
+        assert called_lines("index", "p", "--catalogue", "c", "--sidecars", "--quiet")[:2] == (0, ["3 accepted"])
 
-    def groups(self, called):
-        lines = called("same", "--catalogue", "c", "--json")[1]
+    def groups(self, called_lines):
+        lines = called_lines("same", "--catalogue", "c", "--json")[1]
         return [
             [os.path.basename(it["path"]) for it in group["pictures"]]
             for group in map(json.loads, lines)
@@ -209,38 +198,38 @@ class TestCatalogue:
         write(self.folder / "p" / name, octets)
         os.utime(self.folder / "p" / name, ns=(now.st_atime_ns, now.st_mtime_ns))
 
-    def test_an_edited_sidecar_is_noticed(self, called):
-        assert self.groups(called) == [["x.jpg", "y.jpg"]]
+    def test_an_edited_sidecar_is_noticed(self, called_lines):
+        assert self.groups(called_lines) == [["x.jpg", "y.jpg"]]
         self.edit("y.xmp", OTHER)
         assert len(OTHER) == len(ONE)
-        assert self.groups(called) == [], "the sidecar isn't as it was indexed"
-        assert called("index", "p", "--catalogue", "c", "--quiet")[1] == ["2 unchanged, 1 accepted"]
-        assert self.groups(called) == []
+        assert self.groups(called_lines) == [], "the sidecar isn't as it was indexed"
+        assert called_lines("index", "p", "--catalogue", "c", "--quiet")[1] == ["2 unchanged, 1 accepted"]
+        assert self.groups(called_lines) == []
         self.edit("y.xmp", ONE)
-        assert called("index", "p", "--catalogue", "c", "--quiet")[1] == ["2 unchanged, 1 accepted"]
-        assert self.groups(called) == [["x.jpg", "y.jpg"]]
+        assert called_lines("index", "p", "--catalogue", "c", "--quiet")[1] == ["2 unchanged, 1 accepted"]
+        assert self.groups(called_lines) == [["x.jpg", "y.jpg"]]
 
-    def test_a_sidecar_that_comes_or_goes(self, called):
+    def test_a_sidecar_that_comes_or_goes(self, called_lines):
         os.remove(self.folder / "p" / "y.xmp")
-        assert self.groups(called) == []
-        assert called("index", "p", "--catalogue", "c", "--quiet")[1] == ["2 unchanged, 1 accepted"]
+        assert self.groups(called_lines) == []
+        assert called_lines("index", "p", "--catalogue", "c", "--quiet")[1] == ["2 unchanged, 1 accepted"]
         write(self.folder / "p" / "y.jpg.xmp", ONE)
-        assert called("index", "p", "--catalogue", "c", "--quiet")[1] == ["2 unchanged, 1 accepted"]
-        assert self.groups(called) == [["x.jpg", "y.jpg"]]
+        assert called_lines("index", "p", "--catalogue", "c", "--quiet")[1] == ["2 unchanged, 1 accepted"]
+        assert self.groups(called_lines) == [["x.jpg", "y.jpg"]]
 
-    def test_a_file_by_itself_that_becomes_a_sidecar(self, called):
+    def test_a_file_by_itself_that_becomes_a_sidecar(self, called_lines):
         write(self.folder / "p" / "z.jpg", PICTURE)
-        assert called("index", "p", "--catalogue", "c", "--quiet")[1] == ["2 unchanged, 1 accepted"]
-        assert self.groups(called) == [["x.jpg", "y.jpg", "z.jpg"]]
+        assert called_lines("index", "p", "--catalogue", "c", "--quiet")[1] == ["2 unchanged, 1 accepted"]
+        assert self.groups(called_lines) == [["x.jpg", "y.jpg", "z.jpg"]]
         os.remove(self.folder / "p" / "z.jpg")
-        assert called("index", "p", "--catalogue", "c", "--quiet")[1][-1] == "2 unchanged, 1 Vanished, 1 accepted"
+        assert called_lines("index", "p", "--catalogue", "c", "--quiet")[1][-1] == "2 unchanged, 1 Vanished, 1 accepted"
 
-    def test_a_picture_by_its_name(self, called):
-        assert called("index", "p/x.jpg", "--catalogue", "c", "--quiet")[1] == ["1 unchanged"]
+    def test_a_picture_by_its_name(self, called_lines):
+        assert called_lines("index", "p/x.jpg", "--catalogue", "c", "--quiet")[1] == ["1 unchanged"]
 
-    def test_catalogues_that_are_not_alike(self, called):
+    def test_catalogues_that_are_not_alike(self, called_lines):
         """With sidecars and without: no answer, rather than one that is wrong."""
-        assert called("index", "p", "--catalogue", "plain", "--quiet")[1] == ["5 accepted"]
+        assert called_lines("index", "p", "--catalogue", "plain", "--quiet")[1] == ["5 accepted"]
         for words, status in (
             (("index", "p", "--catalogue", "plain", "--sidecars"), 3),
             (("changed", "plain", "c"), 4),
@@ -250,11 +239,11 @@ class TestCatalogue:
             (("merge", "c", "--catalogue", "plain"), 4),
             (("index", "p", "--catalogue", "c", "--scheduler", "tcp://127.0.0.1:1"), 3),
         ):
-            found = called(*words)
+            found = called_lines(*words)
             assert found[0] == status and "sidecars" in found[2] and "Traceback" not in found[2], (words, found)
-        assert called("merge", "c", "--catalogue", "both")[0] == 0
-        assert called("changed", "both", "c")[0] == 0
-        assert called("changed", "p", "c")[0] == 0, "a folder is read as the catalogue was"
+        assert called_lines("merge", "c", "--catalogue", "both")[0] == 0
+        assert called_lines("changed", "both", "c")[0] == 0
+        assert called_lines("changed", "p", "c")[0] == 0, "a folder is read as the catalogue was"
 
 
 def test_the_bytes_of_all_sidecars_are_limited(tmp_path):

@@ -1,0 +1,35 @@
+"""What a reader of any format keeps to: its limits, and that each block has bytes of the file."""
+
+import io
+from unittest import mock
+
+import pytest
+
+from exifnorm_pictures.extract import budgets
+from exifnorm_pictures.extract.formats.found import Broken, LeftToOthers
+
+
+def stream_of(octets):
+    """A stream with a budget of its own."""
+    return mock.Mock(wraps=io.BytesIO(octets), budget=budgets.Budget())
+
+
+def check_limit(read, octets, what, spent=None):
+    """A file that needs just as much as a limit allows is read, and with one less it is not. `spent` is what the file needs, if that is known."""
+    stream = stream_of(octets)
+    found = read(stream).found
+    needed = budgets.LIMITS[what] - stream.budget.left[what]
+    assert needed and spent in (needed, None), (what, needed)
+    with mock.patch.dict(budgets.LIMITS, {what: needed}):
+        assert read(stream_of(octets)).found == found
+    with mock.patch.dict(budgets.LIMITS, {what: needed - 1}):
+        with pytest.raises(budgets.TooMuch, match=f"more than {needed - 1} {what}"):
+            read(stream_of(octets))
+
+
+def blocks_in(read, octets):
+    """The blocks that a reader finds in a file with changed bytes; none where it gives a reason."""
+    try:
+        return [it.data for it in read(io.BytesIO(octets)).found]
+    except (Broken, LeftToOthers, budgets.TooMuch):
+        return []
