@@ -7,6 +7,7 @@ import os
 from typing import Iterator, List
 
 from ..compare.conflicts import ALIKE, best, conflicts
+from ..extract.formats.found import each_kind
 from ..fields.labels import WORDS, LabelText
 from .columns import width
 from .exit_codes import SUCCESS
@@ -40,7 +41,7 @@ def _row(it: Labelled) -> List[Cell]:
     known = conflicts(it.texts)
     texts = [best([one for one in it.texts if one.label == word], known) for word in WORDS]
     problem = [f"{it.problem}: {it.detail}"] if it.problem else []
-    unread = "; ".join([*problem, *it.refused, *it.not_read])
+    unread = "; ".join([*problem, *it.refused, *each_kind(it.not_read)])
     return [it.name, *texts, "; ".join(one.label for one in known if one.is_real), unread]
 
 
@@ -61,7 +62,7 @@ def _lines(it: Labelled) -> Iterator[str]:
     elif not it.refused and all(one.is_empty for one in it.texts):
         yield "no title, caption, name, keyword or rights"
     if it.not_read:
-        yield f"not wholly read: {', '.join(it.not_read)}"
+        yield f"not wholly read: {', '.join(each_kind(it.not_read))}"
 
 
 def _padded(word: str) -> str:

@@ -11,7 +11,7 @@ from ..catalogue.records import WORDS, Block
 from ..compare.verdicts import ACCEPTED
 from ..extract import exiftool, extraction, programs
 from ..extract.budgets import TooMuch
-from ..extract.formats.found import EXIF, IPTC, NAMES, Blocks, FoundBlock
+from ..extract.formats.found import EXIF, IPTC, NAMES, Blocks, FoundBlock, each_kind
 from ..extract.judge import judge_all
 from ..files import opening, tempdir
 from .exit_codes import SUCCESS, UNKNOWN
@@ -105,7 +105,7 @@ def _print(arguments: argparse.Namespace, it: Judged, head: List[str], describe:
         output(arguments, [*head, "no Exif, IPTC or XMP block"], {**names, "kind": None})
     if read.not_read:
         what = [one.what for one in read.not_read]
-        output(arguments, [f"not wholly read: {', '.join(what)}"], {**names, "not_read": what})
+        output(arguments, [f"not wholly read: {', '.join(each_kind(what))}"], {**names, "not_read": what})
 
 
 def _refused(it: Block) -> Described:

@@ -7,7 +7,7 @@ from typing import Iterator, List, Optional, Tuple
 
 from ..catalogue.records import Block
 from ..compare.verdicts import ACCEPTED
-from ..extract.formats.found import PROGRAMS
+from ..extract.formats.found import PROGRAMS, each_kind
 from ..fields.listing import Field, readable, unpacked
 from ..fields.plain_names import exact_key, group_name
 from ..fields.plain_values import plain
@@ -105,7 +105,7 @@ def _notes(it: Judged) -> Iterator[str]:
         yield f"{it.read.problem}: {it.read.detail}"
     elif not it.read.found:
         yield "no Exif, IPTC or XMP block"
-    yield from (f"not read: {part.what}" for part in it.read.not_read)
+    yield from (f"not read: {what}" for what in each_kind(part.what for part in it.read.not_read))
 
 
 # --json

@@ -13,7 +13,7 @@ from typing import Dict, Iterable, Iterator, List, NamedTuple, Optional, Sequenc
 
 from ..catalogue.records import KINDS, NOT_THERE, WORDS, Picture, Stamp, is_marked_as, picture_of_row
 from ..catalogue.store import PICTURE_COLUMNS, Catalogue
-from ..extract.formats.found import EXIF, NAMES
+from ..extract.formats.found import EXIF, NAMES, each_kind
 from ..extract.sidecars import Folders
 from ..fields.choosing import EVERYTHING, Choice, UnknownField
 from ..fields.listing import unpacked
@@ -333,7 +333,7 @@ def _groups_of(catalogue: Catalogue, found: Group, look: bool) -> Iterator[Group
             continue
         first = group.members[0]
         if first.unread != "" and group.basis not in (MAKER_NOTE, CODED_PICTURE):
-            group.not_read = ", ".join(it.what for it in catalogue.not_read_of(first))
+            group.not_read = ", ".join(each_kind(it.what for it in catalogue.not_read_of(first)))
         texts: Dict[str, str] = {}
         for it in group.members if group.basis in (BYTES, REPAIR) else ():
             reason = _reason(catalogue, it, group.basis)

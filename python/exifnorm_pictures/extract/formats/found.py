@@ -3,8 +3,9 @@
 from __future__ import annotations
 
 import hashlib
+from collections import Counter
 from dataclasses import dataclass, field
-from typing import Dict, List, NamedTuple, Optional
+from typing import Dict, Iterable, List, NamedTuple, Optional
 
 from ..budgets import BLOCKS, NOT_READ, Budget
 
@@ -92,6 +93,15 @@ class NotRead(NamedTuple):
         'ba7816bf'
         """
         return cls(what, hashlib.sha256(data).hexdigest())
+
+
+def each_kind(parts: Iterable[str]) -> List[str]:
+    """Parts that were not read, for people: those of the same words together, because a file may have thousands of them.
+
+    >>> each_kind(["trailer of 3 bytes", "unknown chunk", "unknown chunk"])
+    ['trailer of 3 bytes', 'unknown chunk (2 times)']
+    """
+    return [what if count == 1 else f"{what} ({count:,} times)" for what, count in Counter(parts).items()]
 
 
 @dataclass
