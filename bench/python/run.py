@@ -85,7 +85,8 @@ def timers(block: bytes) -> Dict[str, timeit.Timer]:
     except ImportError:
         print("piexif is not installed, and is left out")
     else:
-        names["piexif"], calls["piexif.load"] = piexif, "piexif.load(whole)"
+        if exifnorm.kind(block) == "exif":  # the only kind that it reads
+            names["piexif"], calls["piexif.load"] = piexif, "piexif.load(whole)"
     return {name: timeit.Timer(call, timer=time.process_time, globals=names) for name, call in calls.items()}
 
 

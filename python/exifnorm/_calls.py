@@ -4,10 +4,13 @@ from __future__ import annotations
 
 import hashlib
 from mmap import mmap
-from typing import NoReturn, Optional, Union
+from typing import Any, Callable, NoReturn, Optional, TypeVar, Union, cast
 
+from . import _library
 from ._errors import LIMIT, NormalTooLong, Refused
 from ._library import Failure, Status, library
+
+_Call = TypeVar("_Call", bound=Callable[..., Any])
 
 Block = Union[bytes, bytearray, memoryview, mmap]
 """A block's bytes. Any other object with contiguous bytes works too, such as an array."""
@@ -41,6 +44,18 @@ def _raise(failure: Failure, side: Optional[int] = None) -> NoReturn:
     raise AssertionError(f"libexifnorm answered the status {status}")
 
 
+def in_c(call: _Call) -> _Call:
+    """The extension module's function with the name of one in Python, to which it leaves what is rare (`_native.c`). Without the
+    module, the one in Python."""
+    native = _library._native
+    if not native:
+        return call
+    native.in_python, native.raise_failure = call, _raise
+    made = getattr(native, call.__name__)
+    made.__module__ = call.__module__  # where pickle and help find it
+    return cast(_Call, made)
+
+
 def version() -> str:
     """The version of the library that is in use.
 
@@ -62,6 +77,7 @@ def kind(block: Block) -> str:
     return _KINDS[number]
 
 
+@in_c
 def normal(block: Block) -> bytes:
     """The block's normal form: the same bytes for all blocks that mean the same. Raises Refused if the block breaks the rules,
     NormalTooLong if the form would be longer than `LIMIT`, and MemoryError.

@@ -1,4 +1,4 @@
-/* exifnorm._native: the library's calls for blocks, which take less time than by ctypes.
+/* exifnorm._native: the library's calls for blocks, which take less time than by ctypes, and the function `normal` of the package.
  *
  * The module isn't linked with the library, which _library.py finds and loads: `functions` takes the addresses of its functions. Only the
  * limited API of CPython 3.9 is used, so one file serves this version and all later ones.
@@ -18,6 +18,11 @@
 typedef uint32_t (*check_call)(const unsigned char *, size_t, uint32_t *, struct exifnorm_fault *);
 typedef uint32_t (*compare_call)(const unsigned char *, size_t, const unsigned char *, size_t, uint32_t *, struct exifnorm_fault *);
 typedef uint32_t (*text_call)(const unsigned char *, size_t, unsigned char *, size_t, size_t *, struct exifnorm_fault *);
+
+/* The module's state. */
+struct state {
+    text_call normalise; /* of the library whose functions were made last; NULL if none was loaded */
+};
 
 /* The functions of a library, which a capsule holds for the functions in Python. */
 struct calls {
@@ -159,17 +164,23 @@ static size_t length_of(const struct bytes *block)
 
 /* A form has at most twice as many bytes as its block, and usually as many, or one more: that of an Exif block has an even number. To copy a
  * form takes little of the time of a call for a short block, and half of it for a long one. */
-static PyObject *normalise(PyObject *capsule, PyObject *argument)
+static PyObject *form_of(text_call call, PyObject *argument)
 {
-    struct calls *calls = PyCapsule_GetPointer(capsule, NULL);
     struct bytes block;
     size_t length;
 
-    if (calls == NULL || get_bytes(argument, &block) < 0) {
+    if (get_bytes(argument, &block) < 0) {
         return NULL;
     }
     length = length_of(&block);
-    return text(calls->normalise, &block, 2 * length <= ROOM ? 2 * length : length + length % 2);
+    return text(call, &block, 2 * length <= ROOM ? 2 * length : length + length % 2);
+}
+
+static PyObject *normalise(PyObject *capsule, PyObject *argument)
+{
+    struct calls *calls = PyCapsule_GetPointer(capsule, NULL);
+
+    return calls == NULL ? NULL : form_of(calls->normalise, argument);
 }
 
 static PyObject *show(PyObject *capsule, PyObject *argument)
@@ -246,10 +257,10 @@ static PyObject *functions_of(PyObject *capsule)
 
 static PyObject *functions(PyObject *module, PyObject *arguments)
 {
+    struct state *state = PyModule_GetState(module);
     Py_ssize_t at[COUNT];
     PyObject *capsule, *made;
 
-    (void)module;
     if (!PyArg_ParseTuple(arguments, "nnnnn:functions", &at[0], &at[1], &at[2], &at[3], &at[4])) {
         return NULL;
     }
@@ -265,20 +276,57 @@ static PyObject *functions(PyObject *module, PyObject *arguments)
     }
     made = functions_of(capsule);
     Py_DECREF(capsule);
+    if (made != NULL) {
+        state->normalise = (text_call)at[1];
+    }
     return made;
+}
+
+/* The package's `normal`: a function in Python would take a quarter longer for a short block. This one leaves to the module's attribute
+ * `in_python` the first call, which loads the library, and objects other than bytes, and to `raise_failure` a call that fails. */
+static PyObject *normal(PyObject *module, PyObject *arguments, PyObject *named)
+{
+    static char *names[] = {"block", NULL};
+    const struct state *state = PyModule_GetState(module);
+    PyObject *block, *form, *raised;
+
+    if (named == NULL && PyTuple_Size(arguments) == 1) {
+        block = PyTuple_GetItem(arguments, 0);
+    } else if (!PyArg_ParseTupleAndKeywords(arguments, named, "O:normal", names, &block)) {
+        return NULL;
+    }
+    if (state->normalise == NULL || !PyBytes_CheckExact(block)) {
+        return PyObject_CallMethod(module, "in_python", "(O)", block);
+    }
+    form = form_of(state->normalise, block);
+    if (form == NULL || PyBytes_CheckExact(form)) {
+        return form;
+    }
+    raised = PyObject_CallMethod(module, "raise_failure", "(O)", form);
+    Py_DECREF(form);
+    return raised;
 }
 
 static PyMethodDef methods[] = {
     {"functions", functions, METH_VARARGS,
      "The functions check, normalise, compare, show and captions that call the library's functions at these five addresses. Each takes "
      "bytes, and returns its result, or a tuple of the status, the number of the cause and the offset."},
+    {"normal", (PyCFunction)(void (*)(void))normal, METH_VARARGS | METH_KEYWORDS,
+     "normal($module, /, block)\n"
+     "--\n\n"
+     "The block's normal form: the same bytes for all blocks that mean the same. Raises Refused if the block breaks the rules,\n"
+     "NormalTooLong if the form would be longer than `LIMIT`, and MemoryError.\n\n"
+     "Use a normal form only to compare or to digest. Offsets inside a MakerNote may be invalid in it: keep the original.\n\n"
+     ">>> normal(b\"\\x1c\\x02\\x78\\x80\\x04\\x00\\x00\\x00\\x04Vase\\x00\")\n"
+     "b'\\x1c\\x02x\\x00\\x04Vase'"},
     {NULL, NULL, 0, NULL},
 };
 
 static PyModuleDef_Slot slots[] = {{0, NULL}};
 
 static struct PyModuleDef definition = {
-    PyModuleDef_HEAD_INIT, "exifnorm._native", "The library's calls for blocks, without ctypes.", 0, methods, slots, NULL, NULL, NULL,
+    PyModuleDef_HEAD_INIT, "exifnorm._native", "The library's calls for blocks, without ctypes.", sizeof(struct state), methods, slots,
+    NULL, NULL, NULL,
 };
 
 PyMODINIT_FUNC PyInit__native(void)

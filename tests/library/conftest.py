@@ -9,8 +9,9 @@ from pathlib import Path
 
 import pytest
 
+import exifnorm
 from compiling import HERE, HEADERS, TOP, run
-from exifnorm import _library
+from exifnorm import _calls, _library, _reading
 from small_blocks import outcome
 
 
@@ -39,9 +40,9 @@ def extension(session_folder):
     return path
 
 
-@pytest.fixture(scope="session")
+@pytest.fixture
 def native(extension):
-    """The extension module."""
+    """A new extension module, which no library was loaded for."""
     loader = importlib.machinery.ExtensionFileLoader("exifnorm._native", str(extension))
     module = importlib.util.module_from_spec(importlib.util.spec_from_loader("exifnorm._native", loader))
     loader.exec_module(module)
@@ -52,6 +53,9 @@ def native(extension):
 def way(request, monkeypatch, shared):
     """How the package calls the built library in a test: each test with this fixture runs twice."""
     monkeypatch.setattr(_library, "_native", request.getfixturevalue("native") if request.param == "extension" else None)
+    normal = _calls.in_c(_calls.normal)
+    for module in (exifnorm, _calls, _reading):
+        monkeypatch.setattr(module, "normal", normal)
     monkeypatch.setenv("EXIFNORM_LIBRARY", str(shared))
     _library.library.cache_clear()
     yield request.param

@@ -14,7 +14,7 @@ from compiling import C99, HERE, need, run
 from judged import CASES, all_judged, judged, pairs, write_jobs
 from kinds import small_kinds
 from reading import Fault, said
-from small_blocks import outcome
+from small_blocks import normal, outcome
 
 # ---- from C
 
@@ -77,7 +77,7 @@ def expected_of(call, it):
     """The expected outcome of a call of the package."""
     if it.fault:
         return ("Refused", *it.fault, None)
-    if call is exifnorm.normal:
+    if call is normal:
         return ("NormalTooLong",) if it.form is None else it.form
     return {exifnorm.kind: it.kind, exifnorm.show: it.listing}[call]
 
@@ -127,7 +127,7 @@ def caption_lines(captions):
 class TestInPython:
     def test_kinds_forms_and_listings(self, way, are_large):
         for it in all_judged(are_large):
-            for call in (exifnorm.kind, exifnorm.normal, exifnorm.show):
+            for call in (exifnorm.kind, normal, exifnorm.show):
                 assert outcome(call, it.block) == expected_of(call, it), (call.__name__, it.block[:200])
 
     def test_fields_and_captions(self, way, are_large):

@@ -2,6 +2,7 @@
 
 import ctypes
 import gc
+import inspect
 import itertools
 import os
 import re
@@ -14,7 +15,7 @@ import pytest
 
 import made_by_tools
 from compiling import HERE, TOP, run
-from exifnorm import _library
+from exifnorm import _calls, _library
 from meanings import ASCII, SHORT, Exif, Layout, Record, Value, laid
 from small_blocks import CAPTION, LOOP, ONE, long_form, outcome
 
@@ -47,6 +48,32 @@ def loaded(native, shared, monkeypatch):
     """The loaded library, whose calls are those of the extension module."""
     monkeypatch.setattr(_library, "_native", native)
     return _library.Library(str(shared))
+
+
+@pytest.fixture
+def call_of(loaded):
+    """The function of this name: `normal` of the package, or a call for blocks."""
+    return lambda name: _calls.in_c(_calls.normal) if name == "normal" else getattr(loaded, name)
+
+
+def test_normal_is_the_function_of_the_package(loaded):
+    """In C it has the same description and the same arguments as in Python."""
+    in_c, in_python = _calls.in_c(_calls.normal), _calls.normal
+    assert inspect.isbuiltin(in_c) and (in_c.__name__, in_c.__module__) == (in_python.__name__, in_python.__module__)
+    assert inspect.getdoc(in_c) == inspect.getdoc(in_python)
+    kinds = [[(it.name, it.kind, it.default) for it in inspect.signature(call).parameters.values()] for call in (in_c, in_python)]
+    assert kinds[0] == kinds[1]
+
+
+def test_normal_of_bytes_runs_no_python(call_of):
+    """That is what makes it fast."""
+    normal, events = call_of("normal"), []
+    sys.setprofile(lambda frame, event, _: events.append((event, frame.f_code.co_name)))
+    try:
+        form = normal(ONE)
+    finally:
+        sys.setprofile(None)
+    assert form == ONE and not [it for it in events if it[0] == "call"]
 
 
 @pytest.mark.parametrize("block", [*BLOCKS.values(), None], ids=[*BLOCKS, "a form that is too long"])
@@ -113,10 +140,10 @@ def resident():
     return int(Path("/proc/self/statm").read_text(encoding="ascii").split()[1]) * os.sysconf("SC_PAGE_SIZE")
 
 
-@pytest.mark.parametrize("name", [*OF_ONE_BLOCK, "compare"])
-def test_memory_after_many_calls(loaded, name):
+@pytest.mark.parametrize("name", [*OF_ONE_BLOCK, "compare", "normal"])
+def test_memory_after_many_calls(call_of, name):
     """Nothing stays allocated or referred to, whether a call succeeds, fails, or gets a wrong argument."""
-    call = getattr(loaded, name)
+    call = call_of(name)
     asked_again = BLOCKS["three times as many bytes"]  # its captions are longer than expected
     for block, times in ((ONE, 50_000), (LOOP, 50_000), (asked_again, 2000), (None, 50_000)):
         arguments = (ONE, block) if name == "compare" else (block,)
@@ -190,6 +217,13 @@ def test_allocations_of_a_call_that_fail(loaded, refusing, name, block):
     assert call(block) == expected, "afterwards it works as before"
 
 
+def test_allocations_of_normal_that_fail(call_of, refusing):
+    normal = call_of("normal")
+    for block in (ONE, CAPTION, BLOCKS["twice as many bytes"]):
+        *failed, last = outcomes(refusing, normal, block)
+        assert failed and failed == [("MemoryError",)] * len(failed) and last == normal(block)
+
+
 def test_allocations_of_a_comparison_that_fail(loaded, refusing):
     for second in (ONE, CAPTION, LOOP):
         *failed, last = outcomes(refusing, lambda first: loaded.compare(first, second), ONE)
@@ -207,10 +241,11 @@ def test_allocations_of_functions_that_fail(loaded, native, refusing):
 
 
 # The part of the stable ABI that it uses, with what CPython 3.9 has of it: "Contents of Limited API" in Python's documentation.
-STABLE = """PyArg_UnpackTuple PyBytes_AsString PyBytes_AsStringAndSize PyBytes_FromStringAndSize PyCMethod_New PyCapsule_GetPointer PyCapsule_New
-    PyErr_NoMemory PyErr_SetString PyEval_RestoreThread PyEval_SaveThread PyExc_ValueError PyLong_FromUnsignedLong PyMem_Free
-    PyMem_Malloc PyModuleDef_Init PyTuple_New PyTuple_SetItem Py_DecRef Py_IncRef _PyArg_ParseTuple_SizeT _Py_BuildValue_SizeT
-    _Py_Dealloc""".split()
+STABLE = """PyArg_UnpackTuple PyBytes_AsString PyBytes_AsStringAndSize PyBytes_FromStringAndSize PyBytes_Type PyCMethod_New
+    PyCapsule_GetPointer PyCapsule_New PyErr_NoMemory PyErr_SetString PyEval_RestoreThread PyEval_SaveThread PyExc_ValueError
+    PyLong_FromUnsignedLong PyMem_Free PyMem_Malloc PyModuleDef_Init PyModule_GetState PyTuple_GetItem PyTuple_New
+    PyTuple_SetItem PyTuple_Size Py_DecRef Py_IncRef _PyArg_ParseTupleAndKeywords_SizeT _PyArg_ParseTuple_SizeT
+    _PyObject_CallMethod_SizeT _Py_BuildValue_SizeT _Py_Dealloc""".split()
 
 
 def test_symbols(extension):

@@ -82,8 +82,10 @@ def test_places_of_the_library(packages, watched_library, shared, beside, by_sys
 
 
 def test_the_extension_module_is_used_where_it_is(packages, shared):
-    code = "import exifnorm; from exifnorm import _library as it; print(it._native is not None, type(it.library().normalise).__name__)"
-    expected = {"extension": "True builtin_function_or_method", "ctypes": "False method"}
+    code = (
+        "import exifnorm; from exifnorm import _library as it; print(*(type(it).__name__ for it in (exifnorm.normal, it.library().show)))"
+    )
+    expected = {"extension": "builtin_function_or_method builtin_function_or_method", "ctypes": "function method"}
     assert packages.printed(packages.copy("copy"), code, EXIFNORM_LIBRARY=shared) == expected[packages.way]
 
 
@@ -167,5 +169,5 @@ def test_two_libraries(way, shared, watched_library, watch, monkeypatch):
     of_watched = _library.library().normalise
     monkeypatch.setenv("EXIFNORM_LIBRARY", str(shared))
     _library.library.cache_clear()
-    assert watch.of(exifnorm.normal, ONE) == {}
+    assert watch.of(exifnorm.show, ONE) == {}
     assert watch.of(of_watched, ONE) == {"normalise": 1}

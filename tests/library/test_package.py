@@ -24,7 +24,7 @@ from exifnorm import Caption, Field, _calls, _library, _listings
 from kinds import small_kinds
 from meanings import ASCII, LABELS, LIMIT, LONG, SHORT, Exif, Layout, Record, Value, laid
 from reading import said
-from small_blocks import CAPTION, LOOP, OF_BLOCK, ONE, long_form, outcome
+from small_blocks import CAPTION, LOOP, OF_BLOCK, ONE, long_form, normal, outcome
 
 pytestmark = pytest.mark.usefixtures("way")
 
@@ -258,6 +258,17 @@ def test_what_is_no_block(wrong):
     assert outcome(exifnorm.same, wrong, ONE)[0] == outcome(exifnorm.same, ONE, wrong)[0] == "TypeError"
 
 
+@pytest.mark.parametrize("name", ["kind", "normal", "digest", "show", "fields", "captions"])
+def test_arguments_of_a_call(name):
+    """One block, by its place or by its name, also before the library is loaded."""
+    call = getattr(exifnorm, name)
+    for _ in range(2):
+        assert call(block=ONE) == call(ONE)
+    for arguments, named in (((), {}), ((), {"other": ONE}), ((ONE,), {"block": ONE}), ((ONE,), {"other": ONE}), ((ONE, "md5", ONE), {})):
+        with pytest.raises(TypeError):
+            call(*arguments, **named)
+
+
 def test_bytes_that_are_not_contiguous():
     apart = memoryview(ONE * 2)[::2]
     assert [outcome(call, apart)[0] for call in OF_BLOCK] == ["BufferError"] * len(OF_BLOCK)
@@ -312,6 +323,12 @@ def test_objects_are_pickled_and_can_not_be_changed():
             setattr(it, name, 1)
 
 
+def test_calls_are_pickled():
+    """Each of them, so that another process can make it."""
+    for call in (exifnorm.kind, exifnorm.normal, exifnorm.digest, exifnorm.same, exifnorm.show, exifnorm.fields, exifnorm.captions):
+        assert pickle.loads(pickle.dumps(call)) is call
+
+
 MODULES = [
     exifnorm,
     *(importlib.import_module(f"exifnorm.{it.name}") for it in pkgutil.iter_modules(exifnorm.__path__) if it.name != "_native"),
@@ -340,11 +357,11 @@ ODD = laid(Exif({0x9999: Value(7, bytes(99_999))}), Layout("<"))
 BY_CALL = {
     "kind": ({"check": 1}, exifnorm.kind, ONE),
     "kind of a refused block": ({"check": 1, "cause_name": 1}, exifnorm.kind, LOOP),
-    "normal": ({"normalise": 1}, exifnorm.normal, ONE),
-    "normal of a bytearray": ({"normalise": 1}, exifnorm.normal, bytearray(ONE)),
-    "normal of a large block": ({"normalise": 1}, exifnorm.normal, laid(Exif({0x9999: Value(7, bytes(100_000))}), Layout("<"))),
-    "normal of a block with a byte less than its form": ({"normalise": 1}, exifnorm.normal, ODD),
-    "normal of a refused block": ({"normalise": 1, "cause_name": 1}, exifnorm.normal, LOOP),
+    "normal": ({"normalise": 1}, normal, ONE),
+    "normal of a bytearray": ({"normalise": 1}, normal, bytearray(ONE)),
+    "normal of a large block": ({"normalise": 1}, normal, laid(Exif({0x9999: Value(7, bytes(100_000))}), Layout("<"))),
+    "normal of a block with a byte less than its form": ({"normalise": 1}, normal, ODD),
+    "normal of a refused block": ({"normalise": 1, "cause_name": 1}, normal, LOOP),
     "digest": ({"normalise": 1}, exifnorm.digest, ONE),
     "same": ({"compare": 1}, exifnorm.same, ONE, CAPTION),
     "show": ({"show": 1}, exifnorm.show, ONE),
@@ -474,7 +491,7 @@ def test_sixteen_threads(monkeypatch):
         assert found == expected
 
 
-@pytest.mark.parametrize("call", [exifnorm.kind, exifnorm.normal, exifnorm.show, _calls.captions_text, lambda it: exifnorm.same(it, it)])
+@pytest.mark.parametrize("call", [exifnorm.kind, normal, exifnorm.show, _calls.captions_text, lambda it: exifnorm.same(it, it)])
 def test_calls_at_once(watch, monkeypatch, call):
     """A call for a long block doesn't block other threads: sixteen of them are inside the library at the same time."""
     block = laid(Exif({0x010E: Value(ASCII, b"A" * 20_000)}), Layout("<"))
