@@ -8,8 +8,10 @@ import signal
 import sqlite3
 import subprocess
 import sys
+import tempfile
 import time
 import zlib
+from pathlib import Path
 
 import pytest
 from attacks import FILES
@@ -19,13 +21,28 @@ from studio import TOP, Studio, write
 SECONDS, MEMORY = 10, 256 << 20
 GUARD = 30, 3 << 30  # what ends a process, so that a fault harms nothing else
 
-# Runs the command, and prints on the third stream what it took: the processor time of this process and its threads, and the most memory
-# that it had. The system's own maximum can be that of the process that started this one.
-CALL = """
-import os, resource, sys
+# Runs commands, each in a process of its own, which a first one forks: to start Python takes longer than most commands. Each writes what
+# it took to a file: the processor time of its process and its threads, and the most memory that it had. The system's own maximum can be
+# that of the process that started this one.
+CALLS = """
+import importlib, json, os, resource, sys
 from exifnorm_pictures.cli.main import main
+commands, ended = json.loads(sys.argv[1]), []
+for name in {words[0] for words in commands}:
+    if name.isalpha():
+        importlib.import_module("exifnorm_pictures.cli." + name)  # once for all of them
+for number, words in enumerate(commands):
+    process = fork()
+    if not process:
+        break
+    ended.append(os.waitstatus_to_exitcode(os.waitpid(process, 0)[1]))
+else:
+    print(json.dumps(ended))
+    sys.exit()
+for stream, name in ((1, "out"), (2, "err"), (3, "used")):
+    os.dup2(os.open(os.path.join(sys.argv[2], f"{name}-{number}"), os.O_WRONLY | os.O_CREAT), stream)
 try:
-    status = main(sys.argv[1:])
+    status = main(words)
 except SystemExit as refused:  # the arguments
     status = refused.code
 memory = next(int(line.split()[1]) << 10 for line in open("/proc/self/status") if line.startswith("VmHWM"))
@@ -46,47 +63,45 @@ def limits():
 class Ended:
     """How a command ended, and what it took."""
 
-    def __init__(self, done, used):
-        self.status = done.returncode
-        self.out, self.err = done.stdout.decode("utf-8", "surrogateescape"), done.stderr.decode("utf-8", "replace")
+    def __init__(self, words, status, out, err, used):
+        self.words, self.status = words, status
+        self.out, self.err = out.decode("utf-8", "surrogateescape"), err.decode("utf-8", "replace")
         seconds, memory = used.split() if used else (b"inf", b"-1")
         self.seconds, self.memory = float(seconds), int(memory)
 
     def check(self, *statuses):
         """The command has ended with one of these statuses, within the limits, and with no error of our own."""
         print(f"{self.seconds:.2f} s, {self.memory >> 20 if self.memory < 1e12 else -1} MB, status {self.status}")
-        assert self.status in statuses, (self.status, self.out[-2000:], self.err[-2000:])
-        assert "internal error" not in self.out + self.err and "Traceback" not in self.err, self.err[-2000:]
-        assert self.seconds <= SECONDS, f"{self.seconds:.1f} seconds of a processor"
-        assert self.memory <= MEMORY, f"{self.memory / (1 << 20):.0f} MB"
+        assert self.status in statuses, (self.words, self.status, self.out[-2000:], self.err[-2000:])
+        assert "internal error" not in self.out + self.err and "Traceback" not in self.err, (self.words, self.err[-2000:])
+        assert self.seconds <= SECONDS, f"{self.words}: {self.seconds:.1f} seconds of a processor"
+        assert self.memory <= MEMORY, f"{self.words}: {self.memory / (1 << 20):.0f} MB"
         return self
 
 
-def run(folder, *words, code="", **variables):
-    """Runs exifnorm-pictures in a process of its own, after some code."""
-    reading, writing = os.pipe()
-
-    def begin():
-        limits()
-        os.dup2(writing, 3)
-
-    try:
+def run_each(folder, commands, code="", **variables):
+    """Runs commands of exifnorm-pictures one after another, each in a process of its own, after some code."""
+    with tempfile.TemporaryDirectory() as room:
         done = subprocess.run(
-            [sys.executable, "-c", code + CALL, *words],
+            [sys.executable, "-c", "from os import fork\n" + code + CALLS, json.dumps([*commands]), room],
             cwd=folder,
             stdin=subprocess.DEVNULL,
             capture_output=True,
             timeout=300,
-            preexec_fn=begin,
-            close_fds=True,
-            pass_fds=(3,),
+            preexec_fn=limits,
             env=Studio.environment(EXIFNORM_DEBUG="", **variables),
         )
-    finally:
-        os.close(writing)
-        with os.fdopen(reading, "rb") as used:
-            text = used.read()
-    return Ended(done, text)
+        assert done.returncode == 0, done
+        streams = ("out", "err", "used")
+        return [
+            Ended(words, status, *((Path(room) / f"{it}-{number}").read_bytes() for it in streams))
+            for number, (words, status) in enumerate(zip(commands, json.loads(done.stdout)))
+        ]
+
+
+def run(folder, *words, code="", **variables):
+    """Runs one command of exifnorm-pictures, as `run_each` does."""
+    return run_each(folder, [words], code, **variables)[0]
 
 
 def words_of(catalogue):
@@ -105,8 +120,9 @@ def test_a_file(name, tmp_path):
     os.utime(tmp_path / "p" / name, (1e9, 1e9))
     try:
         words = ["index", "p", "--catalogue", "c", "--quiet", "--jobs", "1"]
-        run(tmp_path, *words, PATH="/nowhere").check(0, 2)
-        assert run(tmp_path, *words, PATH="/nowhere").check(0).out.splitlines() == ["1 unchanged"]
+        first, second = run_each(tmp_path, [words, words], PATH="/nowhere")
+        first.check(0, 2)
+        assert second.check(0).out.splitlines() == ["1 unchanged"]
     finally:
         os.remove(tmp_path / "p" / name)  # which pytest would keep
     found = words_of(tmp_path / "c")
@@ -206,9 +222,8 @@ def test_a_schema_of_another(name, archive):
     """A catalogue that is not made as ours is refused before any row is read, and nothing is written."""
     changed(archive / "c", *(it.format("not_read") for it in SCHEMAS[name]))
     before = (archive / "c").read_bytes()
-    for words in COMMANDS:
-        ended = run(archive, *words).check(4)
-        assert "c is no catalogue" in ended.err, (words, ended.err)
+    for ended in run_each(archive, COMMANDS):
+        assert "c is no catalogue" in ended.check(4).err, (ended.words, ended.err)
     assert (archive / "c").read_bytes() == before
 
 
@@ -228,9 +243,8 @@ def test_a_log_of_another_state(archive):
     run(archive, "index", "p", "--catalogue", "c", "--quiet", code=code)
     assert os.path.getsize(archive / "c-wal") > 0
     shutil.copy(archive / "good", archive / "c")
-    for words in COMMANDS:
-        ended = run(archive, *words).check(4)
-        assert "c-wal" in ended.err, (words, ended.err)
+    for ended in run_each(archive, COMMANDS):
+        assert "c-wal" in ended.check(4).err, (ended.words, ended.err)
     for name in ("c-wal", "c-shm"):
         os.remove(archive / name)
     assert "2 pictures" in run(archive, "same", "--catalogue", "c").check(0, 1, 2).out
@@ -311,9 +325,11 @@ def test_a_picture_that_became_a_pipe(archive):
     for name in ("a.jpg", "b.jpg"):
         os.remove(archive / "p" / name)
         os.mkfifo(archive / "p" / name)
-    run(archive, "report", "--catalogue", "c", "--html", "page").check(0, 1, 2)
-    run(archive, "same", "--catalogue", "c").check(0, 1, 2)
-    for device in ("/dev/zero", "p/a.jpg", "p"):
+    for ended in run_each(archive, [["report", "--catalogue", "c", "--html", "page"], ["same", "--catalogue", "c"]]):
+        ended.check(0, 1, 2)
+    commands = [
+        words
+        for device in ("/dev/zero", "p/a.jpg", "p")
         for words in (
             ["show", device],
             ["explain", device],
@@ -321,11 +337,11 @@ def test_a_picture_that_became_a_pipe(archive):
             ["mend", device, "out"],
             ["show", "--block", device],
             ["index", device, "--catalogue", "new", "--quiet"],
-        ):
-            if words[0] in ("captions", "index") and device == "p":  # which read folders
-                continue
-            ended = run(archive, *words).check(2)
-            assert len((ended.out + ended.err).splitlines()) >= 1, words
+        )
+        if words[0] not in ("captions", "index") or device != "p"  # which read folders
+    ]
+    for ended in run_each(archive, commands):
+        assert len((ended.check(2).out + ended.err).splitlines()) >= 1, ended.words
     assert not (archive / "out").exists()
 
 
@@ -333,13 +349,14 @@ def test_a_picture_that_became_a_pipe(archive):
 def test_a_catalogue_that_names_devices(name, archive):
     with sqlite3.connect(archive / "c") as base:
         base.execute("UPDATE pictures SET path = ? WHERE id = 1", (name.encode(),))
-    for words in (
+    commands = (
         ["report", "--catalogue", "c", "--html", "page"],
         ["same", "--catalogue", "c"],
         ["changed", "good", "c"],
         ["changed", "c", "good"],
-    ):
-        no_control(run(archive, *words).check(0, 1, 2))
+    )
+    for ended in run_each(archive, commands):
+        no_control(ended.check(0, 1, 2))
 
 
 @pytest.mark.parametrize("what", ("threading.Thread.start", "os.fork"))
@@ -374,8 +391,9 @@ def test_fields_that_inflate(archive):
         with base:
             base.execute("UPDATE pictures SET exif = 'x' || id, exif_octets = 'x' || id")
             base.execute("UPDATE blocks SET digest = 'x', fields = ? WHERE kind = 'exif'", (fields,))
-        for words in (["changed", "good", "c"], ["report", "--catalogue", "c", "--since", "good", "--html", "page"]):
-            ended = no_control(run(archive, *words).check(4))
+        commands = ["changed", "good", "c"], ["report", "--catalogue", "c", "--since", "good", "--html", "page"]
+        for ended in run_each(archive, commands):
+            no_control(ended.check(4))
             assert "c is damaged" in ended.err, ended.err
     base.close()
 
@@ -397,19 +415,20 @@ def test_texts_of_a_catalogue(archive):
         base.execute("UPDATE pictures SET problem = ? WHERE id = 3", (NASTY,))
         fields = json.dumps([["main", NASTY, "ASCII", 4, NASTY], [NASTY, "010f", NASTY, 4, NASTY]]).encode()
         base.execute("UPDATE blocks SET fields = ?, digest = 'x'", (fields,))
-    for words in (
+    commands = [
         ["same"],
         ["changed", "good", "c", "--all"],
         ["changed", "c", "good", "--all"],
         ["report", "--html", "page"],
-        ["report", "--html", "page", "--since", "good"],
+        ["report", "--html", "changes", "--since", "good"],
         ["index", "p"],
         ["forget", "p"],
-    ):
-        more = [] if words[0] == "changed" else ["--catalogue", "c"]
-        no_control(run(archive, *words, *more).check(0, 1, 2, 4))
-        if (archive / "page").exists():
-            assert not RAW.search((archive / "page").read_text("utf-8"))
+    ]
+    for ended in run_each(archive, [it if it[0] == "changed" else [*it, "--catalogue", "c"] for it in commands]):
+        no_control(ended.check(0, 1, 2, 4))
+    for name in ("page", "changes"):
+        if (archive / name).exists():
+            assert not RAW.search((archive / name).read_text("utf-8"))
 
 
 def test_names_in_messages(archive):
@@ -417,7 +436,7 @@ def test_names_in_messages(archive):
     (archive / "folder\n\x1b[2J").mkdir()
     write(archive / "p" / "x\x9b\n.jpg", b"no picture")
     for name in (NASTY, "folder\n\x1b[2J"):
-        for words in (
+        commands = (
             ["same", "--catalogue", name],
             ["index", "p", "--catalogue", name + "/c"],
             ["changed", name, "c"],
@@ -433,8 +452,9 @@ def test_names_in_messages(archive):
             [name],
             ["same", f"--{name}"],
             ["show", "--block", name],
-        ):
-            no_control(run(archive, *words).check(0, 1, 2, 3, 4))
+        )
+        for ended in run_each(archive, commands):
+            no_control(ended.check(0, 1, 2, 3, 4))
 
 
 @pytest.mark.skipif(not shutil.which("exiftool"), reason="not installed: exiftool (package libimage-exiftool-perl)")
@@ -456,8 +476,9 @@ def test_what_mend_prints(archive):
     at = octets.index(b"Exif\0\0") + 6
     write(archive / "bad.jpg", octets[: at + 4] + b"\0\0\0\x09" + octets[at + 8 :])
     for name in ("p/a.jpg", "bad.jpg"):
-        for words in (["mend", name, f"out-{os.path.basename(name)}"], ["show", name], ["captions", name], ["explain", name]):
-            no_control(run(archive, *words).check(0, 1, 2))
+        commands = ["mend", name, f"out-{os.path.basename(name)}"], ["show", name], ["captions", name], ["explain", name]
+        for ended in run_each(archive, commands):
+            no_control(ended.check(0, 1, 2))
 
 
 FAKE = """#!/bin/sh
@@ -477,8 +498,9 @@ def test_texts_of_exiftool(archive):
     os.chmod(archive / "bin" / "exiftool", 0o755)
     write(archive / "p" / "x.gif", b"GIF89a")
     path = os.pathsep.join((str(archive / "bin"), os.environ["PATH"]))
-    for words in (["index", "p", "--catalogue", "c"], ["show", "p/x.gif"], ["report", "--catalogue", "c", "--html", "page"]):
-        no_control(run(archive, *words, PATH=path).check(0, 2))
+    commands = ["index", "p", "--catalogue", "c"], ["show", "p/x.gif"], ["report", "--catalogue", "c", "--html", "page"]
+    for ended in run_each(archive, commands, PATH=path):
+        no_control(ended.check(0, 2))
     assert not RAW.search((archive / "page").read_text("utf-8"))
 
 
