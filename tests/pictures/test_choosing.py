@@ -250,19 +250,17 @@ def test_as_if_exiftool_had_removed_the_fields(folder, compared):
     (folder / "p.jpg").write_bytes(by_exiftool(folder))
     edits = [["-Artist=Otto"], ["-IPTC:Keywords+=jug"], ["-XMP-dc:Title=Jug"], ["-Artist=Otto", "-XMP-crs:Version=2"]]
     ignored = [["IFD0:Artist"], ["IPTC:Keywords"], ["XMP-dc:Title", "XMP-crs:Version"], ["IFD0:Artist", "XMP-crs:Version", "IPTC:Keywords"]]
-    for edit in edits:
-        tool(folder, "exiftool", "-q", "-m", "-o", "q.jpg", *edit, "p.jpg")
-        for tags in ignored:
-            sides = []
-            for name in ("p.jpg", "q.jpg"):
-                tool(folder, "exiftool", "-q", "-o", "bare.jpg", *(f"-{tag}=" for tag in tags), name)
-                sides.append((folder / "bare.jpg").read_bytes())
-                os.remove(folder / "bare.jpg")
-            expected = compared(a=sides[0], b=sides[1])[1] == "same"
-            p, q = ((folder / name).read_bytes() for name in ("p.jpg", "q.jpg"))
-            status, result, _, _ = compared(*(word for tag in tags for word in ("--ignore", tag)), a=p, b=q)
+    names = ["p.jpg", *(f"{number}.jpg" for number in range(len(edits)))]
+    for edit, name in zip(edits, names[1:]):
+        tool(folder, "exiftool", "-q", "-m", "-o", name, *edit, "p.jpg")
+    for tags in ignored:
+        tool(folder, "exiftool", "-q", "-m", "-o", "bare/", *(f"-{tag}=" for tag in tags), *names)
+        whole, bare = ([(at / name).read_bytes() for name in names] for at in (folder, folder / "bare"))
+        shutil.rmtree(folder / "bare")
+        for number, edit in enumerate(edits, 1):
+            expected = compared(a=bare[0], b=bare[number])[1] == "same"
+            status, result, _, _ = compared(*(word for tag in tags for word in ("--ignore", tag)), a=whole[0], b=whole[number])
             assert (status, result) == ((0, BUT) if expected else (1, "different")), (edit, tags)
-        os.remove(folder / "q.jpg")
 
 
 # What can't be left out

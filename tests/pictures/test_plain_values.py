@@ -1,7 +1,6 @@
 """Values and names in plain words, beside ExifTool's own."""
 
 import json
-import os
 import re
 import subprocess
 from xml.etree import ElementTree
@@ -61,6 +60,8 @@ def test_a_tag_without_a_name_has_its_number(key):
 
 # Values that ExifTool writes, beside those that it prints
 
+BY_EXIFTOOL = pytest.mark.xdist_group("plain values")  # whose pictures are made once
+
 WRITTEN = {
     "ExposureTime": ["1/125", "1/8000", "0.5", "30", "1.3"],
     "FNumber": ["2.8", "11", "5.6"],
@@ -76,22 +77,49 @@ WRITTEN = {
 }
 
 
-def exiftool_json(path, *words):
-    done = subprocess.run(["exiftool", "-j", "-G1", "-struct", *words, path], capture_output=True, check=True)
-    return json.loads(done.stdout)[0]
+POSITIONS = (47.5596, 7.5886), (-33.856784, 151.215297), (0.000278, -179.999722)
+REFERENCES = ("GPSLatitude", "GPSLongitude")
+# What turns a picture, by the figures of TIFF 6.0 and Exif 2.32
+ORIENTATIONS = {
+    1: "Horizontal (normal)",
+    2: "Mirror horizontal",
+    3: "Rotate 180",
+    4: "Mirror vertical",
+    5: "Mirror horizontal and rotate 270 CW",
+    6: "Rotate 90 CW",
+    7: "Mirror horizontal and rotate 90 CW",
+    8: "Rotate 270 CW",
+}
+# The tags of each picture that ExifTool writes
+PICTURES = {
+    **{(tag, value): [f"-ExifIFD:{tag}={value}"] for tag, values in WRITTEN.items() for value in values},
+    **{it: [word for tag, at in zip(REFERENCES, it) for word in (f"-{tag}={abs(at)}", f"-{tag}Ref={at}")] for it in POSITIONS},
+    **{it: ["-n", f"-IFD0:Orientation={it}", "-IFD0:Artist=a"] for it in ORIENTATIONS},
+}
+
+
+@pytest.fixture(scope="module")
+def pictures(tmp_path_factory):
+    """The folder of PICTURES, in their order, and what ExifTool prints of each. Both take one process of it."""
+    folder = tmp_path_factory.mktemp("plain")
+    (folder / "a.jpg").write_bytes(SMALL_JPEG)
+    calls = (["-q", "-o", f"{number}.jpg", *words, "a.jpg", "-execute"] for number, words in enumerate(PICTURES.values()))
+    (folder / "calls").write_text("".join(f"{word}\n" for call in calls for word in call), encoding="utf-8")
+    tool(folder, "exiftool", "-@", "calls")
+    names = [f"{number}.jpg" for number in range(len(PICTURES))]
+    return folder, json.loads(tool(folder, "exiftool", "-j", "-G1", "-struct", *names))
 
 
 @pytest.fixture
-def rows(folder, capsys):
-    """The rows that `compare` has for a picture without metadata and one in which ExifTool has written some tags."""
+def rows(pictures, capsys):
+    """The rows that `compare` has for a picture without metadata and one of PICTURES, and what ExifTool prints of that."""
     from exifnorm_pictures.cli import main
 
-    def call(*words):
-        (folder / "a.jpg").write_bytes(SMALL_JPEG)
-        tool(folder, "exiftool", "-q", "-o", "b.jpg", *words, "a.jpg")
-        main._run(["compare", str(folder / "a.jpg"), str(folder / "b.jpg"), "--json", "--no-exiftool"])
+    def call(picture):
+        (folder, printed), number = pictures, [*PICTURES].index(picture)
+        main._run(["compare", str(folder / "a.jpg"), str(folder / f"{number}.jpg"), "--json", "--no-exiftool"])
         found = {it["name"]: it["after"]["plain"] for it in json.loads(capsys.readouterr().out)["fields"]}
-        return found, exiftool_json(os.fspath(folder / "b.jpg"))
+        return found, printed[number]
 
     return call
 
@@ -104,9 +132,10 @@ def number(text):
 
 
 @needs("exiftool")
+@BY_EXIFTOOL
 @pytest.mark.parametrize("tag, value", [(tag, value) for tag, values in WRITTEN.items() for value in values])
 def test_values_as_exiftool_prints_them(tag, value, rows):
-    found, printed = rows(f"-ExifIFD:{tag}={value}")
+    found, printed = rows((tag, value))
     mine, theirs = found[f"ExifIFD:{tag}"], str(printed[f"ExifIFD:{tag}"])
     if tag == "DateTimeOriginal":
         assert mine.replace("-", ":") == theirs
@@ -119,29 +148,17 @@ def test_values_as_exiftool_prints_them(tag, value, rows):
 
 
 @needs("exiftool")
-@pytest.mark.parametrize("latitude, longitude", [(47.5596, 7.5886), (-33.856784, 151.215297), (0.000278, -179.999722)])
+@BY_EXIFTOOL
+@pytest.mark.parametrize("latitude, longitude", POSITIONS)
 def test_a_position_is_the_one_of_exiftool(latitude, longitude, rows):
-    found, _ = rows(
-        f"-GPSLatitude={abs(latitude)}", f"-GPSLatitudeRef={latitude}", f"-GPSLongitude={abs(longitude)}", f"-GPSLongitudeRef={longitude}"
-    )
+    found, _ = rows((latitude, longitude))
     first, second = re.fullmatch(r"([\d.]+)° ([NS]), ([\d.]+)° ([EW])", found["Composite:GPSPosition"]).group(1, 3)
     letters = re.findall("[NSEW]", found["Composite:GPSPosition"])
     assert letters == ["NS"[latitude < 0], "EW"[longitude < 0]]
     assert (float(first), float(second)) == (pytest.approx(abs(latitude), abs=2e-6), pytest.approx(abs(longitude), abs=2e-6))
 
 
-# Flash and orientation, whose words are ours: what turns a picture, by the figures of TIFF 6.0 and Exif 2.32
-
-ORIENTATIONS = {
-    1: "Horizontal (normal)",
-    2: "Mirror horizontal",
-    3: "Rotate 180",
-    4: "Mirror vertical",
-    5: "Mirror horizontal and rotate 270 CW",
-    6: "Rotate 90 CW",
-    7: "Mirror horizontal and rotate 90 CW",
-    8: "Rotate 270 CW",
-}
+# Flash and orientation, whose words are ours
 
 
 def in_exiftools_words(text):
@@ -155,9 +172,10 @@ def in_exiftools_words(text):
 
 
 @needs("exiftool")
+@BY_EXIFTOOL
 @pytest.mark.parametrize("value", ORIENTATIONS)
 def test_orientation(value, rows):
-    found, printed = rows("-n", f"-IFD0:Orientation={value}", "-IFD0:Artist=a")
+    found, printed = rows(value)
     assert in_exiftools_words(found["IFD0:Orientation"]) == ORIENTATIONS[value] == printed["IFD0:Orientation"]
 
 
