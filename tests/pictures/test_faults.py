@@ -89,12 +89,13 @@ class Tools(WithPictures):
         self.assertEqual(self.asked("index", "p", "--catalogue", "c", "--quiet", **mended)[-1], "2 unchanged, 1 no block")
 
     def test_one_that_hangs_at_its_version(self):
+        """The limit that was given holds, and not that of 60 seconds."""
         self.pictures()
-        environment = self.fake("exiftool", "#!/bin/sh\nexec sleep 1000\n")
-        lines = self.asked("index", "p/a.exv", "--catalogue", "c", "--limit", "1", status=2, **environment)
+        how = {"status": 2, "seconds": 50, **self.fake("exiftool", "#!/bin/sh\nexec sleep 1000\n")}
+        lines = self.asked("index", "p/a.exv", "--catalogue", "c", "--limit", "1", **how)
         self.assertIn("a.exv: TooSlow: exiftool", lines[0])
-        self.asked("show", "p/a.exv", "--limit", "1", status=2, **environment)
-        self.asked("mend", "p/a.exv", "out", "--limit", "1", status=2, **environment)
+        self.asked("show", "p/a.exv", "--limit", "1", **how)
+        self.asked("mend", "p/a.exv", "out", "--limit", "1", **how)
         self.assertFalse(os.path.exists(self.path("out")))
 
     @needs("exiftool")

@@ -11,6 +11,7 @@ from typing import Iterator, List
 
 from ..catalogue.store import Catalogue, NoCatalogue, head_is_ours
 from ..compare import groups
+from ..extract import programs
 from ..files import atomic, tempdir
 from ..scan.batches import How
 from ..scan.excluded import Excluded
@@ -54,6 +55,7 @@ class NothingThere(Failure):
 
 def run(arguments: argparse.Namespace) -> int:
     """Looks at pictures and keeps the results."""
+    programs.set_limit(arguments.limit)  # the first process asks programs for their versions
     names = named(arguments, arguments.folders)
     if any(not it for it in names):
         raise NoCatalogue("a name is empty")
