@@ -1,6 +1,7 @@
 """The C interface: the header against the sources, the manual page, the exports and the declarations in Python, and calls whose arguments
 are at the limits of what is allowed."""
 
+import ctypes
 import re
 import shlex
 
@@ -17,6 +18,7 @@ HEADER = (HEADERS / "exifnorm.h").read_text(encoding="utf-8")
 PAGE = text_of("docs", "exifnorm.3")
 VERSION = re.search(r'VERSION: &str = "(.*)";', text_of("crates", "px_engine", "src", "version.rt"))[1]
 STATUSES = dict(re.findall(r"pub const (\w+): u32 = (\d+);", text_of("crates", "px_c", "src", "statuses.rt")))
+OF_JPEG = text_of("crates", "px_c", "src", "jpeg.rt")
 
 
 def prototypes(text):
@@ -33,15 +35,43 @@ def page_prototypes():
     return prototypes(" ".join("".join(shlex.split(it[4:])) for it in synopsis.splitlines() if it.startswith(".BI ")))
 
 
+def in_capitals(name):
+    return re.sub(r"(?<!^)(?=[A-Z])", "_", name.replace("DataSet", "Dataset")).upper()
+
+
+def numbers_of_jpegs():
+    """Those of the kinds and causes of a JPEG's head."""
+    found = re.findall(r"^ +(?:Kind|Cause)::(\w+) => (\d+),$", OF_JPEG, re.M)
+    return {"OTHER": 0, **{in_capitals(name): int(number) for name, number in found}}
+
+
 def numbers_of_the_sources():
     """The numbers that the header's names must have, from the sources in Rattle."""
     table = text_of("crates", "px_bytes", "src", "causes.rt")
     causes = re.findall(r"^ +(\d+) => Some\(Cause::(\w+)\),$", table, re.M)
     assert [name for _, name in causes] == re.findall(r'^ +Cause::\w+ => b"(\w+)",$', table, re.M) == NAMES
-    in_capitals = {name: re.sub(r"(?<!^)(?=[A-Z])", "_", name.replace("DataSet", "Dataset")).upper() for _, name in causes}
     known = {f"EXIFNORM_{name}": int(number) for name, number in STATUSES.items()}
-    known.update((f"EXIFNORM_CAUSE_{in_capitals[name]}", int(number)) for number, name in causes)
+    known.update((f"EXIFNORM_CAUSE_{in_capitals(name)}", int(number)) for number, name in causes)
+    known.update((f"EXIFNORM_JPEG_{name}", number) for name, number in numbers_of_jpegs().items())
     return {**known, "EXIFNORM_LIMIT": LIMIT, "EXIFNORM_EXIF": 1, "EXIFNORM_IIM": 2, "EXIFNORM_NAME_ROOM": 32}
+
+
+TYPES = {"u32": ctypes.c_uint32, "usize": ctypes.c_size_t}
+
+
+def structs_of_the_sources():
+    """The size of each struct and the offsets of its members, from the sources in Rattle."""
+    text = text_of("crates", "px_c", "src", "faults.rt") + OF_JPEG
+    for name, body in re.findall(r"^#\[repr\(C\)\]\n[^\n]*\npub struct (\w+) \{\n(.*?)^\}", text, re.M | re.S):
+        members = [(member, TYPES[kind]) for member, kind in re.findall(r"^ +pub (\w+): (\w+),$", body, re.M)]
+        struct = type(name, (ctypes.Structure,), {"_fields_": members})
+        yield in_capitals(name).lower(), [ctypes.sizeof(struct), *(getattr(struct, member).offset for member, _ in members)]
+
+
+def structs_of_the_header():
+    """The members of each struct."""
+    plain = re.sub(r"/\*.*?\*/", "", HEADER, flags=re.S)
+    return {name: re.findall(r"(\w+);", body) for name, body in re.findall(r"struct (\w+) \{(.*?)\}", plain, re.S)}
 
 
 def test_exports_are_those_of_the_header(shared, archive):
@@ -62,24 +92,25 @@ def test_needs_the_c_library_alone_and_is_hardened(shared):
 
 @pytest.mark.parametrize("compiler", [["cc", "-std=c99"], ["cc", "-std=c11"], ["c++", "-std=c++11", "-x", "c++"]], ids=lambda it: it[1][5:])
 def test_header_has_the_numbers_of_the_sources(compiler, folder):
-    """It is included twice, and its struct is that of the library."""
+    """It is included twice, and its structs are those of the library."""
     need(compiler[0])
     names = sorted(set(re.findall(r"^(?:#define | +)(EXIFNORM_[A-Z_]+)(?= = | \d)", HEADER, re.M)))
     printed = [f'    printf("%s %lld\\n", "{it}", (long long){it});' for it in names]
-    fault = "(int)sizeof(struct exifnorm_fault), (int)offsetof(struct exifnorm_fault, cause), (int)offsetof(struct exifnorm_fault, place)"
+    for struct, members in structs_of_the_header().items():
+        places = ", ".join([f"(int)sizeof(struct {struct})", *(f"(int)offsetof(struct {struct}, {it})" for it in members)])
+        printed.append(f'    printf("{struct} {"%d," * len(members)}%d\\n", {places});')
     source = folder / "names.c"
     lines = ["#include <exifnorm.h>", "#include <exifnorm.h>", "#include <stdio.h>", "int main(void) {", *printed]
-    source.write_text("\n".join([*lines, f'    printf("fault %d%d%d\\n", {fault});', "    return 0;", "}", ""]), encoding="ascii")
+    source.write_text("\n".join([*lines, "    return 0;", "}", ""]), encoding="ascii")
     run(*compiler, *(FOR_CPP if compiler[0] == "c++" else [*STRICT, "-Wundef", "-Wstrict-prototypes"]), source, "-o", folder / "names")
-    found = {name: int(number) for name, number in (it.split() for it in run(folder / "names").splitlines())}
-    assert found.pop("fault") == 804, "size, and the offsets of cause and place"
-    assert found == numbers_of_the_sources()
+    found = {name: [*map(int, numbers.split(","))] for name, numbers in (it.split() for it in run(folder / "names").splitlines())}
+    assert found == {**{name: [number] for name, number in numbers_of_the_sources().items()}, **dict(structs_of_the_sources())}
 
 
 def test_manual_page_has_the_same_prototypes_statuses_and_kinds():
     assert page_prototypes() == prototypes(HEADER)
-    listed = dict(re.findall(r'^\.BR EXIFNORM_(\w+) " \((\d+)\)\.?"', PAGE, re.MULTILINE))
-    assert listed == {**STATUSES, "EXIF": "1", "IIM": "2"}
+    listed = dict(re.findall(r'^\.BR EXIFNORM_(\w+) " \((\d+)\)[.,]?"', PAGE, re.MULTILINE))
+    assert listed == {**STATUSES, "EXIF": "1", "IIM": "2", **{f"JPEG_{name}": str(number) for name, number in numbers_of_jpegs().items()}}
     assert set(re.findall(r"\bEXIFNORM_[A-Z_]+\b", PAGE)) <= set(re.findall(r"\bEXIFNORM_[A-Z_]+\b", HEADER))
 
 
@@ -108,7 +139,14 @@ IN_PYTHON = {
 }
 
 
-@pytest.mark.parametrize("name", [*prototypes(HEADER)])
+NOT_IN_PYTHON = {"exifnorm_jpeg_parts", "exifnorm_photoshop_resources"}  # calls that the package does not make
+
+
+def test_python_declares_each_other_call():
+    assert {*prototypes(HEADER)} - {*_library.ARGUMENTS} == NOT_IN_PYTHON
+
+
+@pytest.mark.parametrize("name", [it for it in prototypes(HEADER) if it not in NOT_IN_PYTHON])
 def test_python_declares_the_prototype(name):
     kind, parameters = prototypes(HEADER)[name]
     call = getattr(_library.library()._library, name)

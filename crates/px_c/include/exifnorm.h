@@ -1,15 +1,19 @@
-/* exifnorm.h: the meaning of a picture's metadata block: its one normal form, and whether two blocks mean the same.
+/* exifnorm.h: the meaning of a picture's metadata block: its one normal form, and whether two blocks mean the same; and where the
+ * blocks of a JPEG picture are.
  *
  * A block is an Exif block or a block of IPTC-NAA IIM DataSets. An Exif block may begin with the six bytes "Exif\0\0" that
  * precede it in a JPEG file. The calls open no picture file: they read a block in memory, and don't copy it. Two blocks that mean
  * the same have equal normal forms, byte for byte; two that mean different things have different ones. A block that breaks the
  * rules is refused, with its first fault and the byte offset of that fault. Blocks are never repaired.
  *
+ * The head of a JPEG picture is what precedes its first scan: markers, and segments of data (ITU-T T.81, B.1.1). Two calls find the
+ * segments that contain blocks, without reading the blocks.
+ *
  * For every call:
  *
- *   Pointers   No pointer may be NULL, even if a length is 0. Each must point to as many bytes as its length argument gives.
- *              What a call writes to (out, written, kind, same, fault) must not overlap any other argument. The two blocks of a
- *              comparison may overlap or be the same, since blocks are only read.
+ *   Pointers   No pointer may be NULL, even if a length is 0. Each must point to as many bytes, or elements, as its length argument
+ *              gives. What a call writes to (out, written, kind, same, fault, parts, resources, count) must not overlap any other
+ *              argument. The two blocks of a comparison may overlap or be the same, since blocks are only read.
  *   Ownership  The caller keeps ownership of all arguments. A call keeps no pointer after it returns, and frees what it allocated.
  *   Threads    Calls share nothing and keep no state. Any number of threads may call at once, and may read the same block, if each
  *              has its own output arguments. Nobody may write to a block while a call reads it.
@@ -17,7 +21,8 @@
  *   Status     Each call returns one of the numbers below, which are the same for all calls. What the description of a status
  *              doesn't name is unchanged.
  *   Memory     The calls use malloc, realloc and free. A failed allocation returns EXIFNORM_NO_MEMORY, and ends no process.
- *   Limits     A block has at most EXIFNORM_LIMIT bytes, and so has a normal form. A stack of 256 KiB is enough.
+ *   Limits     A block has at most EXIFNORM_LIMIT bytes, and so has a normal form. The bytes of a picture have no limit. A stack of
+ *              256 KiB is enough.
  */
 #ifndef EXIFNORM_H
 #define EXIFNORM_H
@@ -39,13 +44,13 @@ extern "C" {
 enum {
     /* Success. */
     EXIFNORM_DONE = 0,
-    /* The block is refused; of two blocks, the first. fault has the cause. */
+    /* The block is refused; of two blocks, the first. Or the bytes are no head of a JPEG picture. fault has the cause. */
     EXIFNORM_REFUSED = 2,
     /* The block is valid, but its normal form is longer than EXIFNORM_LIMIT. */
     EXIFNORM_TOO_LONG = 3,
     /* An allocation failed. Nothing is known of the block. */
     EXIFNORM_NO_MEMORY = 4,
-    /* out is too short; written is the number of bytes needed. */
+    /* out is too short, and written is the number of bytes needed; or an array is, and count is the number of elements needed. */
     EXIFNORM_TOO_LITTLE_ROOM = 5,
     /* The first of two blocks is valid, and the second is refused. fault has the cause. */
     EXIFNORM_SECOND_REFUSED = 6
@@ -141,6 +146,70 @@ uint32_t exifnorm_captions(const unsigned char *block, size_t block_length, /* t
                            unsigned char *out, size_t out_length,           /* receives the captions */
                            size_t *written,                                 /* is set to their length */
                            struct exifnorm_fault *fault);                   /* is set to the cause of a refusal */
+
+/* What a part of a JPEG picture's head contains, by its marker and the mark with which its data begin. */
+enum {
+    EXIFNORM_JPEG_OTHER = 0,       /* none of the following */
+    EXIFNORM_JPEG_EXIF = 1,        /* APP1, "Exif" and two zeros: a block of Exif, or a piece of one */
+    EXIFNORM_JPEG_PHOTOSHOP = 2,   /* APP13, "Photoshop 3.0" and a zero: Photoshop's image resources, or a piece of them */
+    EXIFNORM_JPEG_XMP = 3,         /* APP1, "http://ns.adobe.com/xap/1.0/" and a zero: a packet of XMP */
+    EXIFNORM_JPEG_EXTENDED_XMP = 4 /* APP1, "http://ns.adobe.com/xmp/extension/" and a zero: 32 bytes that name the text, its length
+                                      and the offset of this piece in it, four bytes each, most significant first, and the piece */
+};
+
+/* Why bytes are no head of a JPEG picture. No cause of a block's refusal has one of these numbers. */
+enum {
+    EXIFNORM_JPEG_NO_START = 101,    /* they don't begin with FF D8 */
+    EXIFNORM_JPEG_NO_MARKER = 102,   /* a part doesn't begin with FF, or 0 follows its bytes FF */
+    EXIFNORM_JPEG_LENGTH_FORM = 103, /* a segment's length is less than 2 */
+    EXIFNORM_JPEG_HEAD_CUT = 104     /* the bytes end before the head does */
+};
+
+/* A part of a head: a marker, with the data of its segment if it has one. */
+struct exifnorm_jpeg_part {
+    uint32_t marker; /* the second byte of the marker; the first is FF */
+    uint32_t kind;   /* EXIFNORM_JPEG_OTHER, EXIFNORM_JPEG_EXIF, .. */
+    uint32_t begins; /* 1: a block begins here; 0: this continues the block of the part before, or the kind is OTHER */
+    size_t start;    /* the byte offset of the data, after the mark of their kind */
+    size_t size;     /* the number of their bytes */
+};
+
+/* Why bytes are no head: the first fault. */
+struct exifnorm_jpeg_fault {
+    uint32_t cause; /* EXIFNORM_JPEG_NO_START, .. */
+    size_t place;   /* the byte offset of the part that has the fault */
+};
+
+/* Stores the parts of the head of the picture that begins with these bytes: all of them, up to the header of the first scan or the
+ * end of the picture, which is the last one. What follows it is not read, so the first bytes of a file may be enough: if they are
+ * not, the cause is EXIFNORM_JPEG_HEAD_CUT. A block in several pieces is their bytes, one after another. Data of Exif that follow
+ * those of Exif begin a block if they begin with a header of TIFF. Data of Photoshop that follow those of Photoshop begin none.
+ *
+ *   DONE             parts begins with the parts; count is their number. The rest of parts is unchanged.
+ *   REFUSED          fault is set. parts begins with the parts before the fault, all of them whole; count is their number.
+ *   TOO_LITTLE_ROOM  count is the number of parts, or of those before the first fault, which is more than room.
+ */
+uint32_t exifnorm_jpeg_parts(const unsigned char *bytes, size_t length,       /* the picture, or its first bytes */
+                             struct exifnorm_jpeg_part *parts, size_t room,   /* receives the parts */
+                             size_t *count,                                   /* is set to their number */
+                             struct exifnorm_jpeg_fault *fault);              /* is set to the cause of a refusal */
+
+/* One of Photoshop's image resources. */
+struct exifnorm_photoshop_resource {
+    size_t number; /* 0x0404: DataSets of IIM; 0x0422: Exif; 0x0424: XMP; .. */
+    size_t start;  /* the byte offset of its data */
+    size_t size;   /* the number of their bytes */
+};
+
+/* Stores Photoshop's image resources at the start of these bytes, those of a block of the kind EXIFNORM_JPEG_PHOTOSHOP. They end
+ * where no resource is: at the end, or before other bytes, which some programs write.
+ *
+ *   DONE             resources begins with the resources; count is their number. The rest of resources is unchanged.
+ *   TOO_LITTLE_ROOM  count is the number of resources, which is more than room.
+ */
+uint32_t exifnorm_photoshop_resources(const unsigned char *bytes, size_t length,                   /* the block */
+                                      struct exifnorm_photoshop_resource *resources, size_t room, /* receives the resources */
+                                      size_t *count);                                             /* is set to their number */
 
 /* Writes the name of a cause, as "Overlap", and a zero byte to the beginning of out. A number that is no cause has the empty name.
  * EXIFNORM_NAME_ROOM bytes are always enough.

@@ -1,5 +1,5 @@
-//! The engine for C: the kind of a block in memory, its normal form, its texts, and whether two blocks mean
-//! the same. No call copies a block. Each call returns one of the statuses of `statuses`. Its contract states
+//! The engine for C: the kind of a block in memory, its normal form, its texts, whether two blocks mean the same,
+//! and where the blocks of a JPEG picture are. No call copies a block. Each call returns one of the statuses of `statuses`. Its contract states
 //! for each status when it comes, what the call has written to its output arguments, and what is unchanged.
 //! For each input exactly one status other than `NO_MEMORY` is possible. `NO_MEMORY` is returned instead
 //! exactly if an allocation failed: each call that allocates is one line over its `_in` variant in
@@ -23,12 +23,17 @@ ghost use Rattle.px_c.specs.Numbers as status;
 
 mod faults;
 mod giving;
+mod jpeg;
 mod names;
 mod over_memory;
 pub mod statuses;
 
 pub use faults::ExifnormFault;
 use giving::give_text;
+pub use jpeg::{
+    ExifnormJpegFault, ExifnormJpegPart, ExifnormPhotoshopResource, exifnorm_jpeg_parts,
+    exifnorm_photoshop_resources,
+};
 use names::cause_name;
 use over_memory::{captions_in, check_in, compare_in, normalise_in, show_in};
 use px_bytes::Memory;

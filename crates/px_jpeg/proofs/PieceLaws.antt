@@ -4,8 +4,12 @@ use Rattle.std.specs.List.{AllByRecursion}
 use Rattle.px_jpeg.specs.declared.parts.Part.{Part}
 use Rattle.px_jpeg.specs.declared.pieces.Kind.{Kind}
 use Rattle.px_jpeg.specs.Head.{Spells, HasHead}
-use Rattle.px_jpeg.specs.Pieces.{AllInside, kind_of, range, piece_of, piece_in, pieces}
-use Rattle.std.proofs.Common.{is_some, unwrap_or, true, false, refl}
+use Rattle.px_jpeg.specs.declared.pieces.Piece.{Piece}
+use Rattle.px_jpeg.specs.declared.contents.HeadPart.{HeadPart}
+use Rattle.px_jpeg.specs.Pieces.{AllInside, kind_of, range, piece_of, piece_in, pieces, head_part, with_pieces}
+use Rattle.px_jpeg.specs.Laws.{PiecesFound}
+use Rattle.std.proofs.Common.{is_some, unwrap_or, true, false, refl, suc}
+use Rattle.std.specs.Prelude.{filter_map}
 use Rattle.px_jpeg.specs.Reading.{head_of}
 use Rattle.px_jpeg.proofs.HeadLaws.{computed_said}
 use Rattle.px_jpeg.proofs.Walking.{part_end}
@@ -50,3 +54,22 @@ parts_inside b h = of (head_of b) refl h
     of : (o : Option (List Part)) → head_of b ≡ o → is_some o ≡ true → AllInside b (unwrap_or o [])
     of None e k = let clash : false ≡ true = k in absurd (cc)
     of (Some qs) e k = head_inside b qs (computed_said b qs e)
+
+-- ---- parts with their pieces
+
+pub found_long : (b : List ℕ) (last : Option Kind) (qs : List Part) → length (with_pieces b last qs) ≡ length qs
+found_long b last [] = refl
+found_long b last (q ∷ qs) = ap suc (found_long b (kind_of q.code (range b q.start q.size)) qs)
+
+found_all : (b : List ℕ) (last : Option Kind) (qs : List Part)
+    → filter_map (λ (h : HeadPart). h.piece) (with_pieces b last qs) ≡ pieces b last qs
+found_all b last [] = refl
+found_all b last (q ∷ qs) = of (kind_of q.code (range b q.start q.size)) (found_all b (kind_of q.code (range b q.start q.size)) qs)
+  where
+    of : (o : Option Kind) → filter_map (λ (h : HeadPart). h.piece) (with_pieces b o qs) ≡ pieces b o qs
+        → filter_map (λ (h : HeadPart). h.piece) (head_part b q last o ∷ with_pieces b o qs) ≡ piece_in b q last o ++ pieces b o qs
+    of None h = h
+    of (Some k) h = ap (λ (ps : List Piece). piece_of b q k last ∷ ps) h
+
+pub pieces_found : PiecesFound
+pieces_found b parts = found_all b None parts

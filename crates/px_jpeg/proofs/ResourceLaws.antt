@@ -469,3 +469,21 @@ resource_next b at y r e h v l =
           ap (resources_of n) (drop_of_length-le b k) ∙ resources_nil n ∙ sym (resources_nil (length b))
           ∙ ap (resources_of (length b)) (sym (drop-length b)) ∙ ap (λ (j : ℕ). resources_of j (drop j b)) (sym m)
     ]
+
+-- ---- there are at most as many as bytes
+
+few : (n p : ℕ) (x : List ℕ) → length (resources_from n p x) ≤ n
+unfolding resources_from
+few zero p x = omega arith
+few (suc n) p x = elim (cases_Bool (is_resource x)) [
+  | inl t ↦
+      let e : resources_from (suc n) p x ≡ resource p x ∷ resources_from n (p + step x) (drop (step x) x) =
+      cond-true (is_resource x) _ _ t in
+      let l = ap length e in
+      let k = few n (p + step x) (drop (step x) x) in omega arith
+  | inr f ↦ let e : resources_from (suc n) p x ≡ [] = cond-false (is_resource x) _ _ f in let l = ap length e in omega arith
+]
+
+pub resources_few : (p : ℕ) (x : List ℕ) → length (resources_of p x) ≤ length x
+unfolding resources_of
+resources_few p x = few (length x) p x

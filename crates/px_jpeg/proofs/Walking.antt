@@ -25,10 +25,10 @@ module _ (b : List ℕ) (at : ℕ) (y : List ℕ) (q : Part) (e : y ≡ drop at 
   begun : Begins at q (size y) y
   begun = subst (λ (s : Part). Begins at s (size y) y) (sym v) (part_begins at y h)
 
-  reads : Reads at q (size y) y
+  pub reads : Reads at q (size y) y
   reads = record { there = h; value = sym v; sized = refl }
 
-  end_is : q.start + q.size ≡ at + size y
+  pub end_is : q.start + q.size ≡ at + size y
   end_is = part_end at q begun.front begun.is ∙ ap (λ (n : ℕ). at + n) begun.long
 
   pub part_advances : at < q.start + q.size
@@ -38,18 +38,8 @@ module _ (b : List ℕ) (at : ℕ) (y : List ℕ) (q : Part) (e : y ≡ drop at 
   part_inside n =
       omega (arith, end_is, begun.long, ap length begun.whole, length-append begun.front (drop (size y) y), ap length e, length-drop at b)
 
-  after : drop (size y) y ≡ drop (q.start + q.size) b
+  pub after : drop (size y) y ≡ drop (q.start + q.size) b
   after = ap (drop (size y)) e ∙ drop-drop (size y) at b ∙ ap (λ (n : ℕ). drop n b) (sym end_is)
-
-  pub last_left : is_last q.code ≡ true → parts_left at (drop at b) ≡ Some (q ∷ [])
-  last_left l = ap (parts_left at) (sym e) ∙ reads_last at q (size y) y reads l
-
-  pub more_left : is_last q.code ≡ false
-      → parts_left at (drop at b) ≡ option_map (λ qs. q ∷ qs) (parts_left (q.start + q.size) (drop (q.start + q.size) b))
-  more_left l =
-      ap (parts_left at) (sym e) ∙ reads_more at q (size y) y reads l
-      ∙ ap (λ (n : ℕ). option_map (λ (qs : List Part). q ∷ qs) (parts_left n (drop (size y) y))) (sym end_is)
-      ∙ ap (λ (z : List ℕ). option_map (λ (qs : List Part). q ∷ qs) (parts_left (q.start + q.size) z)) after
 
   module _ (ps : List Part) (r : Behind b ps (drop at b) at) where
     whole_is : b ≡ 255 ∷ 216 ∷ ((r.front ++ begun.front) ++ drop (q.start + q.size) b)
@@ -89,25 +79,3 @@ some_head b qs s = ap is_some (said_computed b qs s)
 pub whole_head : (b : List ℕ) (qs : List Part) → HasHead b qs → HasHead b (unwrap_or (head_of b) [])
 whole_head b qs s =
     subst (HasHead b) (sym (ap (λ (o : Option (List Part)). unwrap_or o []) (said_computed b qs s))) s
-
-none_not_some : {X : Type 0} (o : Option X) → o ≡ None → is_some o ≡ true → ⊥
-none_not_some o e h = let clash : false ≡ true = sym (ap is_some e) ∙ h in cc
-
-pub head_left : (b : List ℕ) → is_some (head_of b) ≡ true → (2 ≤ length b) × (head_of b ≡ parts_left 2 (drop 2 b))
-unfolding head_of
-head_left b h = elim (cases_Bool (starts b)) [
-  | inl t ↦ (start_long b t, cond-true (starts b) (parts_left 2 (drop 2 b)) None t)
-  | inr f ↦ absurd (none_not_some (head_of b) (cond-false (starts b) (parts_left 2 (drop 2 b)) None f) h)
-]
-
-pub no_fault : (c : Cause) (p : ℕ) (x : List ℕ) → FaultAt c x → is_some (parts_left p x) ≡ true → ⊥
-no_fault c p x f h = none_not_some (parts_left p x) (left_none p x (fault_no_part c x f)) h
-
-pub rest_some : (q : Part) (o p : Option (List Part)) → o ≡ option_map (λ qs. q ∷ qs) p → is_some o ≡ true → is_some p ≡ true
-rest_some q o None e h = absurd (none_not_some o e h)
-rest_some q o (Some qs) e h = refl
-
-pub rest_is : (q : Part) (o p : Option (List Part)) → o ≡ option_map (λ qs. q ∷ qs) p → is_some o ≡ true
-    → unwrap_or o [] ≡ q ∷ unwrap_or p []
-rest_is q o None e h = absurd (none_not_some o e h)
-rest_is q o (Some qs) e h = ap (λ (r : Option (List Part)). unwrap_or r []) e

@@ -1,6 +1,7 @@
 -- The laws of the definitions.
-use Rattle.std.specs.Prelude.{◌≡◌, ◌↔◌, ◌≢◌, ◌+◌, ◌++◌, ℕ, List, [], ◌∷◌, Some, None, flat_map, take}
+use Rattle.std.specs.Prelude.{◌≡◌, ◌↔◌, ◌≢◌, ◌+◌, ◌++◌, ℕ, List, [], ◌∷◌, Some, None, filter_map, flat_map, take}
 use Rattle.px_jpeg.specs.declared.parts.Part.{Part}
+use Rattle.px_jpeg.specs.declared.contents.HeadPart.{HeadPart}
 use Rattle.px_jpeg.specs.declared.faults.Cause.{Cause}
 use Rattle.px_jpeg.specs.declared.faults.Cause.TheVariants.{NoStart, NoMarker, LengthForm}
 use Rattle.px_jpeg.specs.Head.{HasHead}
@@ -8,7 +9,7 @@ use Rattle.px_jpeg.specs.Fault.{Behind, Fault}
 use Rattle.px_jpeg.specs.Reading.{head_of}
 use Rattle.px_jpeg.specs.declared.resources.Resource.{Resource}
 use Rattle.px_jpeg.specs.Resources.{HasResources}
-use Rattle.px_jpeg.specs.Pieces.{pieces}
+use Rattle.px_jpeg.specs.Pieces.{pieces, with_pieces}
 use Rattle.px_jpeg.specs.Blocks.{piece_octets, blocks}
 
 -- The parts of a head can be computed.
@@ -38,6 +39,10 @@ FrontServes = ((b more : List ℕ) (parts : List Part) → HasHead b parts → H
 -- The blocks have exactly the bytes of the pieces, in order.
 abbrev pub BlocksJoin : Type 0
 BlocksJoin = (b : List ℕ) (parts : List Part) → flat_map (λ k. k.octets) (blocks b parts) ≡ flat_map (piece_octets b) (pieces b None parts)
+
+-- The pieces of some parts are those that the parts have one by one.
+abbrev pub PiecesFound : Type 0
+PiecesFound = (b : List ℕ) (parts : List Part) → filter_map (λ (h : HeadPart). h.piece) (with_pieces b None parts) ≡ pieces b None parts
 
 -- the end mark, FF D9, at offset p
 abbrev pub end_mark : ℕ → Part

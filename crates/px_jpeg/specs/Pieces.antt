@@ -7,6 +7,7 @@ use Rattle.px_jpeg.specs.declared.parts.Part.{Part}
 use Rattle.px_jpeg.specs.declared.pieces.Kind.{Kind}
 use Rattle.px_jpeg.specs.declared.pieces.Kind.TheVariants.{Exif, Photoshop, Xmp, ExtendedXmp}
 use Rattle.px_jpeg.specs.declared.pieces.Piece.{Piece}
+use Rattle.px_jpeg.specs.declared.contents.HeadPart.{HeadPart}
 
 -- each part is in the bytes b
 abbrev pub AllInside : List ℕ → List Part → Type 0
@@ -91,3 +92,14 @@ abbrev pub pieces : List ℕ → Option Kind → List Part → List Piece
 pieces b last [] = []
 pieces b last (q ∷ qs) =
     piece_in b q last (kind_of q.code (range b q.start q.size)) ++ pieces b (kind_of q.code (range b q.start q.size)) qs
+
+-- a part with its piece, if it has a kind
+abbrev pub head_part : List ℕ → Part → Option Kind → Option Kind → HeadPart
+head_part b q last None = record { part = q; piece = None }
+head_part b q last (Some k) = record { part = q; piece = Some (piece_of b q k last) }
+
+-- some parts, in order, each with its piece
+abbrev pub with_pieces : List ℕ → Option Kind → List Part → List HeadPart
+with_pieces b last [] = []
+with_pieces b last (q ∷ qs) =
+    head_part b q last (kind_of q.code (range b q.start q.size)) ∷ with_pieces b (kind_of q.code (range b q.start q.size)) qs

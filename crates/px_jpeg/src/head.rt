@@ -1,8 +1,8 @@
 // The head of a picture: all parts before its first scan.
-ghost use Rattle.std.specs.Prelude.{◌≡◌, MatchResult};
+ghost use Rattle.std.specs.Prelude.{◌≡◌, length, MatchResult};
 ghost use Rattle.px_jpeg.specs.Head.{HasHead};
 ghost use Rattle.px_jpeg.specs.Pieces.{AllInside};
-ghost use Rattle.px_jpeg.specs.Fault.{Fault};
+ghost use Rattle.px_jpeg.specs.Fault.{Fault, IsFront};
 ghost use Rattle.px_jpeg.specs.Reading.{starts};
 
 use crate::bytes::rest;
@@ -66,6 +66,19 @@ pub fn read_head<'a>(bytes: &'a [u8]) -> Result<Head<'a>, HeadFault>
     }
 }
 
+/// The parts of the picture that begins with these bytes, in order: those of its head or, if the head has a
+/// fault, those before it. `read_head` tells which. Allocates nothing.
+pub fn find_parts<'a>(bytes: &'a [u8]) -> Parts<'a>
+    ensures front { IsFront bytes.now result }
+    ensures inside { AllInside bytes.now result }
+{
+    Parts {
+        bytes,
+        at: 2,
+        is_over: !starts(bytes),
+    }
+}
+
 impl<'a> Head<'a> {
     /// The bytes in which the head was read.
     pub fn bytes(&self) -> &'a [u8]
@@ -87,8 +100,8 @@ impl<'a> Head<'a> {
     }
 }
 
-/// The parts of a head that are left, in order: the result of `Head::parts`. Contracts see their list. It
-/// allocates nothing.
+/// The parts that are left, in order: the result of `Head::parts` and of `find_parts`. Contracts see their list.
+/// It allocates nothing.
 #[derive(Drop)]
 pub struct Parts<'a> {
     bytes: &'a [u8],
@@ -99,16 +112,29 @@ pub struct Parts<'a> {
 }
 
 impl<'a> Model for Parts<'a> {
-    ghost use Rattle.std.specs.Prelude.{◌≡◌, ◌≤◌, true, false, List, length, drop, is_some};
+    ghost use Rattle.std.specs.Prelude.{◌≡◌, ◌≤◌, false, List, length};
     ghost use Rattle.px_jpeg.specs.declared.parts.Part.{Part};
-    ghost use Rattle.px_jpeg.specs.Reading.{left_of, parts_left};
+    ghost use Rattle.px_jpeg.specs.Reading.{left_of};
 
     ghost Value = { List Part };
 
     ghost view = { λ s. left_of s.is_over s.at s.bytes.now };
 
-    ghost invariant = { λ s. s.is_over ≡ false →
-        (s.at ≤ length s.bytes.now) × (is_some (parts_left s.at (drop s.at s.bytes.now)) ≡ true) };
+    ghost invariant = { λ s. s.is_over ≡ false → s.at ≤ length s.bytes.now };
+}
+
+impl<'a> Parts<'a> {
+    /// The number of parts that are left.
+    pub fn len(&self) -> usize
+        ensures { result ≡ length self.now }
+    {
+        let left = Parts {
+            bytes: self.bytes,
+            at: self.at,
+            is_over: self.is_over,
+        };
+        left.count()
+    }
 }
 
 impl<'a> Iterator for Parts<'a> {

@@ -3,6 +3,7 @@
 #![tactic(auto)]
 
 mod bytes;
+mod contents;
 mod extended;
 mod faults;
 mod head;
@@ -11,9 +12,10 @@ mod parts;
 mod pieces;
 mod resources;
 
+pub use contents::{HeadPart, WithPieces, with_pieces};
 pub use extended::{EXTENDED_HEAD, Extended, read_extended};
 pub use faults::{Cause, HeadFault};
-pub use head::{Head, Parts, read_head};
+pub use head::{Head, Parts, find_parts, read_head};
 pub use parts::Part;
 pub use pieces::{Kind, Piece, Pieces, store_pieces};
 pub use resources::{Resource, Resources, find_resources};

@@ -74,7 +74,7 @@ fn is_extended(code: u8, octets: &[u8]) -> bool
 
 // What a segment with this marker and these data contains.
 #[tactic(auto, unfolding(crate::specs::Pieces::kind_of))]
-fn kind_of(code: u8, octets: &[u8]) -> Option<Kind>
+pub(crate) fn kind_of(code: u8, octets: &[u8]) -> Option<Kind>
     ensures value { result ≡ kind_of code octets.now }
     ensures few { IfSome result (λ kind. mark_len kind ≤ length octets.now) }
 {
@@ -132,7 +132,7 @@ fn mark_len(kind: Kind) -> usize
 }
 
 // The piece in a segment of this kind, after one of the kind `last`.
-fn piece_of(bytes: &[u8], part: &Part, kind: Kind, last: Option<Kind>) -> Piece
+pub(crate) fn piece_of(bytes: &[u8], part: &Part, kind: Kind, last: Option<Kind>) -> Piece
     requires inside { part.now.start + part.now.size ≤ length bytes.now }
     requires marked { mark_len kind ≤ part.now.size }
     ensures { result ≡ piece_of bytes.now part.now kind last }

@@ -96,6 +96,19 @@ impl<'a> Model for Resources<'a> {
     ghost invariant = { λ s. s.at ≤ length s.bytes.now };
 }
 
+impl<'a> Resources<'a> {
+    /// The number of resources that are left.
+    pub fn len(&self) -> usize
+        ensures { result ≡ length self.now }
+    {
+        let left = Resources {
+            bytes: self.bytes,
+            at: self.at,
+        };
+        left.count()
+    }
+}
+
 impl<'a> Iterator for Resources<'a> {
     ghost use Rattle.std.specs.Iterator.{item_count, YieldsFirst};
 
