@@ -1,5 +1,5 @@
-/* What one call of the library costs: cost CALL FILE, where CALL is check, normalise, show, captions or compare (with itself). It prints the
- * most bytes that the call has allocated at once, the number of its allocations, and how many of these made something longer. test_costs.py runs
+/* What one call of the library costs: cost CALL FILE, where CALL is check, normalise, show, captions, compare (with itself), jpeg_parts or
+ * photoshop_resources. It prints the most bytes that the call has allocated at once, the number of its allocations, and how many of these made something longer. test_costs.py runs
  * it, also under callgrind, which counts the instructions of the call. */
 #include "fuzz/memory.h"
 #include <exifnorm.h>
@@ -7,8 +7,8 @@
 #include <stdlib.h>
 #include <string.h>
 
-/* A listing of DataSets of five bytes has the most bytes for each byte of its block. */
-#define TIMES 5
+/* A marker of two bytes is a part, and has the most bytes of output for each byte of its block. */
+#define TIMES (sizeof(struct exifnorm_jpeg_part) / 2)
 #define BESIDE 1024
 
 struct block {
@@ -30,8 +30,9 @@ static struct block read_file(const char *name) {
     return block;
 }
 
-static uint32_t called(const char *name, struct block block, unsigned char *out, size_t room) {
+static uint32_t called(const char *name, struct block block, void *out, size_t room) {
     struct exifnorm_fault fault;
+    struct exifnorm_jpeg_fault of_head;
     uint32_t number;
     size_t written;
     if (!strcmp(name, "check"))
@@ -44,6 +45,10 @@ static uint32_t called(const char *name, struct block block, unsigned char *out,
         return exifnorm_show(block.bytes, block.length, out, room, &written, &fault);
     if (!strcmp(name, "captions"))
         return exifnorm_captions(block.bytes, block.length, out, room, &written, &fault);
+    if (!strcmp(name, "jpeg_parts"))
+        return exifnorm_jpeg_parts(block.bytes, block.length, out, room / sizeof(struct exifnorm_jpeg_part), &written, &of_head);
+    if (!strcmp(name, "photoshop_resources"))
+        return exifnorm_photoshop_resources(block.bytes, block.length, out, room / sizeof(struct exifnorm_photoshop_resource), &written);
     exit(2);
 }
 

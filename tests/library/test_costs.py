@@ -223,3 +223,31 @@ def test_instructions_for_each_byte_of_a_form(costs, meaning, most):
     block = laid(meaning, Layout("<"))
     each = costs.instructions("normalise", block) / len(block)
     assert most / 2 <= each <= most, f"{each:.3f} instructions for each byte"
+
+
+def segment(marker, data):
+    return bytes((0xFF, marker)) + (len(data) + 2).to_bytes(2, "big") + data
+
+
+# Parts of a head, and Photoshop's resources, each with the instructions for one of them at most: an eighth more than now. A call goes over
+# the parts three times, and looks at no more of the data than at the mark and at a header of TIFF.
+PARTS = {
+    "markers that stand alone": ("jpeg_parts", b"\xff\xd0", 165),
+    "fill bytes": ("jpeg_parts", b"\xff" * 1000 + b"\xff\xd0", 20_400),
+    "comments": ("jpeg_parts", segment(0xFE, b"comment"), 206),
+    "long comments": ("jpeg_parts", segment(0xFE, bytes(10_000)), 206),
+    "pieces of Exif": ("jpeg_parts", segment(0xE1, b"Exif\0\0MM\0*" + bytes(100)), 234),
+    "extended XMP": ("jpeg_parts", segment(0xE1, b"http://ns.adobe.com/xmp/extension/\0" + bytes(100)), 320),
+    "resources": ("photoshop_resources", b"8BIM\4\4\0\0\0\0\0\x02ab", 139),
+    "long resources": ("photoshop_resources", b"MeSa\4\4\0\0\0\0\x10\0" + bytes(4096), 184),
+}
+
+
+@pytest.mark.parametrize("call, one, most", PARTS.values(), ids=PARTS)
+def test_instructions_for_each_part(costs, call, one, most):
+    """However many there are, and with no allocation."""
+    ends = (b"\xff\xd8", b"\xff\xd9") if call == "jpeg_parts" else (b"", b"")
+    few, many = (ends[0] + one * count + ends[1] for count in (100, 1100))
+    assert costs.counts(call, many) == (0, 0, 0)
+    each = (costs.instructions(call, many) - costs.instructions(call, few)) / 1000
+    assert most / 2 <= each <= most, f"{each:.1f} instructions for each"

@@ -61,6 +61,13 @@ FINDS = {
     "LITTLE": "TAKES_MUCH",
     "NO_MEMORY": "IGNORES_NULL SETS_WITHOUT_MEMORY",
     "ORDER": "FAULT_AT_END",
+    "HEAD": "PART_MISSED PART_WITH_MARK PART_BEGINS PART_OF_NO_KIND HEAD_BEHIND",
+    "HEAD_FAULT": "HEAD_FAULT_BESIDE HEAD_FAULT_ALONE HEAD_CUT_ACCEPTED",
+    "HEAD_END": "PART_MISSED",
+    "HEAD_MORE": "HEAD_READS_ON",
+    "HEAD_ROOM": "HEAD_ROOM_FILLED HEAD_ROOM_COUNT",
+    "RESOURCES": "RESOURCES_CUT RESOURCE_LONG",
+    "RESOURCES_ROOM": "RESOURCES_ROOM_COUNT",
 }
 
 
@@ -96,7 +103,7 @@ class Fuzz:
         self.shared, self.corpus, self.program, self.wrong = shared, folder / "corpus", folder / "fuzz", folder / "wrong"
         write_corpus(self.corpus)
         self.wrong.mkdir()
-        sources = [HERE / it for it in ("fuzz.c", "fuzz/laws.c", "fuzz/changes.c", "fuzz/memory.c")]
+        sources = [HERE / it for it in ("fuzz.c", "fuzz/laws.c", "fuzz/heads.c", "fuzz/changes.c", "fuzz/memory.c")]
         run(*CC, "-rdynamic", "-o", self.program, *sources, shared)
         wrong = self.wrong / "libexifnorm.so.1"
         run(*CC, "-shared", "-fPIC", "-Wl,-soname,libexifnorm.so.1", "-o", wrong, HERE / "fuzz" / "wrong.c", "-ldl")
@@ -142,7 +149,7 @@ def test_a_library_in_front_without_a_mistake_breaks_no_law(fuzz):
 @pytest.mark.parametrize("name", MISTAKES)
 def test_a_wrong_library_is_found(fuzz, name):
     report = fuzz.report(7, FOR_WRONG, name)
-    if name == "READS_BEHIND":  # after a block is a page that can't be read
+    if name in ("READS_BEHIND", "HEAD_READS_BEHIND"):  # after a block is a page that can't be read
         assert report.status == -signal.SIGSEGV or report.broken
     else:
         assert report.status == 1 and report.broken, f"{MISTAKES[name]}: {report.text[-500:]}"

@@ -60,7 +60,7 @@ static void tell(int law) {
     fflush(stdout);
 }
 
-static int holds(int law, int is_so) {
+int holds(int law, int is_so) {
     seen.looked[law]++;
     if (!is_so && seen.broken[law]++ < 2)
         tell(law);
@@ -75,7 +75,7 @@ static int open_area(struct area *area, size_t size) {
 }
 
 int open_room(void) {
-    return open_area(&block_area, 2 * LONGEST + 64) && open_area(&other_area, 2 * LONGEST + 64) && open_area(&out_area, ROOM);
+    return open_area(&block_area, 2 * LONGEST + 64) && open_area(&other_area, 2 * LONGEST + 64) && open_area(&out_area, ROOM) && open_heads();
 }
 
 /* Appends one part to another. */
@@ -403,6 +403,7 @@ unsigned judge(const unsigned char *given, size_t length) {
     }
     if (seen.blocks % 8 == 0)
         judge_refused_memory(block, length);
+    judge_heads(block, length);
     holds(LAW_READ_ONLY, memcmp(block, given, length) == 0);
     return first.status == EXIFNORM_REFUSED ? first.fault.cause : 0;
 }

@@ -42,7 +42,14 @@
     LAW(FREED, "all memory is freed") \
     LAW(LITTLE, "the memory allocated at once is in proportion to the block") \
     LAW(NO_MEMORY, "a failed allocation is NO_MEMORY, or makes no difference") \
-    LAW(ORDER, "the first fault of a record stays the first, whatever follows it")
+    LAW(ORDER, "the first fault of a record stays the first, whatever follows it") \
+    LAW(HEAD, "a head has the parts of which it was made") \
+    LAW(HEAD_FAULT, "a head that is cut, or has another byte in place of a part, has this fault, and the parts before it") \
+    LAW(HEAD_END, "what precedes a fault is whole, with the end of the picture behind it") \
+    LAW(HEAD_MORE, "bytes after a head change nothing") \
+    LAW(HEAD_ROOM, "for an array that is too short for the parts their number is returned, and nothing is written") \
+    LAW(RESOURCES, "Photoshop's resources are those that were made, whatever follows them") \
+    LAW(RESOURCES_ROOM, "for an array that is too short for them their number is returned, and nothing is written")
 
 #define LAW_NUMBER(name, text) LAW_##name,
 enum { LAWS(LAW_NUMBER) LAW_COUNT };
@@ -61,8 +68,15 @@ extern struct seen seen;
 /* The text of a law. */
 const char *law_text(int law);
 
+/* Counts that a law was checked, and whether it holds. Returns that. */
+int holds(int law, int is_so);
+
 /* Allocates the buffers in which blocks are judged; 0 if there is no memory. */
 int open_room(void);
+int open_heads(void);
+
+/* Judges a head and Photoshop's resources that are made from the bytes of a block. */
+void judge_heads(const unsigned char *block, size_t length);
 
 /* The longest block that is judged here. */
 size_t longest_block(void);

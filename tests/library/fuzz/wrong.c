@@ -64,7 +64,22 @@
     MISTAKE(TAKES_MUCH, "check and normalise allocate a megabyte") \
     MISTAKE(IGNORES_NULL, "a failed allocation is returned as a refusal") \
     MISTAKE(SETS_WITHOUT_MEMORY, "a number is set although an allocation failed") \
-    MISTAKE(FAULT_AT_END, "the fault of a record depends on what follows it")
+    MISTAKE(FAULT_AT_END, "the fault of a record depends on what follows it") \
+    MISTAKE(PART_MISSED, "the first part of a head is missing") \
+    MISTAKE(PART_WITH_MARK, "the data of Exif begin with their mark") \
+    MISTAKE(PART_BEGINS, "a block begins with each part of a kind") \
+    MISTAKE(PART_OF_NO_KIND, "the data of XMP are of no kind") \
+    MISTAKE(HEAD_BEHIND, "an element is written after the parts") \
+    MISTAKE(HEAD_CUT_ACCEPTED, "a head that is cut is whole") \
+    MISTAKE(HEAD_FAULT_BESIDE, "the offset of a head's fault is one too high") \
+    MISTAKE(HEAD_FAULT_ALONE, "the parts before a fault are not stored") \
+    MISTAKE(HEAD_READS_ON, "bytes after a head are a fault") \
+    MISTAKE(HEAD_ROOM_FILLED, "an array that is too short for the parts is cleared") \
+    MISTAKE(HEAD_ROOM_COUNT, "for an array that is too short for the parts its own length is returned") \
+    MISTAKE(HEAD_READS_BEHIND, "a byte after the picture is read") \
+    MISTAKE(RESOURCE_LONG, "the data of a resource have their padding") \
+    MISTAKE(RESOURCES_CUT, "the last of Photoshop's resources is missing") \
+    MISTAKE(RESOURCES_ROOM_COUNT, "for an array that is too short for resources its own length is returned")
 
 #define MISTAKE(name, text) name,
 enum { NONE, MISTAKES COUNT };
@@ -75,11 +90,15 @@ static const char *const names[] = {"NONE", MISTAKES};
 
 typedef uint32_t Check(const unsigned char *, size_t, uint32_t *, struct exifnorm_fault *);
 typedef uint32_t Text(const unsigned char *, size_t, unsigned char *, size_t, size_t *, struct exifnorm_fault *);
+typedef uint32_t Parts(const unsigned char *, size_t, struct exifnorm_jpeg_part *, size_t, size_t *, struct exifnorm_jpeg_fault *);
+typedef uint32_t Resources(const unsigned char *, size_t, struct exifnorm_photoshop_resource *, size_t, size_t *);
 typedef uint32_t Compare(const unsigned char *, size_t, const unsigned char *, size_t, uint32_t *, struct exifnorm_fault *);
 
 static Check *right_check;
 static Text *right_normalise, *right_show, *right_captions;
 static Compare *right_compare;
+static Parts *right_parts;
+static Resources *right_resources;
 static int wrong;
 static const char *alone;
 static unsigned long calls;
@@ -88,6 +107,8 @@ static unsigned long calls;
 Check its_check;
 Text its_normalise, its_show, its_captions;
 Compare its_compare;
+Parts its_jpeg_parts;
+Resources its_photoshop_resources;
 #define ITS(type, name) its_##name
 #define FIND_RIGHT()
 #else
@@ -109,6 +130,8 @@ __attribute__((constructor)) static void open_right(void) {
     right_show = ITS(Text, show);
     right_captions = ITS(Text, captions);
     right_compare = ITS(Compare, compare);
+    right_parts = ITS(Parts, jpeg_parts);
+    right_resources = ITS(Resources, photoshop_resources);
     while (wrong < COUNT && strcmp(names[wrong], name) != 0)
         wrong++;
     if (wrong == COUNT)
@@ -382,5 +405,67 @@ uint32_t exifnorm_captions(const unsigned char *block, size_t length, unsigned c
         last[1] = '_';
     if (wrong == CAPTIONS_OF_PLACES && block[length / 2] % 2)
         out[0] ^= 1;
+    return status;
+}
+
+/* A mistake in the parts that were found. */
+static uint32_t changed_parts(size_t length, struct exifnorm_jpeg_part *parts, size_t room, size_t *count, struct exifnorm_jpeg_fault *fault, uint32_t status) {
+    if (wrong == PART_MISSED && *count > 0)
+        memmove(parts, parts + 1, --*count * sizeof *parts);
+    for (size_t i = 0; i < *count; i++) {
+        struct exifnorm_jpeg_part *it = &parts[i];
+        if (wrong == PART_WITH_MARK && it->kind == EXIFNORM_JPEG_EXIF)
+            it->start -= 6, it->size += 6;
+        if (wrong == PART_BEGINS && it->kind != EXIFNORM_JPEG_OTHER)
+            it->begins = 1;
+        if (wrong == PART_OF_NO_KIND && it->kind == EXIFNORM_JPEG_XMP)
+            it->kind = EXIFNORM_JPEG_OTHER, it->begins = 0;
+    }
+    if (wrong == HEAD_BEHIND && *count < room)
+        parts[*count].marker = 0;
+    if (wrong == HEAD_FAULT_ALONE && status == EXIFNORM_REFUSED)
+        *count = 0;
+    if (wrong == HEAD_FAULT_BESIDE && status == EXIFNORM_REFUSED)
+        fault->place++;
+    if (wrong == HEAD_CUT_ACCEPTED && status == EXIFNORM_REFUSED && fault->cause == EXIFNORM_JPEG_HEAD_CUT)
+        return EXIFNORM_DONE;
+    if (wrong == HEAD_READS_ON && status == EXIFNORM_DONE && parts[*count - 1].start + parts[*count - 1].size < length)
+        return EXIFNORM_REFUSED;
+    return status;
+}
+
+uint32_t exifnorm_jpeg_parts(const unsigned char *bytes, size_t length, struct exifnorm_jpeg_part *parts, size_t room, size_t *count, struct exifnorm_jpeg_fault *fault) {
+    volatile unsigned char seen = 0;
+    if (is_right("jpeg_parts"))
+        return right_parts(bytes, length, parts, room, count, fault);
+    if (wrong == NONE_OF_THEM_ANSWERS)
+        return EXIFNORM_DONE;
+    if (wrong == HEAD_READS_BEHIND)
+        seen = bytes[length];
+    (void)seen;
+    uint32_t status = right_parts(bytes, length, parts, room, count, fault);
+    if (status != EXIFNORM_TOO_LITTLE_ROOM)
+        return changed_parts(length, parts, room, count, fault, status);
+    if (wrong == HEAD_ROOM_FILLED)
+        memset(parts, 0, room * sizeof *parts);
+    if (wrong == HEAD_ROOM_COUNT)
+        *count = room;
+    return status;
+}
+
+uint32_t exifnorm_photoshop_resources(const unsigned char *bytes, size_t length, struct exifnorm_photoshop_resource *resources, size_t room, size_t *count) {
+    if (is_right("photoshop_resources"))
+        return right_resources(bytes, length, resources, room, count);
+    if (wrong == NONE_OF_THEM_ANSWERS)
+        return EXIFNORM_DONE;
+    uint32_t status = right_resources(bytes, length, resources, room, count);
+    if (status == EXIFNORM_TOO_LITTLE_ROOM && wrong == RESOURCES_ROOM_COUNT)
+        *count = room;
+    if (status != EXIFNORM_DONE)
+        return status;
+    for (size_t i = 0; wrong == RESOURCE_LONG && i < *count; i++)
+        resources[i].size += resources[i].size % 2;
+    if (wrong == RESOURCES_CUT && *count > 0)
+        --*count;
     return status;
 }
