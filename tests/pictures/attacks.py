@@ -7,7 +7,7 @@ import zlib
 
 from made_blocks import ASCII, segment
 from made_boxes import PICTURE, RDF, box, cr3, full, heif, jp2, jxl
-from made_files import EXTENSION_HEAD, SPACES, app1_xmp, app13, chunk, jpeg, page, png, png_xmp, profile, tiff, webp, xmp
+from made_files import EXTENSION_HEAD, SPACES, app1_xmp, app13, chunk, jpeg, packed_zeros, page, png, png_xmp, profile, tiff, webp, xmp
 from made_more_files import gif, psd
 from made_raw import rw2, whole_raf
 from studio import SMALL_JPEG
@@ -115,7 +115,7 @@ FILES = {
     "chunks.png": (written(lambda: png(*[chunk(b"aaaa", b"")] * 1_000_000)), "TooMuch"),
     "chunks.webp": (written(lambda: webp(*[(b"abcd", b"")] * 1_000_000)), "TooMuch"),
     "inflated.png": (
-        written(lambda: png(*[chunk(b"zTXt", b"xml:com.adobe.xmp\0\0" + zlib.compress(bytes(30 << 20), 9))] * 100)),
+        written(lambda: png(*[chunk(b"zTXt", b"xml:com.adobe.xmp\0\0" + packed_zeros(30))] * 100)),
         "TooMuch",
     ),
     "record.jpg": (written(lambda: jpeg_record(b"\x1c\2\x19\0\1a" * 2_700_000)), ""),

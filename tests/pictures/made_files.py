@@ -95,6 +95,18 @@ def mpf(first, *further, order=">"):
 # PNG
 
 
+def packed_zeros(megabytes):
+    """What zlib makes of so many megabytes of zeros, which takes long: it does so with the first one, and the others are copies.
+
+    >>> zlib.decompress(packed_zeros(2)) == bytes(2 << 20)
+    True
+    """
+    packing = zlib.compressobj(9, zlib.DEFLATED, -15)
+    piece = packing.compress(bytes(1 << 20)) + packing.flush(zlib.Z_FULL_FLUSH)
+    adler = ((megabytes << 20) % 65521) << 16 | 1
+    return b"\x78\xda" + piece * megabytes + b"\x03\0" + struct.pack(">I", adler)
+
+
 def chunk(kind, data, wrong=0):
     return struct.pack(">I", len(data)) + kind + data + struct.pack(">I", zlib.crc32(kind + data) ^ wrong)
 

@@ -15,7 +15,7 @@ from pathlib import Path
 
 import pytest
 from attacks import FILES
-from made_files import app1, app1_xmp, exif, jpeg, title
+from made_files import app1, app1_xmp, exif, jpeg, packed_zeros, title
 from studio import TOP, Studio, write
 
 SECONDS, MEMORY = 10, 256 << 20
@@ -375,10 +375,8 @@ def test_no_further_thread_or_process(what, tmp_path):
 def test_fields_that_inflate(archive):
     """Compressed fields of 400 kB that are 400 MB are damaged, and so are those of other types than ours."""
     base = sqlite3.connect(archive / "c")
-    packing = zlib.compressobj(9)
-    zeros = b"".join(packing.compress(bytes(1 << 20)) for _ in range(400)) + packing.flush()
     for fields in (
-        zeros,
+        packed_zeros(400),
         zlib.compress(b"[" * 8_000_000),
         b'[["main","010f","ASCII","4","x"]]',
         b'[["main",1,"ASCII",4,null]]',

@@ -45,7 +45,9 @@ def command(folder, words, *before):
 def traced(folder, words, *more):
     """Runs a command under strace; how it ended, and the names of its calls with the catalogue's files."""
     paths = [it for name in FILES for it in ("-P", str(folder / name))]
-    done = command(folder, words, "strace", "-f", "--seccomp-bpf", "-qq", "-o", str(folder / "trace"), "-e", f"trace={','.join(OUR)}", *more, *paths)
+    done = command(
+        folder, words, "strace", "-f", "--seccomp-bpf", "-qq", "-o", str(folder / "trace"), "-e", f"trace={','.join(OUR)}", *more, *paths
+    )
     return done, re.findall(r"^\d+ +(\w+)\(", (folder / "trace").read_text(errors="replace"), re.M)
 
 
