@@ -130,6 +130,7 @@ class TestInPython:
             for call in (exifnorm.kind, normal, exifnorm.show):
                 assert outcome(call, it.block) == expected_of(call, it), (call.__name__, it.block[:200])
 
+    @pytest.mark.parametrize("way", ["extension"], indirect=True)  # the code that makes objects is the same in both
     def test_fields_and_captions(self, way, are_large):
         for it in all_judged(are_large):
             if it.fault:

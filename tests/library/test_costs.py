@@ -162,33 +162,34 @@ def iim(names):
     return orders.record(names, b"octets 1").spelled()
 
 
-@pytest.mark.parametrize("call", ["check", "normalise"])
-def test_instructions_of_values_in_another_order(costs, call):
+def test_instructions_of_values_in_another_order(costs):
     fields = Exif({tag: Value(RATIONAL, [(tag, 7)]) for tag in range(0x1000, 0x3000)})
     blocks = {"usual": laid(fields, Layout("<")), "shuffled": laid(fields, Layout("<", shuffled=True))}
-    costs.see_that_orders_are_alike(call, blocks, SAME)
+    for call in ("check", "normalise"):
+        costs.see_that_orders_are_alike(call, blocks, SAME)
 
 
-@pytest.mark.parametrize("call", STRIP)
 @pytest.mark.parametrize("count", [50_000, 140_000], ids=["in the first megabyte", "after the first megabyte"])
-def test_instructions_for_each_strip(costs, count, call):
+def test_instructions_for_each_strip(costs, count):
     """Strips in the usual order are judged by one look at their whole span, and others one by one. A limit that is more than twice what a
     strip takes would notice no slower body."""
-    each = {
-        name: costs.instructions(call, strips(order, count)) / count
-        for name, order in (("ascending", 1), ("descending", -1), ("random", 0))
-    }
-    for name, instructions in each.items():
-        most = STRIP[call][name != "ascending"]
-        assert most / 2 <= instructions <= most, f"{instructions:.1f} instructions for each strip in {name} order"
-        assert instructions / each["ascending"] <= (SAME if call == "normalise" else SORTED), f"{name} order"
+    blocks = {name: strips(order, count) for name, order in (("ascending", 1), ("descending", -1), ("random", 0))}
+    for call in STRIP:
+        each = {name: costs.instructions(call, block) / count for name, block in blocks.items()}
+        for name, instructions in each.items():
+            most = STRIP[call][name != "ascending"]
+            assert most / 2 <= instructions <= most, f"{call}: {instructions:.1f} instructions for each strip in {name} order"
+            assert instructions / each["ascending"] <= (SAME if call == "normalise" else SORTED), f"{call}: {name} order"
 
 
-@pytest.mark.parametrize("call, most", [("check", 1.0), ("normalise", SORTED), ("captions", SORTED), ("compare", SORTED)])
-def test_instructions_of_groups_in_another_order(costs, call, most):
+ORDERED = {"check": 1.0, "normalise": SORTED, "captions": SORTED, "compare": SORTED}  # what a call may take in other orders
+
+
+def test_instructions_of_groups_in_another_order(costs):
     names = list(orders.ascending(orders.ALL))
     blocks = {"usual": iim(names), "descending": iim(names[::-1]), "random": iim(orders.shuffled())}
-    costs.see_that_orders_are_alike(call, blocks, most)
+    for call, most in ORDERED.items():
+        costs.see_that_orders_are_alike(call, blocks, most)
 
 
 @pytest.mark.parametrize("count", [FEW, FEW + 1, 1000, COUNTERS // ITEM, COUNTERS // ITEM + 1])
@@ -199,11 +200,11 @@ def test_instructions_of_few_groups_in_another_order(costs, count):
     costs.see_that_orders_are_alike("normalise", blocks, SORTED)
 
 
-@pytest.mark.parametrize("call, most", [("check", 1.0), ("normalise", SORTED), ("captions", SORTED), ("compare", SORTED)])
-def test_instructions_of_random_records(costs, call, most):
+def test_instructions_of_random_records(costs):
     names = list(orders.random(200_000))
-    in_order = [name for name, count in sorted(Counter(names).items()) for _ in range(count)]
-    costs.see_that_orders_are_alike(call, {"usual": iim(in_order), "random": iim(names)}, most)
+    blocks = {"usual": iim([name for name, count in sorted(Counter(names).items()) for _ in range(count)]), "random": iim(names)}
+    for call, most in ORDERED.items():
+        costs.see_that_orders_are_alike(call, blocks, most)
 
 
 # Meanings whose values are swapped in the normal form, each with the instructions for each byte of the form at most: an eighth more than
