@@ -84,7 +84,7 @@ def test_each_table_has_what_the_other_commands_print(exported, run, folder):
     (folder / "p" / "bare.jpg").write_bytes(jpeg())
     (folder / "p" / "notes.txt").write_bytes(b"no picture")
     base = exported("p")
-    groups = [json.loads(it) for it in run("same", "--catalogue", "c", "--json").splitlines()][:-1]
+    groups = [json.loads(it) for it in run("same", "--catalogue", "c", "--json", status=2).splitlines()][:-1]
     expected = [(it["number"], it["basis"], one["path"], int(one["keep"])) for it in groups for one in it["pictures"]]
     assert asked(base, "SELECT number, kind, path, keep FROM groups JOIN pictures ON id = picture ORDER BY number, path") == sorted(
         expected, key=lambda it: (it[0], it[2])
@@ -146,13 +146,13 @@ def test_captions_are_those_of_the_files(run, folder):
 
 @needs("exiftool")
 def test_groups_by_maker_notes(run, folder):
-    """ExifTool is asked, as by `same`."""
+    """ExifTool is asked, as by `same`. None is marked to keep, since nobody knows which MakerNote is whole."""
     (folder / "p").mkdir()
     for number, moved in enumerate((0, 64)):
         (folder / "p" / f"{number}.jpg").write_bytes(with_short_note(moved))
     run("index", "p", "--catalogue", "c", "--quiet")
     run("export", "c", "t")
-    assert asked(sqlite3.connect("t"), "SELECT kind, keep FROM groups") == [("maker note", 1), ("maker note", 0)]
+    assert asked(sqlite3.connect("t"), "SELECT kind, keep FROM groups") == [("maker note", None), ("maker note", None)]
 
 
 # The page

@@ -95,7 +95,7 @@ def test_whoever_keeps_one_of_each_group_loses_nothing(tmp_path_factory, files, 
         for number, (name, _, afterwards) in enumerate(files):
             change_file(number, name, afterwards)
         before = contents("p")
-        *groups, _ = map(json.loads, printed("same", "--catalogue", "c", "--json"))
+        *groups, _ = map(json.loads, printed("same", "--catalogue", "c", "--json", most=2))
         assert [[it["keep"] for it in group["pictures"]].count(True) for group in groups] == [1] * len(groups)
         for group in groups:
             kept = next(it["path"] for it in group["pictures"] if it["keep"]) if by_keep else random.choice(group["pictures"])["path"]
@@ -108,9 +108,9 @@ def test_whoever_keeps_one_of_each_group_loses_nothing(tmp_path_factory, files, 
         shutil.rmtree(folder)
 
 
-def printed(*words):
+def printed(*words, most=0):
     with contextlib.redirect_stdout(io.StringIO()) as lines:
-        assert main._run(words) == 0
+        assert main._run(words) <= most
     return lines.getvalue().splitlines()
 
 
@@ -160,7 +160,7 @@ def test_what_a_group_rests_on(asked, folder, one, other, basis):
     (folder / "p/1.jpg").write_bytes(FILES[one])
     (folder / "p/2.jpg").write_bytes(FILES[other])
     indexed(asked, "p")
-    *found, _ = asked("same", "--catalogue", "c")
+    *found, _ = asked("same", "--catalogue", "c", status=2 if basis == "repair" else 0)
     assert [it["basis"] for it in found] == ([basis] if basis else [])
     assert all(it["wholly_read"] is (basis == "meaning") for it in found)
 
@@ -171,7 +171,7 @@ def test_a_later_group_has_one_of_each_earlier_one(asked, folder):
         for number in "12":
             (folder / f"p/{name}-{number}.jpg").write_bytes(FILES[name])
     indexed(asked, "p")
-    *found, _ = asked("same", "--catalogue", "c")
+    *found, _ = asked("same", "--catalogue", "c", status=2)
     (repair,) = [it for it in found if it["basis"] == "repair"]
     assert names_of(repair["pictures"]) == ["c1-1.jpg", "c2-1.jpg", "c3-1.jpg"]
     assert [it["others"] for it in repair["pictures"]] == [1, 1, 1]
@@ -244,7 +244,7 @@ def with_note(owner, moved=0, wrong=False):
     "other, result, status, basis",
     [
         (with_note(b"Annette"), "same", 0, "meaning"),
-        (with_note(b"Annette", 64), "the same but for a MakerNote that moved", 2, None),
+        (with_note(b"Annette", 64), "the same but for a MakerNote that moved", 2, "maker note"),
         (with_note(b"Ottilie"), "only MakerNote differs", 1, None),
         (with_note(b"Ottilie", 64), "different", 1, None),
     ],
@@ -260,7 +260,7 @@ def test_maker_notes(asked, folder, other, result, status, basis):
     values = [(it["before"], it["after"]) for it in (found["maker_note"] or {"values": []})["values"]]
     assert (("Annette", "Ottilie") in values) is (b"Ottilie" in other)
     indexed(asked, "before", "after")
-    assert [it["basis"] for it in asked("same", "--catalogue", "c")[:-1]] == ([basis] if basis else [])
+    assert [it["basis"] for it in asked("same", "--catalogue", "c", status=2 if basis == "maker note" else 0)[:-1]] == [basis] * bool(basis)
 
 
 def with_short_note(moved=0):
@@ -282,9 +282,9 @@ def test_a_maker_note_that_only_moved(asked, folder):
     (found, _) = asked("changed", "p0", "p1", "--all", "--no-exiftool", status=2)
     assert found["result"] == "not wholly read"
     indexed(asked, "p0", "p1", "p2")
-    *found, _ = asked("same", "--catalogue", "c")
+    *found, _ = asked("same", "--catalogue", "c", status=2)
     assert [(it["basis"], it["count"]) for it in found] == [("meaning", 2), ("maker note", 2)]
-    assert [it["basis"] for it in asked("same", "--catalogue", "c", "--no-look")[:-1]] == ["meaning"]
+    assert [it["basis"] for it in asked("same", "--catalogue", "c", "--no-look", status=2)[:-1]] == ["meaning"]
 
 
 @needs("exiftool")

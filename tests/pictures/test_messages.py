@@ -21,7 +21,7 @@ from exifnorm_pictures.extract import exiftool, extraction, programs
 from exifnorm_pictures.files import atomic, opening
 from exifnorm_pictures.scan import progress, walk, workers
 from exifnorm_pictures.scan.batches import How
-from exifnorm_pictures.catalogue.records import Block, Damaged
+from exifnorm_pictures.catalogue.records import Block, Damaged, Digests
 from exifnorm_pictures.catalogue.store import VERSION, Catalogue, NoCatalogue
 from exifnorm_pictures.extract.formats.found import PROBLEMS, NotRead
 from exifnorm_pictures.catalogue.records import PictureRecord, Stamp
@@ -176,7 +176,7 @@ def header(version, application=0x45584E50, start=b"SQLite format 3\0"):
 
 
 EARLIER = (
-    f" is a catalogue of an earlier release (version {VERSION - 1}, here {VERSION}), whose answers were about fewer blocks. Make a new one:"
+    f" is a catalogue of an earlier release (version {VERSION - 1}, here {VERSION}), which lacks what is compared now. Make a new one:"
     " exifnorm-pictures index FOLDER --catalogue NEW"
 )
 LATER = f" is a catalogue of a later release (version {VERSION + 1}, here {VERSION})"
@@ -334,7 +334,7 @@ class Messages(WithPictures):
 
     def test_of_files(self):
         found = FoundFile(b"/a", b"/", Stamp(1, 2, 3, 4))
-        at, rest = PictureRecord(b"/a", b"/", None), {"digests": (None, None, None, None, None, "", "", "", None, "")}
+        at, rest = PictureRecord(b"/a", b"/", None), {"digests": Digests(None, None, None, None, None, "", "", "", "", None, "")}
         marked = at._replace(stamp=found.stamp)
         for why, expected in (
             (programs.Failed("exiv2 failed"), marked._replace(problem="ToolFailed", detail="exiv2 failed", extractor="own", **rest)),

@@ -7,7 +7,7 @@ import os
 from dataclasses import dataclass
 from typing import Any, Dict, Iterable, List, NamedTuple, Optional, Sequence, Tuple
 
-from ..compare.verdicts import ABSENT, ACCEPTED, REACHED, REFUSED, UNREADABLE, Side, side_of
+from ..compare.verdicts import ABSENT, ACCEPTED, REACHED, REFUSED, UNREADABLE, Side, joined, side_of
 from ..extract.formats.found import EXIF, IPTC, XMP, Blocks, NotRead
 from ..refusals.steps import Step, loses, unpacked
 
@@ -42,6 +42,7 @@ class Block(NamedTuple):
     repair: Optional[str] = None  # the steps after which a refused block is accepted, in the form of `steps.packed`
     repaired: Optional[str] = None  # SHA-256 of its meaning after them
     note: Optional[int] = None  # where its MakerNote begins
+    but_note: Optional[str] = None  # a digest of its fields without the MakerNote, if it has one; of a refused block, of those after repair
 
     def row(self) -> Tuple[Any, ...]:
         """The block as a row of the catalogue, with its fields."""
@@ -112,7 +113,20 @@ def is_marked_as(now: Stamp, marks: Sequence[Optional[int]]) -> bool:
     return tuple(now[:4]) == tuple(marks) if marks[2] != RACY else (now[0], now[1], now[3]) == (marks[0], marks[1], marks[3])
 
 
-Digests = Tuple[Optional[str], ...]
+class Digests(NamedTuple):
+    """What is compared of a picture: columns of a catalogue, by their names."""
+
+    exif: Optional[str]
+    iptc: Optional[str]
+    xmp: Optional[str]
+    not_read: Optional[str]
+    other_not_read: Optional[str]
+    other_exif: str
+    exif_octets: str
+    iptc_octets: str
+    xmp_octets: str
+    exif_repaired: Optional[str]
+    maker_notes: str
 
 
 class PictureRecord(NamedTuple):
@@ -127,7 +141,7 @@ class PictureRecord(NamedTuple):
     detail: str = ""
     blocks: Tuple[Block, ...] = ()
     not_read: Tuple[NotRead, ...] = ()
-    digests: "Optional[Digests]" = None  # what `digests` returns, if it was already called
+    digests: Optional[Digests] = None  # what `digests` returns, if it was already called
     file: str = ""  # SHA-256 of the whole file, if nothing else can be compared
     notes: Optional[bytes] = None  # what ExifTool reads of its MakerNotes, if it was asked
     coded_picture: Optional[str] = None  # the digest of the coded picture, empty if it isn't known; None: it was not requested
@@ -194,22 +208,31 @@ def state_of(problem: Optional[str], blocks: Iterable[Block]) -> str:
 
 
 def digests(it: PictureRecord) -> Digests:
-    """The columns of a picture that are made of its blocks and of its parts that were not read, from `exif` to `maker_notes`."""
+    """What is compared of a picture, made of its blocks and of its parts that were not read."""
     return it.digests or _digests(it.problem, it.blocks, it.not_read)
 
 
 def _digests(problem: Optional[str], blocks: Sequence[Block], not_read: Sequence[NotRead]) -> Digests:
     if problem:
-        return (None, None, None, None, None, "", "", "", None, "")
+        return Digests(None, None, None, None, None, "", "", "", "", None, "")
     by_kind: Dict[str, List[Block]] = {kind: [] for kind in KINDS}
     for it in blocks:
         by_kind[it.kind].append(it)
     sides = [side_of(ours) for ours in by_kind.values()]
-    meanings = [one.digest if one.status == ACCEPTED else "" if one.status == ABSENT else None for one in sides]
+    exif, iptc, xmp = [one.digest if one.status == ACCEPTED else "" if one.status == ABSENT else None for one in sides]
     parts = _parts_digest(not_read)
     other_parts = _parts_digest([it for it in not_read if not it.what.endswith(REACHED)]) if parts else parts
     notes = ",".join(f"{it.name}:{it.note}" for it in by_kind[EXIF] if it.note is not None)
-    return (*meanings, parts, other_parts, *(one.octets for one in sides), sides[0].repaired or None, notes)
+    other_exif = _exif_but_notes(by_kind[EXIF]) if notes else ""
+    e, i, x = [one.octets for one in sides]
+    return Digests(exif, iptc, xmp, parts, other_parts, other_exif, e, i, x, sides[0].repaired or None, notes)
+
+
+def _exif_but_notes(blocks: Sequence[Block]) -> str:
+    """A digest of what some Exif blocks mean without their MakerNotes, after repairs too; empty if that of one isn't known."""
+    if any(it.meaning is None for it in blocks):
+        return ""
+    return joined([(it.name, it.but_note or it.meaning or "") for it in blocks])
 
 
 def _parts_digest(parts: Sequence[NotRead]) -> Optional[str]:

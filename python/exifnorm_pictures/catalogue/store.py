@@ -21,10 +21,10 @@ from ..cli.signals import Failure
 from ..extract.budgets import ROW_BYTES, STEPS
 from ..extract.formats.found import NotRead
 from ..files import mounts, opening as files
-from .records import Block, Damaged, Picture, PictureRecord, Stamp, block_of_row, digests, has, not_read_of_row, picture_of_row
+from .records import Block, Damaged, Digests, Picture, PictureRecord, Stamp, block_of_row, digests, has, not_read_of_row, picture_of_row
 
 APPLICATION = 0x45584E50  # 'EXNP', which distinguishes a catalogue from other SQLite files
-VERSION = 4
+VERSION = 5
 CACHE = 32_000  # kB of a catalogue that is written to: digests go into its index in no order
 PATIENCE = 200  # milliseconds that closing waits for other programs; while they read, the write-ahead log stays
 WAIT = 10  # seconds for other processes that set the journal's mode
@@ -57,6 +57,7 @@ CREATE TABLE pictures (
     xmp TEXT,
     not_read TEXT,                  -- SHA-256 of what was not read; empty: all was read; NULL: it can't be compared
     other_not_read TEXT,            -- the same without the bytes that only a MakerNote can reach
+    other_exif TEXT NOT NULL,       -- BLAKE2b of the fields of Exif without the MakerNotes, after repairs too; empty: there is none
     exif_octets TEXT NOT NULL,      -- SHA-256 of the blocks of a kind as they are in the file; empty if there is none
     iptc_octets TEXT NOT NULL,
     xmp_octets TEXT NOT NULL,
@@ -99,18 +100,19 @@ CREATE TABLE maker_notes (
 );
 CREATE INDEX pictures_by_content ON pictures (exif, iptc, xmp, not_read) WHERE problem IS NULL;
 CREATE INDEX pictures_by_coded_picture ON pictures (coded_picture) WHERE coded_picture != '';
+CREATE INDEX pictures_by_other_exif ON pictures (other_exif) WHERE other_exif != '';
 """
 
-_OCTETS = "exif_octets, iptc_octets, xmp_octets"
-_MORE = "exif_repaired, maker_notes, file, coded_picture, sidecars"
 PICTURE_COLUMNS = (
-    f"id, path, root, type, extractor, problem, detail, size, modified, changed, inode, not_read, exif, iptc, xmp, {_OCTETS}, {_MORE}"
+    "id, path, root, type, extractor, problem, detail, size, modified, changed, inode, not_read, exif, iptc, xmp,"
+    " exif_octets, iptc_octets, xmp_octets, exif_repaired, maker_notes, file, coded_picture, sidecars"
 )
 BLOCK_COLUMNS = "number, kind, name, source, extractor, status, digest, cause, place, length, octets, repair, repaired, note"
-ALL_PICTURE_COLUMNS = f"path, root, size, modified, changed, inode, device, type, extractor, problem, detail, exif, iptc, xmp, not_read, other_not_read, {_OCTETS}, {_MORE}"
+_MARKS = "path, root, size, modified, changed, inode, device, type, extractor, problem, detail"
+ALL_PICTURE_COLUMNS = f"{_MARKS}, {', '.join(Digests._fields)}, file, coded_picture, sidecars"
 # A row that replaces another of the same path takes the other's blocks and parts with it, by ON DELETE CASCADE.
-_PUT_PICTURE = f"INSERT OR REPLACE INTO pictures (id, {ALL_PICTURE_COLUMNS}, run) VALUES (?{', ?' * 25})"
-_PUT_BLOCK = f"INSERT INTO blocks (picture, {BLOCK_COLUMNS}, fields) VALUES (?{', ?' * 15})"
+_PUT_PICTURE = f"INSERT OR REPLACE INTO pictures (id, {ALL_PICTURE_COLUMNS}, run) VALUES (?{', ?' * (ALL_PICTURE_COLUMNS.count(',') + 2)})"
+_PUT_BLOCK = f"INSERT INTO blocks (picture, {BLOCK_COLUMNS}, fields) VALUES (?{', ?' * (BLOCK_COLUMNS.count(',') + 2)})"
 _ADD_ROWS = (
     "DELETE FROM main.pictures WHERE path IN (SELECT path FROM {other}.pictures)",
     f"INSERT INTO main.pictures (id, {ALL_PICTURE_COLUMNS}, run)"
@@ -195,7 +197,7 @@ def _check_head(name: str, make: bool) -> None:
     version = int.from_bytes(head[60:64], "big")
     if version < VERSION:
         raise NoCatalogue(
-            f"{name} is a catalogue of an earlier release (version {version}, here {VERSION}), whose answers were about fewer blocks."
+            f"{name} is a catalogue of an earlier release (version {version}, here {VERSION}), which lacks what is compared now."
             " Make a new one: exifnorm-pictures index FOLDER --catalogue NEW"
         )
     if version > VERSION:

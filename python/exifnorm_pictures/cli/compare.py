@@ -82,7 +82,7 @@ _SENTENCES = {
     verdicts.SAME_NUMBERS: "The same metadata but for how equal numbers are written.",
     verdicts.MOVED_NOTE: "The same metadata but for a MakerNote that has moved; ExifTool reads the same from both.",
     verdicts.SAME_REPAIRED: "The same metadata after a repair in memory.",
-    changes.ONLY_MAKER_NOTE: "Only the MakerNote differs.",
+    verdicts.ONLY_MAKER_NOTE: "Only the MakerNote differs.",
     verdicts.ONLY_REACHED: "No field differs. Bytes differ that no field has, and that a MakerNote can lead to.",
     verdicts.NOT_WHOLLY_READ: "No field differs, but not everything was read.",
     verdicts.REFUSED: "The metadata can't be compared wholly: a block breaks the rules of its format, or is compressed.",

@@ -15,11 +15,12 @@ SECONDS = 60.0  # that a program may take for one file
 
 _STATUSES = """Statuses:
   0    done, or the same (index: also if pictures are refused, which the catalogue records)
-  1    different (changed, compare: something differs, also after repair, was moved or is missing; conflicts: a picture
-       contradicts itself; mend: the copy differs in a printed value)
+  1    different (changed, compare: something differs, also after repair, was moved or is missing; same: MakerNotes of a
+       group differ in bytes; conflicts: a picture contradicts itself; mend: the copy differs in a printed value)
   2    it can't be decided wholly (changed, compare, show, captions, conflicts, explain: a block is refused or unreadable, or a
-       picture or a part wasn't read; changed, compare: the same only after a repair, or but for a MakerNote; index: a picture
-       that should be readable isn't, or a program failed at it; mend: no remedy worked, or the picture wasn't read)
+       picture or a part wasn't read; changed, compare, same: the same only after a repair, or but for a MakerNote; same: or
+       they may be so; index: a picture that should be readable isn't, or a program failed at it; mend: no remedy worked, or
+       the picture wasn't read)
   3    bad arguments, or names that lead to nothing
   4    the command itself failed: the catalogue, a stream, an output file, the disk or the memory
   130  stopped by the keyboard; reported results are kept, and the same command continues from there

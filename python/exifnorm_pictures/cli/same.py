@@ -5,20 +5,23 @@ from __future__ import annotations
 import argparse
 import contextlib
 import json
+from collections import Counter
 from typing import Dict, Iterator, List, Optional, Sequence, Tuple
 
 from ..catalogue.records import KIND_OF, KINDS, WORDS, Picture
 from ..catalogue.store import Catalogue
-from ..compare import groups
+from ..compare import groups, verdicts
+from ..compare.readings import Unknown, of_unknown
 from ..extract import exiftool
 from ..fields.choosing import Choice
 from ..files import tempdir
 from .choice import BY_LISTING, choice_of, listings_of, refuse_unknown, say_unseen
-from .exit_codes import SUCCESS, USAGE
+from .exit_codes import DIFFERENCE, SUCCESS, UNKNOWN, USAGE
 from .names import chosen_paths
 from .objects import line_of, print_object
 from .output import Members, path_members, print_line, shown_path
 from .parser import PIXELS
+from . import signals
 from .signals import Failure
 from .tables import Table
 
@@ -37,9 +40,12 @@ def run(arguments: argparse.Namespace) -> int:
         choice = choice_of(arguments)
         refuse_unknown(choice, listings_of(catalogue))
         fewest = groups.Fewest(arguments.least_fields)
+        unknown: Unknown = Counter()
+        results: "Counter[str]" = Counter()
         count = grouped = partial = 0
-        for it in _groups(catalogue, arguments, kinds, only, choice, fewest):
+        for it in _groups(catalogue, arguments, kinds, only, choice, fewest, unknown):
             count, grouped, partial = count + 1, grouped + it.count, partial + it.is_partial
+            results[it.result] += 1
             keep = it.to_keep() if has_keep and not choice else None
             if arguments.json:
                 _print_group(count, it, keep)
@@ -51,15 +57,26 @@ def run(arguments: argparse.Namespace) -> int:
             left = 0 if arguments.kind == PIXELS else groups.left_out(catalogue, kinds, only)
             totals = {"groups": count, "pictures": grouped, "undecided": left, "small_groups": fewest.small}
             if arguments.json:
-                print_object("same", "summary", totals)
+                print_object("same", "summary", {**totals, "maker_notes_unknown": dict(unknown)})
             else:
                 _print_totals(count, grouped, left, fewest)
+                if unknown:
+                    print_line(of_unknown(unknown))
                 if partial:
                     print_line(BY_LISTING)
                 if arguments.kind == PIXELS:
                     _print_without_digest(groups.without_coded_picture(catalogue, only)[1])
+        elif unknown:
+            signals.say(f"exifnorm-pictures: note: {of_unknown(unknown)}")
         say_unseen(choice, "of the catalogue")
-    return SUCCESS
+    return UNKNOWN if unknown else _status(results)
+
+
+def _status(results: "Counter[str]") -> int:
+    """The greatest status that `compare` has for two pictures of a group."""
+    if any(results[it] for it in (verdicts.MOVED_NOTE, verdicts.ONLY_REACHED, verdicts.SAME_REPAIRED)):
+        return UNKNOWN
+    return DIFFERENCE if results[verdicts.ONLY_MAKER_NOTE] else SUCCESS
 
 
 class NoDigests(Failure):
@@ -75,10 +92,11 @@ def _groups(
     only: Optional[str],
     choice: Choice,
     fewest: groups.Fewest,
+    unknown: Unknown,
 ) -> Iterator[groups.Group]:
     """The groups of the kind that is asked for. Raises `NoDigests`."""
     if arguments.kind != PIXELS:
-        return groups.groups(catalogue, kinds, only, look=not arguments.no_look, choice=choice, fewest=fewest)
+        return groups.groups(catalogue, kinds, only, look=not arguments.no_look, choice=choice, fewest=fewest, unknown=unknown)
     if choice or arguments.least_fields:
         raise NoDigests("--kind pixels compares coded pictures and no fields: leave out the options for fields")
     count = groups.without_coded_picture(catalogue, only)[0]
@@ -126,6 +144,8 @@ def _print_lines(it: groups.Group, number: int) -> None:
             print_line(f"      not counted, {link.how}: {shown_path(link.path)}")
     if len(reasons) == 1 and reasons != {""}:
         print_line(f"    all: {reasons.pop()}")
+    if it.rests_on_readings:
+        print_line(f"    {groups.KEEP_ALL}")
     for what, paths in (("gone", it.gone), ("changed since it was indexed", it.changed)):
         for path in paths:
             print_line(f"    not counted, {what}: {shown_path(path)}")
@@ -148,6 +168,7 @@ def _print_rows(table: Table, number: int, it: groups.Group, keep: Optional[Pict
 def _note(group: groups.Group, it: Picture) -> str:
     others = group.others.get(it.id, 0)
     more = [f"and {others:,} that {'are' if others > 1 else 'is'} in an earlier group with it"] if others else []
+    more += [groups.KEEP_ALL] * group.rests_on_readings
     return "; ".join([*filter(None, [group.reasons.get(it.id)]), *more])
 
 

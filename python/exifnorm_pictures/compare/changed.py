@@ -30,6 +30,7 @@ from .verdicts import (
     LEFT_OUT,
     MOVED_NOTE,
     NOT_WHOLLY_READ,
+    ONLY_MAKER_NOTE,
     ONLY_REACHED,
     REACHED,
     REFUSED,
@@ -45,7 +46,6 @@ from .verdicts import (
     verdicts,
 )
 
-ONLY_MAKER_NOTE = "only MakerNote differs"
 ONLY_NUMBERS = "only equal numbers are written otherwise"
 REFUSED_SAME, UNREADABLE_SAME = f"{REFUSED}, the same bytes", f"{UNREADABLE}, the same bytes"
 if TYPE_CHECKING:
@@ -188,8 +188,10 @@ def _judge_maker_notes(it: Compared, one: Picture, other: Picture, pairs: Sides,
             parts = [*parts, "a MakerNote that has moved, for which ExifTool and both files are needed"]
             it.result = result(it.verdicts, parts)
         return parts
-    it.maker_note = found
-    if found:
+    if found.doubt and not found.differences:
+        return _in_doubt(it, lines, moved, found, parts)
+    it.maker_note = found.differences
+    if found.differences:
         _read_otherwise(it, lines, moved)
         return parts
     if not moved:  # an edit in place: ExifTool may overlook it, since it corrects some MakerNotes before it reads them
@@ -205,6 +207,18 @@ def _judge_maker_notes(it: Compared, one: Picture, other: Picture, pairs: Sides,
         it.verdicts = [Verdict(EXIF, MOVED_NOTE) if is_exif else verdict for verdict, is_exif in zip(it.verdicts, plain)]
     parts = [part for part in parts if part not in reached]
     it.result = result(it.verdicts, parts)
+    return parts
+
+
+def _in_doubt(it: Compared, lines: List[Difference], moved: bool, found: "maker_notes.Compared", parts: List[str]) -> List[str]:
+    """A MakerNote of which no value differs, though that may mean nothing. Returns the parts that stay open."""
+    has_moved = "has moved, " * moved
+    it.changes = [
+        change._replace(note=f"{has_moved}differs in bytes, {found.doubt}") if change in lines else change for change in it.changes
+    ]
+    if not lines and (moved or found.is_new):
+        parts = [*parts, f"a MakerNote that {'has moved' if moved else 'may be damaged'} ({found.doubt})"]
+        it.result = result(it.verdicts, parts)
     return parts
 
 

@@ -10,7 +10,7 @@ from ..catalogue.records import KINDS, WORDS, has, kind_of
 from ..catalogue.store import ALL_PICTURE_COLUMNS, Catalogue
 from ..extract.formats.found import EXIF, NAMES
 from ..fields.choosing import Choice
-from ..fields.listing import Field, unpacked
+from ..fields.listing import MAKER_NOTE, Field, unpacked
 from ..refusals import steps
 from .differing import equal_form
 from .verdicts import ACCEPTED, joined
@@ -27,15 +27,19 @@ class _Counted(NamedTuple):
     repaired: Optional[str]  # the same after a repair that loses nothing
     meaning: str  # of all of the block
     listing: str  # of all its fields
+    other: str  # the digest of those that count, after a repair too, without the MakerNote
+    other_meaning: str  # of all of the block without the MakerNote
+    other_listing: str  # of all its fields but the MakerNote
 
 
 def make_table(catalogue: Catalogue, choice: Choice, table: str) -> None:
-    """Makes the temporary table, unless it is there. Its digests are those of the fields that count, and it has three columns more: `whole`, which
-    is equal for pictures that mean the same, `listing`, which is of all fields, and `place`, of MakerNotes and of what was not read."""
+    """Makes the temporary table, unless it is there. Its digests are those of the fields that count, and it has five columns more: `whole`, which
+    is equal for pictures that mean the same, `listing`, which is of all fields, both without MakerNotes as `other_whole` and `other_listing`,
+    and `place`, of MakerNotes and of what was not read."""
     if next(catalogue.rows("SELECT 1 FROM sqlite_temp_master WHERE name = ?", (table.rpartition(".")[2],)), None):
         return
     with catalogue.guarded():
-        catalogue.base.execute("CREATE TEMP TABLE remaining (id INTEGER PRIMARY KEY, exif, iptc, xmp, repaired, whole, listing)")
+        catalogue.base.execute(f"CREATE TEMP TABLE remaining (id INTEGER PRIMARY KEY, exif, iptc, xmp, repaired, other, {_SUMS})")
     waiting: List[Tuple[object, ...]] = []
     for row in _rows(catalogue, choice):
         waiting.append(row)
@@ -46,10 +50,12 @@ def make_table(catalogue: Catalogue, choice: Choice, table: str) -> None:
         catalogue.base.execute(f"CREATE TABLE {table} AS SELECT pictures.id, {_columns(choice)}, {_MORE} FROM {_JOINED}")
         catalogue.base.execute("CREATE UNIQUE INDEX temp.counted_by_id ON counted (id)")
         catalogue.base.execute("CREATE INDEX temp.counted_by_content ON counted (exif, iptc, xmp, not_read)")
+        catalogue.base.execute("CREATE INDEX temp.counted_by_other_exif ON counted (other_exif) WHERE other_exif != ''")
         catalogue.base.execute("DROP TABLE remaining")
 
 
-_MORE = "whole, listing, pictures.maker_notes || ' ' || ifnull(pictures.not_read, '') AS place"
+_SUMS = "whole, listing, other_whole, other_listing"
+_MORE = f"{_SUMS}, pictures.maker_notes || ' ' || ifnull(pictures.not_read, '') AS place"
 _JOINED = "main.pictures LEFT JOIN temp.remaining USING (id)"
 
 
@@ -58,6 +64,7 @@ def _columns(choice: Choice) -> str:
     has_blocks = "remaining.id IS NOT NULL"
     made = {it: f"CASE WHEN {has_blocks} THEN remaining.{it} ELSE pictures.{it} END" for it in WORDS.values()}
     made["exif_repaired"] = f"CASE WHEN {has_blocks} THEN repaired ELSE exif_repaired END"
+    made["other_exif"] = f"CASE WHEN {has_blocks} AND other_exif != '' THEN remaining.other ELSE other_exif END"
     made.update({f"{it}_octets": f"CASE WHEN remaining.{it} = '' THEN '' ELSE {it}_octets END" for it in WORDS.values()})
     if choice.leaves_out_maker_notes:
         made.update(maker_notes="''", not_read="other_not_read")
@@ -66,7 +73,7 @@ def _columns(choice: Choice) -> str:
 
 def _write(catalogue: Catalogue, rows: List[Tuple[object, ...]]) -> None:
     with catalogue.guarded():
-        catalogue.base.executemany("INSERT INTO temp.remaining VALUES (?, ?, ?, ?, ?, ?, ?)", rows)
+        catalogue.base.executemany(f"INSERT INTO temp.remaining VALUES (?{', ?' * 9})", rows)
     rows.clear()
 
 
@@ -87,14 +94,19 @@ def _counted(row: Tuple[str, str, str, Optional[str], str, Optional[str], Option
     has(str, word, name, status, octets, *(it for it in (digest, repair) if it is not None))
     if packed is None:
         own = f"whole {digest}" if status == ACCEPTED else None  # its fields aren't kept, so all of it counts
-        return _Counted(kind_of(word), name, own, None, digest or octets, "")
+        return _Counted(kind_of(word), name, own, None, digest or octets, "", own or "", digest or octets, "")
     fields = unpacked(packed)
     block = "" if name in NAMES.values() else name
-    counted = _digest(choice.of(fields, block), choice)
+    counting = choice.of(fields, block)
+    counted, meaning, listing = _digest(counting, choice), digest or octets, _sum(fields)
     is_repaired = repair is not None and not steps.loses(steps.unpacked(repair))
-    return _Counted(
-        kind_of(word), name, counted if status == ACCEPTED else None, counted if is_repaired else None, digest or octets, _sum(fields)
-    )
+    found = (kind_of(word), name, counted if status == ACCEPTED else None, counted if is_repaired else None, meaning, listing)
+    others = [it for it in fields if it[:2] != MAKER_NOTE]
+    if len(others) == len(fields):
+        return _Counted(*found, counted, meaning, listing)
+    of_others = _sum(others)
+    rest = [it for it in counting if it[:2] != MAKER_NOTE]
+    return _Counted(*found, _digest(rest, choice) or "no other field", of_others, of_others)
 
 
 def _digest(fields: Sequence[Field], choice: Choice) -> str:
@@ -121,9 +133,11 @@ def _row(blocks: Sequence[_Counted], choice: Choice) -> Tuple[object, ...]:
     repaired = (
         joined([(name, digest or "") for name, digest in exif if digest != ""]) if is_repaired and any(it for _, it in exif) else None
     )
-    whole, listing = (joined([(f"{it.kind} {it.name}", text) for it, text in zip(blocks, some)]) for some in _whole(blocks))
-    return (*digests, repaired, whole, listing)
+    others = [(it.name, it.other) for it in blocks if it.kind == EXIF and it.other != ""]
+    sums = (joined([(f"{it.kind} {it.name}", text) for it, text in zip(blocks, some)]) for some in _whole(blocks))
+    return (*digests, repaired, joined(others) if others else "", *sums)
 
 
-def _whole(blocks: Sequence[_Counted]) -> Tuple[List[str], List[str]]:
-    return [it.meaning for it in blocks], [it.listing for it in blocks]
+def _whole(blocks: Sequence[_Counted]) -> Tuple[List[str], ...]:
+    wholes = [it.meaning for it in blocks], [it.listing for it in blocks]
+    return (*wholes, [it.other_meaning for it in blocks], [it.other_listing for it in blocks])

@@ -2,12 +2,13 @@
 
 So a picture that is gone, that has changed, or that is a further name of another one is never the reason for a group. Groups are of four
 kinds, by what they rest on, in this order. A picture can be in groups of several kinds. A later group has only one picture of each earlier
-one, so whoever keeps any one picture of each group loses nothing.
+one, so whoever keeps any one picture of each group loses nothing; but of a group that rests on MakerNotes nobody knows which to keep.
 """
 
 from __future__ import annotations
 
 import os
+from collections import Counter
 from dataclasses import dataclass, field, replace
 from typing import Dict, Iterable, Iterator, List, NamedTuple, Optional, Sequence, Tuple
 
@@ -18,13 +19,14 @@ from ..extract.sidecars import Folders
 from ..fields.choosing import EVERYTHING, Choice, UnknownField
 from ..fields.listing import unpacked
 from ..refusals import steps
-from .verdicts import ABSENT, DIFFERENT, SAME, clause, none_of
+from .readings import LOST, Readings, Unknown
+from .verdicts import ABSENT, DIFFERENT, MOVED_NOTE, ONLY_MAKER_NOTE, ONLY_REACHED, SAME, SAME_REPAIRED, clause, listed, none_of
 
 MEANING, BYTES, MAKER_NOTE, REPAIR = "meaning", "bytes", "maker note", "repair"
 FIELDS = "fields"  # the meaning but for the fields left out, by the listing of fields, which is tested and not proved
 BASES = (MEANING, FIELDS, BYTES, MAKER_NOTE, REPAIR)
 CODED_PICTURE = "coded picture"  # what groups of another kind rest on, whose metadata may differ
-
+KEEP_ALL = "which one to keep isn't known: equal readings don't show whose offsets are still right"  # of groups that rest on MakerNotes
 
 COUNTED = "temp.counted"  # the pictures without the fields that don't count
 
@@ -56,10 +58,11 @@ class Group:
     links: List[Link] = field(default_factory=list)
     gone: List[bytes] = field(default_factory=list)
     changed: List[bytes] = field(default_factory=list)
+    lost: List[Picture] = field(default_factory=list)  # those that are gone or have changed, where their MakerNotes count
     reasons: Dict[int, str] = field(default_factory=dict)  # the refusals or repairs of a member, by its number
     others: Dict[int, int] = field(default_factory=dict)  # how many more pictures an earlier group has, of which this member is one
     not_read: str = ""  # the parts that were not read, and have the same bytes
-    note: str = ""
+    result: str = ""  # that `changed` has for two of its pictures, where it isn't decided wholly, or a MakerNote differs
     is_partial: bool = False  # they are the same but for fields that are left out
     has_choice: bool = False  # whether fields may be left out
 
@@ -75,7 +78,7 @@ class Group:
         if self.is_partial or self.basis == CODED_PICTURE:  # no digest is of what they have in common
             return {}
         for kind, digest in zip(KINDS, first.meanings):
-            if kind in self.kinds and digest != "":
+            if kind in self.kinds and digest != "" and (kind != EXIF or not self.has_other_notes):
                 found[kind] = digest or (first.repaired if kind == EXIF and self.basis == REPAIR else "") or ""
         return found
 
@@ -90,10 +93,30 @@ class Group:
         """Each picture of the group, or the first ones, by path."""
         return (it.path for it in (self.members if most < 0 else self.members[:most]))
 
-    def to_keep(self) -> Picture:
+    @property
+    def has_other_notes(self) -> bool:
+        """Whether the MakerNotes have different bytes."""
+        return self.basis == MAKER_NOTE and len({_meaning(it) for it in self.members}) > 1
+
+    @property
+    def has_refused(self) -> bool:
+        """Whether a block of a picture is refused or unreadable."""
+        return any(it.meanings[KINDS.index(kind)] is None for it in self.members for kind in self.kinds)
+
+    def to_keep(self) -> Optional[Picture]:
         """The picture that may stay alone: the first one by path. So of all groups that a picture is in, the one that stays is no later
-        one, and a chain of groups ends at a picture that stays."""
-        return min(self.members, key=lambda it: it.path)
+        one, and a chain of groups ends at a picture that stays. None where nothing shows which one it is."""
+        return None if self.rests_on_readings else min(self.members, key=lambda it: it.path)
+
+    @property
+    def rests_on_readings(self) -> bool:
+        """Whether MakerNotes count as the same because ExifTool reads the same: then one of them may be damaged."""
+        return self.basis == MAKER_NOTE or (self.basis == REPAIR and self.has_moved_notes)
+
+    @property
+    def has_moved_notes(self) -> bool:
+        """Whether the MakerNotes are at different places."""
+        return len({it.maker_notes for it in self.members}) > 1
 
     def sentence(self) -> str:
         """What is the same, such as `Exif and IPTC are the same in the same bytes, no XMP`."""
@@ -105,15 +128,24 @@ class Group:
         by_kind = dict(zip(KINDS, first.meanings))
         refused = [it for it in self.kinds if any(picture.meanings[KINDS.index(it)] is None for picture in self.members)]
         there = [it for it in self.kinds if by_kind[it] != "" and it not in refused]
-        parts = [clause(there, SAME, self.same_bytes)] if there else []
+        names = {it: NAMES[it] + " but for the MakerNote" * (it == EXIF and self.has_other_notes) for it in self.kinds}
+        parts = [f"{listed([names[it] for it in there])} the same" + " in the same bytes" * self.same_bytes] if there else []
         for it in refused:
             word = "unreadable" if WORDS[it] == "xmp" else "refused"
-            parts.append(f"{NAMES[it]} is {word}, the same bytes" if self.basis == BYTES else f"{NAMES[it]} is the same after repair")
+            is_by_bytes = self.basis == BYTES or it != EXIF
+            parts.append(f"{names[it]} is {word}, the same bytes" if is_by_bytes else f"{names[it]} is the same after repair")
         none = [] if self.has_choice else [it for it in self.kinds if by_kind[it] == ""]
         text = ", ".join([*parts, *none_of(none)]) + ", but for the fields left out" * self.is_partial
         if self.not_read:
             text += f"; not read, but the same bytes: {self.not_read}"
-        return text + self.note
+        return text + (self._of_notes() if self.rests_on_readings else "")
+
+    def _of_notes(self) -> str:
+        """What is known of the MakerNotes."""
+        if self.result == ONLY_REACHED:
+            return "; bytes that only the MakerNote can reach differ, MakerNote reads the same (ExifTool)"
+        words = ["moved"] * self.has_moved_notes + ["differs in bytes"] * self.has_other_notes
+        return f"; MakerNote {', '.join([*words, 'reads the same'])} (ExifTool)"
 
 
 def _metadata_of(members: Sequence[Picture]) -> str:
@@ -147,13 +179,14 @@ def _queries(kinds: Sequence[str], only: Optional[str]) -> Iterator[_Query]:
     place = ("maker_notes",) * (EXIF in kinds)
     yield _Query(MEANING, (*columns, "not_read", *place), f"{base} AND {known}{chosen}")
     octets = tuple(f"ifnull({it}, 'bytes ' || {it}_octets)" for it in columns)
-    yield _Query(BYTES, (*octets, "not_read"), f"{base} AND NOT ({known}){chosen}")
+    yield _Query(BYTES, (*octets, "not_read", *place), f"{base} AND NOT ({known}){chosen}")
     if len(kinds) == len(KINDS):
         unread = f"((problem IS NULL AND not_read IS NULL) OR problem NOT IN {NOT_THERE})"
         yield _Query(BYTES, ("file",), f"file != '' AND {unread}{chosen}")
     if EXIF in kinds:
-        several = "count(*) > 1 AND count(DISTINCT maker_notes || ' ' || not_read) > 1"
-        yield _Query(MAKER_NOTE, (*columns, "other_not_read"), f"{base} AND {known} AND maker_notes != ''{chosen}", several)
+        several = "count(*) > 1 AND count(DISTINCT ifnull(exif, exif_repaired) || ' ' || maker_notes || ' ' || not_read) > 1"
+        others = ("other_exif", *octets[1:])
+        yield _Query(MAKER_NOTE, (*others, "other_not_read"), f"{base} AND maker_notes != '' AND other_exif != ''{chosen}", several)
         repaired = tuple("ifnull(exif, exif_repaired)" if it == "exif" else it for it in columns)
         after = " AND ".join(f"{it} IS NOT NULL" for it in repaired)
         several = "count(*) > 1 AND sum(exif IS NULL) > 0 AND count(DISTINCT exif_octets) > 1"
@@ -196,18 +229,21 @@ def groups(
     look: bool = True,
     choice: Choice = EVERYTHING,
     fewest: Optional[Fewest] = None,
+    unknown: Optional[Unknown] = None,
 ) -> Iterator[Group]:
     """The groups of two and more different files, those that rest on meaning first, and the largest first.
 
     With `look` each file is looked at: those that are gone or have changed are listed apart and don't count. Fields that the choice leaves
-    out don't count. Raises `UnknownField` if it leaves out everything.
+    out don't count. `unknown` counts the pictures that may be the same as others but for their MakerNotes, by why that isn't known. Raises
+    `UnknownField` if the choice leaves out everything.
     """
     counted = [it for it in kinds if it in choice.kinds]
     if not counted:
         raise UnknownField("nothing is left to compare")
     fewest = fewest or Fewest()
     yielded = 0
-    for group in _all_groups(catalogue, _queries(counted, only), counted, look, _table(catalogue, choice)):
+    readings = Readings(catalogue, look, Counter() if unknown is None else unknown)
+    for group in _all_groups(catalogue, _queries(counted, only), counted, readings, _table(catalogue, choice)):
         if fewest.is_enough(catalogue, group, choice):
             yield group
             yielded += 1
@@ -227,7 +263,8 @@ def _table(catalogue: Catalogue, choice: Choice) -> str:
 
 def of_coded_pictures(catalogue: Catalogue, only: Optional[str] = None, look: bool = True) -> Iterator[Group]:
     """The groups of files with the same coded picture, the largest first."""
-    return _all_groups(catalogue, [_Query(CODED_PICTURE, ("coded_picture",), _coded("!= ''", only))], KINDS, look, "pictures")
+    query = _Query(CODED_PICTURE, ("coded_picture",), _coded("!= ''", only))
+    return _all_groups(catalogue, [query], KINDS, Readings(catalogue, look, Counter()), "pictures")
 
 
 def without_coded_picture(catalogue: Catalogue, only: Optional[str] = None) -> Tuple[int, int]:
@@ -240,8 +277,9 @@ def _coded(words: str, only: Optional[str]) -> str:
     return f"problem IS NULL AND coded_picture {words}" + (f" AND path IN {only}" if only else "")
 
 
-def _all_groups(catalogue: Catalogue, queries: Iterable[_Query], kinds: Sequence[str], look: bool, table: str) -> Iterator[Group]:
+def _all_groups(catalogue: Catalogue, queries: Iterable[_Query], kinds: Sequence[str], readings: Readings, table: str) -> Iterator[Group]:
     """The groups of the pictures in a table."""
+    look = readings.look
     folders = Folders() if look and catalogue.has_sidecars() else None
     for query in queries:
         key = ", ".join(query.key)
@@ -251,20 +289,22 @@ def _all_groups(catalogue: Catalogue, queries: Iterable[_Query], kinds: Sequence
         own = " AND ".join(f"+({it}) = ?" for it in query.key)
         ids = f"SELECT id FROM {table} WHERE {query.where} AND {terms}"
         rows = f"SELECT {PICTURE_COLUMNS}, device FROM {table} WHERE id IN ({ids}) AND {own} ORDER BY +path"
-        kept = f"SELECT {_DIFFERENT} FROM {table} WHERE {query.where} AND {terms}"
         for row in catalogue.rows(heads):
+            counts = _DIFFERENT_BUT_NOTES if query.basis == MAKER_NOTE else _DIFFERENT
+            kept = f"SELECT {counts} FROM {table} WHERE {query.where} AND {terms}"
             meanings, listings, places = next(catalogue.rows(kept, row)) if table == COUNTED else (1, 1, 1)
             if meanings > listings:  # something differs that no field shows
                 continue
             found = catalogue.rows(rows, (*row, *row), lambda *it: (picture_of_row(it[0][:-1]), it[0][-1]))
             group = _there(query.basis, tuple(kinds), found, look, folders)
             group.has_choice = table == COUNTED
-            group.is_partial = meanings > 1 or (places > 1 and query.basis != MAKER_NOTE)
+            group.is_partial = meanings > 1 or places > 1
             group.basis = FIELDS if group.is_partial and query.basis == MEANING else query.basis
-            yield from _groups_of(catalogue, group, look)
+            yield from _groups_of(catalogue, group, readings)
 
 
 _DIFFERENT = "count(DISTINCT whole), count(DISTINCT listing), count(DISTINCT place)"
+_DIFFERENT_BUT_NOTES = "count(DISTINCT other_whole), count(DISTINCT other_listing), 1"
 
 
 def _there(
@@ -280,6 +320,8 @@ def _there(
             state = "changed"
         if state:
             (group.gone if state == "gone" else group.changed).append(it.path)
+            if basis == MAKER_NOTE:
+                group.lost.append(it)
             continue
         of_device = places.setdefault(device if inode else None, {})
         at = of_device.setdefault(inode or it.path, len(group.members))
@@ -324,18 +366,20 @@ def _state(it: Picture) -> Tuple[str, Tuple[int, int]]:
     return "", (now.st_dev, now.st_ino)
 
 
-def _groups_of(catalogue: Catalogue, found: Group, look: bool) -> Iterator[Group]:
+def _groups_of(catalogue: Catalogue, found: Group, readings: Readings) -> Iterator[Group]:
     """The groups of some pictures: one, or several where their MakerNotes read differently."""
-    for group in _by_reading(found, look):
+    split = _by_maker_notes if found.basis == MAKER_NOTE else _by_reading
+    for group in split(found, readings):
         if group.basis in (MAKER_NOTE, REPAIR):
             _take_one_of_each(group)
         if group.count < 2 or (group.basis == REPAIR and all(None not in it.meanings for it in group.members)):
             continue
         first = group.members[0]
+        group.result = _result(group)
         if first.unread != "" and group.basis not in (MAKER_NOTE, CODED_PICTURE):
             group.not_read = ", ".join(each_kind(it.what for it in catalogue.not_read_of(first)))
         texts: Dict[str, str] = {}
-        for it in group.members if group.basis in (BYTES, REPAIR) else ():
+        for it in group.members if group.basis in (BYTES, REPAIR) or (group.basis == MAKER_NOTE and group.has_refused) else ():
             reason = _reason(catalogue, it, group.basis)
             group.reasons[it.id] = texts.setdefault(reason, reason)
         yield group
@@ -344,49 +388,89 @@ def _groups_of(catalogue: Catalogue, found: Group, look: bool) -> Iterator[Group
 def _take_one_of_each(group: Group) -> None:
     """Leaves in a group one picture of each earlier group, and counts the others."""
     by_key: Dict[Tuple[object, ...], List[Picture]] = {}
-    at = [KINDS.index(it) for it in group.kinds]
     for it in group.members:
-        meaning = tuple(it.octets[number] if it.meanings[number] is None else it.meanings[number] for number in at)
-        by_key.setdefault((meaning, it.unread, it.maker_notes), []).append(it)
+        by_key.setdefault(_class_of(it, group.kinds), []).append(it)
     group.members = [same[0] for same in by_key.values()]
     group.others = {same[0].id: len(same) - 1 for same in by_key.values() if len(same) > 1}
     here = {it.path for it in group.members}
     group.links = [it for it in group.links if it.of in here]
 
 
-def _by_reading(group: Group, look: bool) -> Iterator[Group]:
+def _class_of(it: Picture, kinds: Sequence[str]) -> Tuple[object, ...]:
+    """What is equal for pictures of one earlier group."""
+    at = [KINDS.index(kind) for kind in kinds]
+    meaning = tuple(it.octets[number] if it.meanings[number] is None else it.meanings[number] for number in at)
+    return meaning, it.unread, it.maker_notes
+
+
+def _by_reading(group: Group, readings: Readings) -> Iterator[Group]:
     """The group; a group for each reading of the MakerNotes by ExifTool, where they are at different places or in different bytes."""
     written: Dict[Tuple[str, str], Picture] = {}
     for it in group.members:
         written.setdefault(_note_of(it), it)
-    if len(written) < 2 or EXIF not in group.kinds or group.basis in (BYTES, CODED_PICTURE) or not any(place for place, _ in written):
-        if group.basis != MAKER_NOTE:
-            yield group
+    if len(written) < 2 or EXIF not in group.kinds or group.basis == CODED_PICTURE or not any(place for place, _ in written):
+        yield group
         return
-    from . import maker_notes  # which is seldom needed
-    from ..extract.programs import Failed, Missing
-
-    try:
-        asked = maker_notes.values_of([it.path for it in written.values()]) if look else []
-    except (Failed, Missing):
-        asked = []
-    readings = {note: repr(sorted(values.items())) for note, values in zip(written, asked)}
-    if not readings and group.basis == MAKER_NOTE:
-        return  # nothing is known of notes that have moved
-    by_reading: Dict[str, List[Picture]] = {}
+    known = readings.of(written.values())
+    by_reading: Dict[Tuple[object, str], List[Picture]] = {}
     for it in group.members:
-        by_reading.setdefault(readings.get(_note_of(it), it.maker_notes), []).append(it)
+        found = known.get(written[_note_of(it)].id)
+        key = (None, it.maker_notes) if found is None else (found.key, it.maker_notes if found.is_in_doubt else "")
+        by_reading.setdefault(key, []).append(it)
     for pictures in by_reading.values():
-        here = {it.path for it in pictures}
-        links = [it for it in group.links if it.of in here]
-        note = _NOTES[len({it.maker_notes for it in pictures}) > 1] if group.basis == MAKER_NOTE else ""
-        yield replace(group, members=pictures, links=links, note=note, reasons={}, others={})
+        yield _part_of(group, pictures)
 
 
-_NOTES = (
-    "; bytes that only the MakerNote can reach differ, and it reads the same (ExifTool)",
-    "; the MakerNote has moved, and reads the same (ExifTool)",
-)
+def _by_maker_notes(group: Group, readings: Readings) -> Iterator[Group]:
+    """A group for each reading of MakerNotes that differ in bytes or have moved. Counts the pictures of which the reading isn't known."""
+    if len({(_meaning(it), it.unread, it.maker_notes) for it in [*group.members, *group.lost]}) < 2:
+        return
+    written: Dict[Tuple[str, str], Picture] = {}
+    for it in group.members:
+        written.setdefault(_note_of(it), it)
+    known = readings.of(written.values())
+    by_reading: Dict[bytes, List[Picture]] = {}
+    for it in group.members:
+        asked = written[_note_of(it)]
+        found = known.get(asked.id)
+        if found is None or found.is_in_doubt:
+            readings.count(asked)
+        else:
+            by_reading.setdefault(found.key, []).append(it)
+    lost = sum(_note_of(it) not in written for it in group.lost)
+    if lost:
+        readings.unknown[LOST] += lost
+    for pictures in by_reading.values():
+        part = _part_of(group, pictures)
+        if not part.has_other_notes and len({it.unread for it in pictures}) == 1:
+            part.members = [it for it in pictures if not _is_repaired(it)]  # they are in a group that rests on their repair
+        yield part
+
+
+def _part_of(group: Group, pictures: List[Picture]) -> Group:
+    """A group with some of its pictures."""
+    here = {it.path for it in pictures}
+    return replace(group, members=pictures, links=[it for it in group.links if it.of in here], lost=[], reasons={}, others={})
+
+
+def _result(group: Group) -> str:
+    """What `changed` says of two pictures of a group, where a repair or a MakerNote counts."""
+    if group.basis != MAKER_NOTE:
+        return SAME_REPAIRED if group.basis == REPAIR else ""
+    if group.has_moved_notes:
+        return MOVED_NOTE
+    return ONLY_MAKER_NOTE if group.has_other_notes else ONLY_REACHED
+
+
+def _meaning(it: Picture) -> Optional[str]:
+    """The digest of what Exif means, after repair too."""
+    return it.repaired if it.meanings[KINDS.index(EXIF)] is None else it.meanings[KINDS.index(EXIF)]
+
+
+def _is_repaired(it: Picture) -> bool:
+    """Whether the meaning of a picture is known after a repair."""
+    exif, *others = it.meanings
+    return exif is None and None not in others
 
 
 def _note_of(it: Picture) -> Tuple[str, str]:
@@ -399,7 +483,7 @@ def _reason(catalogue: Catalogue, it: Picture, basis: str) -> str:
     query = "SELECT name, cause, repair FROM blocks WHERE picture = ? AND status != 'accepted' ORDER BY number"
     found = []
     for name, cause, repair in catalogue.rows(query, (it.id,)):
-        if basis == REPAIR and repair:
+        if basis in (REPAIR, MAKER_NOTE) and repair:
             found.append(f"{name} repaired in memory: {steps.words(steps.unpacked(repair))}")
         else:
             found.append(f"{name} refused: {cause}")

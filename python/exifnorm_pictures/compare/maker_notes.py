@@ -1,5 +1,6 @@
-"""What ExifTool reads of the MakerNotes of two pictures, asked at once: MakerNotes that were moved or written anew have other bytes, or lead
-to other places, and only readers for their maker know whether they mean the same."""
+"""What ExifTool reads of the MakerNotes of pictures, several in one call: MakerNotes that were moved or written anew have other bytes, or
+lead to other places, and only readers for their maker know whether they mean the same. A MakerNote that ExifTool warns of, or of which it
+reads nothing, is in doubt: then equal values don't show that it reads the same."""
 
 from __future__ import annotations
 
@@ -7,16 +8,20 @@ import hashlib
 import json
 import os
 import zlib
-from typing import Dict, List, NamedTuple, Optional, Sequence
+from collections import Counter
+from typing import Dict, Iterator, List, NamedTuple, Optional, Sequence, Tuple
 
-from ..catalogue.records import Picture, Stamp, is_marked_as
+from ..catalogue.records import Damaged, Picture, Stamp, is_marked_as
 from ..extract import exiftool, programs
+from ..extract.budgets import FIELD_BYTES
 from .sides import KeepsNotes
 
 Values = Dict[str, str]
 
-# -u: tags without a name too; -b: previews too; -sep: lists as one text
-_WORDS = ("-q", "-q", "-m", "-json", "-a", "-u", "-G1:4", "-n", "-b", "-sep", " | ", "-MakerNotes:all")
+# -u: tags without a name too; -b: previews too; -sep: lists as one text. Not -m, which hides most warnings of damaged MakerNotes.
+_WARNINGS = ("-q", "-q", "-json", "-a", "-u", "-G1:4", "-n", "-b", "-sep", " | ", "-ExifTool:Warning", "-ExifTool:Error")
+_WORDS = (*_WARNINGS, "-MakerNotes:all")
+_WITHOUT = "-fast2"  # reads no MakerNote, so it leaves the warnings that have nothing to do with them
 # Numbers that are places in the file, and must change if something moves. What is there is a value of its own.
 _PLACES = (
     "ThumbnailOffset",
@@ -30,6 +35,26 @@ _PLACES = (
     "Unknown_CTBO",  # where the parts of a CR3 are
 )
 LONGEST = 200  # characters of a value that is kept whole
+MANY = 16  # files of one call: what ExifTool writes about them, previews too, is in memory
+
+
+class Reading(NamedTuple):
+    """The values of a picture's MakerNotes, and what ExifTool warns of as it reads them."""
+
+    values: Values
+    warnings: Tuple[str, ...] = ()
+
+    @property
+    def doubt(self) -> str:
+        """Why equal values don't show that they are read right; empty if nothing speaks against it."""
+        if self.warnings:
+            return f"ExifTool warns of it: {self.warnings[0]}"
+        return "" if self.values else "ExifTool reads nothing of it"
+
+    @property
+    def key(self) -> bytes:
+        """Equal for equal readings, in 32 bytes."""
+        return hashlib.sha256(repr((sorted(self.values.items()), self.warnings)).encode("utf-8", "surrogatepass")).digest()
 
 
 class Difference(NamedTuple):
@@ -40,12 +65,45 @@ class Difference(NamedTuple):
     after: Optional[str]
 
 
-def values_of(paths: Sequence[bytes]) -> List[Values]:
-    """The values of the MakerNotes of some files, in one call. Raises `programs.Failed` and `programs.Missing`."""
-    return [
-        {name: _short(value) for name, value in answer.items() if name.rpartition(":")[2] not in _PLACES}
-        for answer in exiftool.ask_several(paths, (), _WORDS)
-    ]
+def readings_of(paths: Sequence[bytes]) -> List[Reading]:
+    """What ExifTool reads of the MakerNotes of some files. Raises `programs.Failed` and `programs.Missing`."""
+    return [it for at in range(0, len(paths), MANY) for it in _asked(paths[at : at + MANY])]
+
+
+def _asked(paths: Sequence[bytes]) -> List[Reading]:
+    answers = exiftool.ask_several(paths, (), _WORDS)
+    warnings = [sorted(value for name, value in it.items() if _is_warning(name)) for it in answers]
+    warned = [number for number, some in enumerate(warnings) if some]
+    if warned:
+        others = exiftool.ask_several([paths[number] for number in warned], (), (*_WARNINGS, _WITHOUT))
+        for number, it in zip(warned, others):
+            warnings[number] = sorted((Counter(warnings[number]) - Counter(it.values())).elements())
+    return [Reading(_values(it), tuple(some)) for it, some in zip(answers, warnings)]
+
+
+def _is_warning(name: str) -> bool:
+    return name.partition(":")[0] == "ExifTool"
+
+
+def _values(answer: Dict[str, str]) -> Values:
+    return {name: _short(value) for name, value in answer.items() if not _is_warning(name) and name.rpartition(":")[2] not in _PLACES}
+
+
+def each_reading(paths: Sequence[bytes]) -> Iterator[Optional[Reading]]:
+    """What ExifTool reads of the MakerNotes of each file; None for one at which it fails. Raises `programs.Missing`."""
+    for at in range(0, len(paths), MANY):
+        some = paths[at : at + MANY]
+        try:
+            yield from _asked(some)
+        except programs.Failed:
+            yield from map(_by_itself, some)
+
+
+def _by_itself(path: bytes) -> Optional[Reading]:
+    try:
+        return _asked([path])[0]
+    except programs.Failed:
+        return None
 
 
 def _short(value: str) -> str:
@@ -61,19 +119,34 @@ def differences(before: Values, after: Values) -> List[Difference]:
     return [Difference(it, before.get(it), after.get(it)) for it in dict.fromkeys([*before, *after]) if before.get(it) != after.get(it)]
 
 
-def packed(values: Values) -> bytes:
-    """Values for a catalogue."""
-    return zlib.compress(json.dumps(values).encode("ascii"), 6)
+def packed(reading: Reading) -> bytes:
+    """A reading for a catalogue."""
+    return zlib.compress(json.dumps(reading).encode("ascii"), 6)
 
 
-def unpacked(octets: bytes) -> Values:
-    """Values from the result of `packed`."""
-    return dict(json.loads(zlib.decompress(octets)))
+def unpacked(octets: bytes) -> Reading:
+    """A reading from the result of `packed`. Raises `Damaged` for anything else."""
+    try:
+        opening = zlib.decompressobj()
+        values, warnings = json.loads(opening.decompress(octets, FIELD_BYTES))
+        if all(isinstance(it, str) for it in (*warnings, *values, *values.values())):
+            return Reading(dict(values), tuple(warnings))
+    except (zlib.error, ValueError, TypeError, AttributeError, RecursionError) as error:
+        raise Damaged(f"readings of MakerNotes that can't be read: {error}") from error
+    raise Damaged("readings of MakerNotes have something else than texts")
 
 
-def compared(before: KeepsNotes, one: Picture, after: KeepsNotes, other: Picture) -> Optional[List[Difference]]:
-    """The values that differ between two pictures; None if they aren't known: a file has changed since, or there is no ExifTool."""
-    known: Dict[int, Values] = {}
+class Compared(NamedTuple):
+    """The values that differ between two pictures. If none does, why that may mean nothing, and whether only one of the two is warned of so."""
+
+    differences: List[Difference]
+    doubt: str = ""
+    is_new: bool = False
+
+
+def compared(before: KeepsNotes, one: Picture, after: KeepsNotes, other: Picture) -> Optional[Compared]:
+    """Two pictures compared; None if a reading isn't known: a file has changed since, or there is no ExifTool."""
+    known: Dict[int, Reading] = {}
     for number, (catalogue, it) in enumerate(((before, one), (after, other))):
         kept = catalogue.maker_notes(it)
         if kept is not None:
@@ -82,10 +155,12 @@ def compared(before: KeepsNotes, one: Picture, after: KeepsNotes, other: Picture
             return None
     missing = [number for number in (0, 1) if number not in known]
     try:
-        known.update(zip(missing, values_of([(one, other)[number].path for number in missing]) if missing else ()))
+        known.update(zip(missing, readings_of([(one, other)[number].path for number in missing]) if missing else ()))
     except (programs.Failed, programs.Missing):
         return None
-    return differences(known[0], known[1])
+    first, second = known[0], known[1]
+    found = differences(first.values, second.values)
+    return Compared(found) if found else Compared([], second.doubt or first.doubt, first.warnings != second.warnings)
 
 
 def is_there(it: Picture) -> bool:

@@ -132,10 +132,11 @@ def _is_identical(one: bytes, other: bytes) -> bool:
 
 def _picture(it: PictureRecord) -> Picture:
     """A picture as a catalogue would keep it."""
-    exif, iptc, packet, unread, _, *octets, repaired, notes = digests(it)
+    found = digests(it)
     size, *more = it.stamp[:4] if it.stamp else (None,) * 4
-    known = (it.path, it.root, it.type, it.extractor, it.problem, it.detail, size, unread, (exif, iptc, packet), tuple(map(str, octets)))
-    return Picture(0, *known, (size, *more), repaired, notes or "", it.file)
+    by_kind = (found.exif, found.iptc, found.xmp), (found.exif_octets, found.iptc_octets, found.xmp_octets)
+    known = (it.path, it.root, it.type, it.extractor, it.problem, it.detail, size, found.not_read, *by_kind)
+    return Picture(0, *known, (size, *more), found.exif_repaired, found.maker_notes, it.file)
 
 
 # The rows of the table

@@ -21,6 +21,7 @@ MOVED_NOTE = "the same but for a MakerNote that moved"  # and that ExifTool read
 SAME_REPAIRED, DIFFERENT_REPAIRED = "the same after repair", "different after repair"
 NOT_WHOLLY_READ = "not wholly read"
 ONLY_REACHED = "only bytes that a MakerNote can reach differ"
+ONLY_MAKER_NOTE = "only MakerNote differs"
 REACHED = " that only the MakerNote can reach"  # the end of the name of such bytes
 
 
@@ -159,10 +160,17 @@ def sentence(found: Sequence[Verdict], open_parts: Sequence[str] = ()) -> str:
 
 def clause(kinds: Sequence[str], result: str, same_bytes: bool) -> str:
     """The result of some kinds, as `Exif and IPTC are the same in the same bytes`."""
-    names = [NAMES[it] for it in kinds]
-    listed = names[0] if len(names) == 1 else ", ".join(names[:-1]) + " and " + names[-1]
-    words = f"{listed} {'is' if len(names) == 1 else 'are'} {'the same' if result == SAME else result}"
+    words = f"{listed([NAMES[it] for it in kinds])} {'the same' if result == SAME else result}"
     return words + (" in the same bytes" if same_bytes else "")
+
+
+def listed(names: Sequence[str]) -> str:
+    """Some names with their verb.
+
+    >>> listed(["Exif"]), listed(["Exif", "IPTC", "XMP"])
+    ('Exif is', 'Exif, IPTC and XMP are')
+    """
+    return f"{names[0]} is" if len(names) == 1 else f"{', '.join(names[:-1])} and {names[-1]} are"
 
 
 def none_of(kinds: Sequence[str]) -> List[str]:

@@ -39,7 +39,7 @@ class Export:
             self._picture(it)
             progress.done(count)
         for number, group in enumerate(groups(self.catalogue, only=self.only, look=self.look), 1):
-            keep = group.to_keep() if self.look else None
+            keep = group.to_keep() if self.look else None  # None too where nobody knows which to keep
             about = (number, group.basis, group.sentence())
             self.tables.add("groups", ((*about, it.id, None if keep is None else int(it is keep)) for it in group.members))
 

@@ -11,7 +11,7 @@ from .. import xmp
 from ..catalogue.records import FAILED, TOO_LONG, Block
 from ..compare.verdicts import ACCEPTED, REFUSED, UNREADABLE
 from ..fields import normal_form
-from ..fields.listing import packed
+from ..fields.listing import digest_but_note, packed, packed_text, text_of_fields
 from ..refusals import repairs, steps
 from . import structure
 from .formats.found import COMPRESSED, EXIF, FEW, IPTC, NAMES, XMP, Blocks, FoundBlock
@@ -36,7 +36,8 @@ def judge(kind: str, block: bytes, with_fields: bool = False, at: FoundBlock = _
     digest = octets if form == block else hashlib.sha256(form).hexdigest()
     if not with_fields:
         return Block(kind, *at[2:5], ACCEPTED, digest, None, None, len(block), octets)
-    return Block(kind, *at[2:5], ACCEPTED, digest, None, None, len(block), octets, packed(normal_form.fields(form)))
+    kept, but_note = _kept(form)
+    return Block(kind, *at[2:5], ACCEPTED, digest, None, None, len(block), octets, kept, but_note=but_note)
 
 
 def _repaired(it: Block, block: bytes) -> Block:
@@ -44,9 +45,15 @@ def _repaired(it: Block, block: bytes) -> Block:
     found = repairs.repaired(block)
     if found is None:
         return it
-    return it._replace(
-        kept=packed(normal_form.fields(found.form)), repair=steps.packed(found.steps), repaired=hashlib.sha256(found.form).hexdigest()
-    )
+    kept, but_note = _kept(found.form)
+    return it._replace(kept=kept, repair=steps.packed(found.steps), repaired=hashlib.sha256(found.form).hexdigest(), but_note=but_note)
+
+
+def _kept(form: bytes) -> Tuple[bytes, Optional[str]]:
+    """The fields of a normal form for a catalogue, and their digest without the MakerNote if there is one."""
+    found = normal_form.fields(form)
+    text = text_of_fields(found)
+    return packed_text(text, len(found)), digest_but_note(text, found)
 
 
 def _says_nothing(it: FoundBlock) -> bool:

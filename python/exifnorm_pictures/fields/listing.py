@@ -178,10 +178,19 @@ def packed(found: List[Field]) -> bytes:
     >>> packed([Field("main", "010f", "ASCII", 4, '"abc"')])
     b'[["main","010f","ASCII",4,"\\\\"abc\\\\""]]'
     """
+    return packed_text(text_of_fields(found), len(found))
+
+
+def text_of_fields(found: List[Field]) -> bytes:
+    """The fields as JSON."""
     lists = [f"[{_quoted(it[0])},{_quoted(it[1])},{_quoted(it[2])},{it[3]},{_quoted(it[4])}]" for it in found]
-    text = f"[{','.join(lists)}]".encode("ascii")
+    return f"[{','.join(lists)}]".encode("ascii")
+
+
+def packed_text(text: bytes, count: int) -> bytes:
+    """So many fields, as JSON, as few bytes."""
     if len(text) > FIELD_BYTES:  # more than can be unpacked again
-        return packed([Field("", "", "", len(found), f"too many to be kept; sha256:{hashlib.sha256(text).hexdigest()[:DIGITS]}")])
+        return packed([Field("", "", "", count, f"too many to be kept; sha256:{hashlib.sha256(text).hexdigest()[:DIGITS]}")])
     if len(text) <= _SHORTEST:
         return text
     if len(text) > _SHORT:
@@ -217,6 +226,24 @@ _TYPES = [str, str, str, int, str]
 
 
 MAKER_NOTE = ("exif", "927c")
+_NOTE = b'["exif","927c",'  # how it begins in JSON, where a text has no quote without a backslash before it
+
+
+def digest_but_note(text: bytes, found: List[Field]) -> Optional[str]:
+    """BLAKE2b of fields, given as JSON too, without their MakerNote; None if they have none. It takes half the time of SHA-256.
+
+    >>> note, other = Field("exif", "927c", "UNDEFINED", 1, "0x00"), Field("main", "010f", "ASCII", 4, '"abc"')
+    >>> digests = [digest_but_note(text_of_fields(it), it) for it in ([other, note], [other, note._replace(shown="0x01")], [other])]
+    >>> digests[0] == digests[1], digests[2]
+    (True, None)
+    """
+    start = text.find(_NOTE)
+    if start < 0:
+        return None
+    note = next(it for it in found if it[:2] == MAKER_NOTE)
+    rest = hashlib.blake2b(text[:start], digest_size=32)
+    rest.update(text[start + len(text_of_fields([note])) - 2 :])
+    return rest.hexdigest()
 
 
 def is_rest(where: str, key: str) -> bool:

@@ -16,6 +16,7 @@ from ..compare import changed, groups
 from ..compare.differing import bare
 from ..compare.wording import sides
 from ..compare.conflicts import Conflict
+from ..compare.readings import Unknown
 from ..fields.choosing import EVERYTHING, Choice
 from .contradictions import Contradictions, checked, texts
 
@@ -81,6 +82,7 @@ class Gathered:
     all_problems: int = 0
     groups: List[Tuple[int, str, List[bytes]]] = field(default_factory=list)  # size, the parts that are the same, first pictures
     all_groups: Tuple[int, int] = (0, 0)  # groups, and pictures in them
+    unknown: Unknown = field(default_factory=Counter)  # pictures that may be in a group by their MakerNotes, by why nobody knows
     contradictions: Contradictions = field(default_factory=Contradictions)
     results: "Counter[str]" = field(default_factory=Counter)
     changed: List[EqualChanges] = field(default_factory=list)
@@ -113,8 +115,11 @@ def gather(about: About) -> Gathered:
             kept_.append(it)
     _gather_parts(found, about)
     found.all_groups = groups.totals(catalogue, only=about.table(), choice=about.choice)
-    for group in groups.groups(catalogue, only=about.table(), most=MOST_GROUPS, look=about.look, choice=about.choice):
-        found.groups.append((group.count, group.sentence(), list(group.pictures(MOST_OF_GROUP))))
+    for group in groups.groups(
+        catalogue, only=about.table(), most=MOST_GROUPS, look=about.look, choice=about.choice, unknown=found.unknown
+    ):
+        sentence = group.sentence() + f"; {groups.KEEP_ALL}" * group.rests_on_readings
+        found.groups.append((group.count, sentence, list(group.pictures(MOST_OF_GROUP))))
     for one in checked(catalogue, catalogue.pictures(about.table()), about.look):
         found.contradictions.add(one, MOST_CONTRADICTIONS)
     if about.old is not None:
@@ -195,10 +200,13 @@ def members(about: About) -> Iterator[Members]:
         "causes": dict(causes),
         **({"unproved": without_proof} if without_proof else {}),
     }
-    for group in groups.groups(catalogue, only=about.table(), look=about.look, choice=about.choice):
+    unknown: Unknown = Counter()
+    for group in groups.groups(catalogue, only=about.table(), look=about.look, choice=about.choice, unknown=unknown):
         wholly_read = not group.not_read and group.basis == groups.MEANING
         known = {"description": group.sentence(), "basis": group.basis, "same_bytes": group.same_bytes, "wholly_read": wholly_read}
         yield {"same": [path_members(it) for it in group.pictures()], **known}
+    if unknown:
+        yield {"maker_notes_unknown": dict(unknown)}
     if about.old is not None:
         yield from _changed_members(about)
     for one in checked(catalogue, catalogue.pictures(about.table()), about.look):

@@ -11,6 +11,7 @@ from typing import Dict, List, Optional, Tuple
 
 from ..cli.output import escaped, safe, shown_path
 from ..compare import changed, verdicts
+from ..compare.readings import of_unknown
 from ..compare.conflicts import Conflict
 from ..extract.formats.found import PROBLEMS
 from ..fields.labels import STANDARDS
@@ -138,7 +139,7 @@ def _bars(counts: List[Tuple[str, int]], tone: str, tones: Optional[Dict[str, st
 
 _RESULT_TONES = {
     verdicts.SAME: "good",
-    changed.ONLY_MAKER_NOTE: "plain",
+    verdicts.ONLY_MAKER_NOTE: "plain",
     changed.REFUSED_SAME: "plain",
     verdicts.REFUSED: "bad",
     changed.NOT_READ: "bad",
@@ -210,6 +211,8 @@ def _groups(found: Gathered) -> str:
             parts.append(f"<li>{image}{_name(path, found.roots)}</li>")
         parts.append("</ul>" + _more(count, MOST_OF_GROUP, "pictures") + "</div>")
     parts.append(_more(found.all_groups[0], MOST_GROUPS, "groups"))
+    if found.unknown:
+        parts.append(f'<p class="note">{_text(of_unknown(found.unknown))}</p>')
     return "".join(parts) + "</section>\n"
 
 

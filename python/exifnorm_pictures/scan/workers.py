@@ -88,7 +88,7 @@ def _maker_notes(path: bytes, judged: Sequence[Block]) -> Optional[bytes]:
         return None
     from ..compare import maker_notes
 
-    return maker_notes.packed(maker_notes.values_of([path])[0])
+    return maker_notes.packed(maker_notes.readings_of([path])[0])
 
 
 def _coded_picture(path: bytes, blocks: Blocks) -> str:

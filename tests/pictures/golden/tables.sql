@@ -1,4 +1,4 @@
--- version 4
+-- version 5
 CREATE TABLE blocks (
     picture INTEGER NOT NULL REFERENCES pictures(id) ON DELETE CASCADE,
     number INTEGER NOT NULL,        -- the order in the file
@@ -47,6 +47,7 @@ CREATE TABLE pictures (
     xmp TEXT,
     not_read TEXT,                  -- SHA-256 of what was not read; empty: all was read; NULL: it can't be compared
     other_not_read TEXT,            -- the same without the bytes that only a MakerNote can reach
+    other_exif TEXT NOT NULL,       -- BLAKE2b of the fields of Exif without the MakerNotes, after repairs too; empty: there is none
     exif_octets TEXT NOT NULL,      -- SHA-256 of the blocks of a kind as they are in the file; empty if there is none
     iptc_octets TEXT NOT NULL,
     xmp_octets TEXT NOT NULL,
@@ -59,6 +60,7 @@ CREATE TABLE pictures (
 );
 CREATE INDEX pictures_by_coded_picture ON pictures (coded_picture) WHERE coded_picture != '';
 CREATE INDEX pictures_by_content ON pictures (exif, iptc, xmp, not_read) WHERE problem IS NULL;
+CREATE INDEX pictures_by_other_exif ON pictures (other_exif) WHERE other_exif != '';
 CREATE TABLE runs (
     id INTEGER PRIMARY KEY,
     started TEXT NOT NULL,          -- UTC

@@ -1,0 +1,78 @@
+"""What ExifTool reads of the MakerNotes of a catalogue's pictures, as `same` needs it, and why that isn't known of some."""
+
+from __future__ import annotations
+
+import contextlib
+from collections import Counter
+from typing import TYPE_CHECKING, Dict, Iterable, NamedTuple, Optional
+
+from ..catalogue.records import Picture
+from ..catalogue.store import Catalogue
+
+if TYPE_CHECKING:
+    from . import maker_notes
+
+# Why it isn't known whether ExifTool reads the same of some MakerNotes
+NOT_LOOKED_AT, NO_EXIFTOOL, LOST, IN_DOUBT, FAILED = "not looked at", "no ExifTool", "gone or changed", "in doubt", "failed"
+WHY = {
+    NOT_LOOKED_AT: "with --no-look ExifTool isn't asked",
+    NO_EXIFTOOL: "ExifTool isn't installed (Debian: libimage-exiftool-perl)",
+    LOST: "the file is gone or has changed",
+    IN_DOUBT: "ExifTool warns of the MakerNote, or reads nothing of it",
+    FAILED: "ExifTool fails at the file",
+}
+Unknown = Counter[str]  # pictures, by such a reason
+
+
+def of_unknown(unknown: Unknown) -> str:
+    """How many pictures may be in a group that rests on MakerNotes, and why nobody knows.
+
+    >>> of_unknown(Counter({LOST: 1}))
+    '1 picture may be the same as others but for MakerNotes: the file is gone or has changed'
+    """
+    count = sum(unknown.values())
+    reasons = [f"{WHY[it]} ({number:,})" if number < count else WHY[it] for it, number in unknown.items()]
+    return f"{count:,} picture{'s' * (count > 1)} may be the same as others but for MakerNotes: {', '.join(reasons)}"
+
+
+class Read(NamedTuple):
+    """What identifies a reading, and whether it may mean nothing."""
+
+    key: bytes
+    is_in_doubt: bool
+
+    @classmethod
+    def of(cls, it: "maker_notes.Reading") -> "Read":
+        return cls(it.key, bool(it.doubt))
+
+
+class Readings:
+    """What ExifTool reads of the MakerNotes of a catalogue's pictures: each is asked for once, if it isn't kept, and only its key is in memory."""
+
+    def __init__(self, catalogue: Catalogue, look: bool, unknown: Unknown) -> None:
+        self.catalogue, self.look, self.unknown = catalogue, look, unknown
+        self._known: Dict[int, Optional[Read]] = {}
+
+    def of(self, pictures: Iterable[Picture]) -> Dict[int, Optional[Read]]:
+        """The readings of some pictures and of earlier ones, by their numbers: None for one at which ExifTool fails."""
+        from . import maker_notes  # which is seldom needed
+        from ..extract.programs import Missing
+
+        wanted = [it for it in pictures if it.id not in self._known] if self.look else []
+        for it in wanted:
+            kept = self.catalogue.maker_notes(it)
+            if kept is not None:
+                with self.catalogue.guarded():
+                    self._known[it.id] = Read.of(maker_notes.unpacked(kept))
+        asked = [it for it in wanted if it.id not in self._known]
+        with contextlib.suppress(Missing):
+            for it, found in zip(asked, maker_notes.each_reading([it.path for it in asked])):
+                self._known[it.id] = None if found is None else Read.of(found)
+        return self._known
+
+    def count(self, it: Picture) -> None:
+        """Counts a picture of which the reading isn't known, or may mean nothing."""
+        if self._known.get(it.id):
+            self.unknown[IN_DOUBT] += 1
+        else:
+            self.unknown[FAILED if it.id in self._known else NO_EXIFTOOL if self.look else NOT_LOOKED_AT] += 1

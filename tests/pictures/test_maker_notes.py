@@ -1,0 +1,389 @@
+"""Groups of pictures that differ only in their MakerNotes, of which ExifTool reads the same: which pairs are in one, what is said of the
+others, that `compare` gives the same answer, and how often ExifTool is asked."""
+
+import contextlib
+import itertools
+import json
+import os
+import sqlite3
+
+import hypothesis
+import hypothesis.strategies as st
+import pytest
+from exifnorm_pictures.cli import main
+from exifnorm_pictures.extract import exiftool
+from exifnorm_pictures.fields.listing import MAKER_NOTE, Field, digest_but_note, text_of_fields
+from made_blocks import ASCII, LONG, UNDEFINED, block, entry, table
+from made_files import app1, app1_xmp, exif, jpeg, title
+from studio import needs
+
+
+def short(text):
+    return int.from_bytes(text.ljust(4, b"\0"), "big")
+
+
+# Canon's MakerNote is a directory whose offsets count from the header of the block. 0006 is the type of the image, and 0009 the owner's name.
+
+
+def around(note, moved=0, maker=b"Canon", artist=b"Ann", unsorted=False):
+    """A block with a MakerNote, which is made by its place; it begins further behind if it has moved."""
+    entries = [entry(0x010F, ASCII, 6, 68), entry(0x013B, ASCII, 4, short(artist)), entry(0x8769, LONG, 1, 50)]
+    octets = note(74 + moved)
+    main_directory = block([entries[1], entries[0], entries[2]] if unsorted else entries)
+    return main_directory + table([entry(0x927C, UNDEFINED, len(octets), 74 + moved)]) + maker + b"\0" + bytes(moved) + octets
+
+
+def noted(owner=b"Annette", inside=b"", wrong=0, hidden=b"", bad=False, more=(), **others):
+    """A picture with a MakerNote that has bytes inside that no value has. Its offset may be wrong, a value may lie outside the file, and bytes
+    may follow that only the MakerNote can lead to."""
+    outside = [entry(0x0006, ASCII, 99, 60_000)] * bad
+
+    def note(start):
+        head = 2 + 12 * (1 + len(outside)) + 4
+        return table([*outside, entry(0x0009, ASCII, 8, start + head + len(inside) + wrong)]) + inside + owner + b"\0"
+
+    return jpeg(app1(around(note, **others) + hidden), *more)
+
+
+def bare(octets, *more, **others):
+    """A picture with a MakerNote of these bytes, which lead nowhere."""
+    return jpeg(app1(around(lambda _: octets, **others)), *more)
+
+
+SHORT = table([entry(0x0009, ASCII, 4, short(b"Eva"))])
+FILES = {
+    "plain": noted(),
+    "moved": noted(moved=64),
+    "rewritten": noted(inside=b"Anna"),
+    "rewritten, moved": noted(inside=b"Otto", moved=64),
+    "of another owner": noted(b"Ottilie"),
+    "with a wrong offset": noted(moved=64, wrong=-3),
+    "with another artist": noted(artist=b"Eva"),
+    "hidden": noted(hidden=b"Anna"),
+    "hidden otherwise, moved": noted(hidden=b"Otto", moved=64),
+    "warned of": noted(bad=True),
+    "warned of, moved": noted(bad=True, moved=64),
+    "of nobody": bare(b"\7\1Note of nobody", maker=b"Nobdy"),
+    "of nobody, moved": bare(b"\7\1Note of nobody", moved=64, maker=b"Nobdy"),
+    "short": bare(SHORT),
+    "short, moved": bare(SHORT, moved=64),
+    "short, unsorted, moved": bare(SHORT, moved=64, unsorted=True),
+    "short, with unreadable XMP": bare(SHORT, app1_xmp(b"<x")),
+    "short, with unreadable XMP, moved": bare(SHORT, app1_xmp(b"<x"), moved=64),
+    "with a second Exif": noted(more=[app1(exif(b"abc"))]),
+    "with a second Exif, moved": noted(moved=64, more=[app1(exif(b"abc"))]),
+    "with another second Exif, moved": noted(moved=64, more=[app1(exif(b"xyz"))]),
+    "unsorted": noted(unsorted=True),
+    "unsorted, moved": noted(unsorted=True, moved=64),
+    "unsorted, rewritten, moved": noted(unsorted=True, inside=b"Anna", moved=64),
+    "with XMP": noted(more=[app1_xmp(title("one"))]),
+    "with XMP, moved": noted(moved=64, more=[app1_xmp(title("one"))]),
+    "with other XMP, moved": noted(moved=64, more=[app1_xmp(title("two"))]),
+    "with unreadable XMP": noted(more=[app1_xmp(b"<x")]),
+    "with the same unreadable XMP, rewritten": noted(inside=b"Anna", more=[app1_xmp(b"<x")]),
+    "with other unreadable XMP, rewritten": noted(inside=b"Anna", more=[app1_xmp(b"<y")]),
+}
+
+
+@pytest.fixture
+def run(folder, monkeypatch, capsys):
+    """Runs a command with --json in the test's folder: the status, and the objects."""
+    monkeypatch.chdir(folder)
+
+    def call(*words):
+        capsys.readouterr()
+        status = main._run([*words, "--json"])
+        printed = capsys.readouterr()
+        assert status < 3, printed.err
+        return status, [json.loads(it) for it in printed.out.splitlines()]
+
+    return call
+
+
+@pytest.fixture
+def put(run, folder):
+    """Writes some pictures, and indexes them."""
+
+    def call(*more, **pictures):
+        (folder / "p").mkdir(exist_ok=True)
+        for name, octets in pictures.items():
+            (folder / f"p/{name}.jpg").write_bytes(octets)
+        assert run("index", "p", "--catalogue", "c", "--quiet", *more)[0] == 0
+
+    return call
+
+
+@pytest.fixture
+def same(run):
+    """The status of `same`, its groups, and the pictures that may be in one by their MakerNotes."""
+
+    def call(*words):
+        status, (*groups, summary) = run("same", "--catalogue", "c", *words)
+        return status, groups, summary["maker_notes_unknown"]
+
+    return call
+
+
+@pytest.fixture
+def asked(monkeypatch):
+    """The files of each question to ExifTool about MakerNotes."""
+    calls = []
+    ask = exiftool.Session.ask
+
+    def watched(session, paths, words, options):
+        calls.append([os.path.basename(os.fsdecode(it)) for it in paths])
+        return ask(session, paths, words, options)
+
+    monkeypatch.setattr(exiftool.Session, "ask", watched)
+    return calls
+
+
+def names(group):
+    return [os.path.basename(it["path"])[:-4] for it in group["pictures"]]
+
+
+def beside(name):
+    """What a picture has beside its MakerNote. Pairs that differ in that differ in any case, so one such pair is enough."""
+    return next((it for it in ("unreadable XMP", "XMP", "second Exif") if it in name), "")
+
+
+PAIRS = [it for it in itertools.combinations(FILES, 2) if beside(it[0]) == beside(it[1]) or it[0] == "plain"]
+
+# what `compare` says of a pair of which ExifTool may read the same
+BY_NOTES = (
+    "the same but for a MakerNote that moved",
+    "only bytes that a MakerNote can reach differ",
+    "only MakerNote differs",
+    "different after repair",
+)
+
+
+def basis_by(found):
+    """What a group of two pictures rests on by the answer of `compare`; None for no group."""
+    if found["result"] == "the same after repair":
+        return "repair"
+    reads = "reads the same (ExifTool)" in found["note"] and "XMP is unreadable," not in found["note"]
+    only_notes = all(it["name"].startswith("ExifIFD:MakerNote") for it in found["fields"])
+    return "maker note" if reads and only_notes and found["result"] in BY_NOTES else None
+
+
+@pytest.fixture
+def one_exiftool(folder, monkeypatch):
+    """One ExifTool for all commands of a test: each would start its own."""
+    finish = exiftool.finish
+    exiftool.begin(str(folder / "room"))
+    with monkeypatch.context() as patched:
+        for it in ("begin", "finish"):
+            patched.setattr(exiftool, it, lambda *_: None)
+        yield
+    finish()
+
+
+@needs("exiftool")
+def test_compare_and_same_agree(run, folder, one_exiftool):
+    """On each pair of pictures: whether it is a group, what that rests on, and the status."""
+    for name, octets in FILES.items():
+        (folder / f"{name}.jpg").write_bytes(octets)
+    run("index", ".", "--catalogue", "c", "--quiet")
+    found, wrong = set(), []
+    for pair in PAIRS:
+        status, (answer,) = run("compare", *(f"{it}.jpg" for it in pair))
+        (folder / "list").write_text("".join(f"{it}.jpg\n" for it in pair))
+        status_of_same, (*groups, _) = run("same", "--catalogue", "c", "--files-from", "list")
+        due, bases = basis_by(answer), [it["basis"] for it in groups]
+        found.add((answer["result"], due))
+        if bases != [due] * bool(due) or (due and status_of_same != status):
+            wrong.append((pair, answer["result"], answer["note"], status, bases, status_of_same))
+    assert not wrong, "\n".join(map(str, wrong))
+    assert {it for it, due in found if due == "maker note"} == set(BY_NOTES), "each of these answers is tried"
+    assert (BY_NOTES[0], None) not in found and (BY_NOTES[2], None) in found
+
+
+@needs("exiftool")
+@pytest.mark.parametrize(
+    "one, other, words, status",
+    [
+        ("short", "short, moved", ["Exif is the same", "MakerNote moved, reads the same (ExifTool)"], 2),
+        ("plain", "rewritten, moved", ["Exif but for the MakerNote", "MakerNote moved, differs in bytes, reads the same (ExifTool)"], 2),
+        ("plain", "rewritten", ["Exif but for the MakerNote", "; MakerNote differs in bytes, reads the same (ExifTool)"], 1),
+        ("plain", "hidden", ["Exif is the same", "bytes that only the MakerNote can reach differ"], 2),
+        ("plain", "unsorted, rewritten, moved", ["Exif but for the MakerNote is the same after repair"], 2),
+        ("with XMP", "with XMP, moved", ["Exif but for the MakerNote and XMP are the same"], 2),
+        ("with unreadable XMP", "with the same unreadable XMP, rewritten", ["XMP is unreadable, the same bytes"], 1),
+    ],
+)
+def test_what_a_group_says(put, same, called, one, other, words, status):
+    """Also that nothing says which picture to keep."""
+    put(a=FILES[one], b=FILES[other])
+    found, groups, unknown = same()
+    (group,) = [it for it in groups if it["basis"] == "maker note"]
+    assert (found, names(group), unknown) == (status, ["a", "b"], {})
+    assert all(it in group["description"] for it in words), group["description"]
+    assert [it["keep"] for it in group["pictures"]] == [None, None]
+    _, printed, _ = called("same", "--catalogue", "c")
+    assert group["description"] in printed and "which one to keep isn't known" in printed
+    _, table, _ = called("same", "--catalogue", "c", "--csv")
+    assert table.count(",maker note,") == table.count("which one to keep isn't known") == 2
+
+
+@needs("exiftool")
+def test_a_repair_shows_no_more(put, same):
+    """Of pictures that are the same after a repair, and whose MakerNotes have moved, none is marked to keep either."""
+    put(a=FILES["short"], b=FILES["short, unsorted, moved"])
+    status, (group,), _ = same()
+    assert (status, group["basis"], [it["keep"] for it in group["pictures"]]) == (2, "repair", [None, None])
+    assert "MakerNote moved, reads the same (ExifTool)" in group["description"]
+
+
+@needs("exiftool")
+def test_pictures_that_mean_the_same_are_one(put, same, asked):
+    """One of them is listed, and one of them is asked about."""
+    put(**{f"{name}{number}": octets for name, octets in (("a", noted()), ("b", noted(inside=b"Anna", moved=64))) for number in range(3)})
+    _, groups, _ = same()
+    assert [(it["basis"], names(it)) for it in groups[:2]] == [("meaning", ["a0", "a1", "a2"]), ("meaning", ["b0", "b1", "b2"])]
+    assert (names(groups[2]), [it["others"] for it in groups[2]["pictures"]]) == (["a0", "b0"], [2, 2])
+    assert asked == [["a0.jpg", "b0.jpg"]]
+
+
+@needs("exiftool")
+def test_many_candidates(put, same, asked):
+    """Each MakerNote is asked about once, several in a call, and groups are by what is read. Without candidates nothing is asked."""
+    put(**{f"n{number:02}": noted(moved=4 * number, owner=b"Ottilie" if number % 3 else b"Annette") for number in range(40)})
+    _, groups, unknown = same()
+    assert sorted(len(names(it)) for it in groups) == [14, 26] and unknown == {}
+    assert sorted(it for call in asked for it in call) == [f"n{number:02}.jpg" for number in range(40)]
+    assert len(asked) == 3, "16 in each call"
+
+
+def test_without_candidates_nothing_is_asked(put, same, asked):
+    put(a=noted(), b=noted(), c=noted(artist=b"Eva", moved=64), d=noted(more=[app1_xmp(title("one"))], moved=64), e=jpeg())
+    assert [it["basis"] for it in same()[1]] == ["meaning"] and asked == []
+
+
+@needs("exiftool")
+def test_what_is_kept_is_not_asked_about(put, same, asked):
+    put("--maker-notes", a=noted(), b=noted(moved=64))
+    asked.clear()
+    assert [it["basis"] for it in same()[1]] == ["maker note"] and asked == []
+
+
+def is_open(same, due, *words):
+    """Whether two pictures are in no group, and are counted by this reason. The status says that it isn't decided."""
+    status, groups, unknown = same(*words)
+    return (status, groups, unknown) == (2, [], due)
+
+
+@needs("exiftool")
+@pytest.mark.parametrize("pair", [("warned of", "warned of, moved"), ("of nobody", "of nobody, moved")])
+def test_notes_in_doubt(put, same, called, pair):
+    """Their values are equal, or there are none. What that says depends on the MakerNotes, so it isn't said; neither by `compare`."""
+    put(a=FILES[pair[0]], b=FILES[pair[1]])
+    assert is_open(same, {"in doubt": 2})
+    _, printed, _ = called("same", "--catalogue", "c")
+    assert "2 pictures may be the same as others but for MakerNotes: ExifTool warns of the MakerNote, or reads nothing of it" in printed
+    status, printed, _ = called("compare", "p/a.jpg", "p/b.jpg")
+    assert status == (1 if "warned of" in pair else 2) and "reads the same (ExifTool)" not in printed and "ExifTool" in printed
+
+
+@needs("exiftool")
+def test_files_that_are_gone_or_have_changed(put, same, folder):
+    put(a=noted(), b=noted(moved=64), c=noted(moved=128), d=noted())
+    (folder / "p/d.jpg").unlink()
+    status, groups, unknown = same()
+    assert (status, [names(it) for it in groups], unknown) == (2, [["a", "b", "c"]], {}), "it has the bytes of another one"
+    (folder / "p/a.jpg").unlink()
+    status, groups, unknown = same()
+    assert (status, [names(it) for it in groups], unknown) == (2, [["b", "c"]], {"gone or changed": 2})
+    (folder / "p/b.jpg").write_bytes(noted(moved=64, artist=b"Eva"))
+    assert is_open(same, {"gone or changed": 3})
+    (folder / "p/d.jpg").write_bytes(noted())
+    put()
+    status, groups, unknown = same()
+    assert (status, [names(it) for it in groups], unknown) == (2, [["c", "d"]], {})
+
+
+def test_without_exiftool(put, same, called, monkeypatch, folder):
+    put(a=noted(), b=noted(inside=b"Anna", moved=64), c=noted(artist=b"Eva"))
+    assert is_open(same, {"not looked at": 2}, "--no-look")
+    monkeypatch.setenv("PATH", str(folder))
+    assert is_open(same, {"no ExifTool": 2})
+    _, printed, _ = called("same", "--catalogue", "c")
+    assert "2 pictures may be" in printed and "libimage-exiftool-perl" in printed
+    _, _, errors = called("same", "--catalogue", "c", "--csv")
+    assert "2 pictures may be" in errors
+    assert is_open(same, {"no ExifTool": 2}, "--kind", "exif") and same("--kind", "iptc") == (0, [], {})
+
+
+@needs("exiftool")
+def test_where_exiftool_fails(put, same, monkeypatch):
+    """At one file: what is known of the others is said."""
+    put(a=noted(), b=noted(moved=64), c=noted(moved=128))
+    ask = exiftool.Session.ask
+
+    def failing(session, paths, words, options):
+        if any(it.endswith(b"b.jpg") for it in paths):
+            raise exiftool.Failed("it ended")
+        return ask(session, paths, words, options)
+
+    monkeypatch.setattr(exiftool.Session, "ask", failing)
+    status, groups, unknown = same()
+    assert (status, [names(it) for it in groups], unknown) == (2, [["a", "c"]], {"failed": 1})
+
+
+@needs("exiftool")
+def test_fields_that_do_not_count(put, same):
+    """Without a field that differs, pictures are a group, and it says so; a group without a difference in what is left out doesn't."""
+    put(a=noted(), b=noted(moved=64, inside=b"Anna"), c=noted(moved=128, artist=b"Eva"))
+    said = {}
+    for words in (["--ignore", "Artist"], ["--ignore", "Make"], ["--only", "exif:MakerNote"], ["--ignore", "exif:MakerNote"]):
+        _, groups, _ = same(*words)
+        said[words[1]] = [(it["basis"], names(it), "fields left out" in it["description"]) for it in groups]
+    assert said["Artist"] == [("maker note", ["a", "b", "c"], True)]
+    assert said["Make"] == [("maker note", ["a", "b"], False)]
+
+
+@needs("exiftool")
+def test_other_commands(run, called, folder):
+    """Merged catalogues have what `same` needs, a report has the group and says that not all are known, and an export marks none to keep."""
+    for name, octets in (("a", noted()), ("b", noted(moved=64, inside=b"Anna")), ("c", noted(moved=128))):
+        (folder / f"p{name}").mkdir()
+        (folder / f"p{name}/{name}.jpg").write_bytes(octets)
+        run("index", f"p{name}", "--catalogue", name, "--quiet")
+    (folder / "pc/c.jpg").unlink()
+    called("merge", "a", "b", "c", "--catalogue", "all")
+    called("report", "--catalogue", "all", "--html", "page.html")
+    page = (folder / "page.html").read_text()
+    assert "MakerNote moved, differs in bytes, reads the same (ExifTool); which one to keep" in page and "1 picture may be the same" in page
+    _, found = run("report", "--catalogue", "all")
+    assert [it["basis"] for it in found if "same" in it] == ["maker note"] and {"maker_notes_unknown": {"gone or changed": 1}} in found
+    called("export", "all", "tables")
+    with contextlib.closing(sqlite3.connect("tables")) as base:
+        assert base.execute("SELECT kind, keep FROM groups").fetchall() == [("maker note", None)] * 2
+    called("forget", "pb", "--catalogue", "all")
+    assert run("same", "--catalogue", "all")[1][-1]["maker_notes_unknown"] == {"gone or changed": 1}
+
+
+FIELDS = st.builds(
+    Field,
+    st.sampled_from(["main", "exif", "thumb"]),
+    st.sampled_from(["010f", "927c", "a002"]),
+    st.just("ASCII"),
+    st.just(1),
+    st.sampled_from(['"', '"]', '["exif","927c",', "\\", ","]),
+)
+
+
+@hypothesis.given(st.lists(FIELDS, max_size=4), st.lists(FIELDS, max_size=4))
+def test_digests_without_the_maker_note(one, other):
+    """They are equal exactly if the other fields are."""
+    one, other = (list({it[:2]: it for it in some}.values()) for some in (one, other))
+    others = [[it for it in some if it[:2] != MAKER_NOTE] for some in (one, other)]
+    digests = [digest_but_note(text_of_fields(it), it) for it in (one, other)]
+    assert [it is None for it in digests] == [len(some) == len(rest) for some, rest in zip((one, other), others)]
+    if None not in digests and _place(one) == _place(other):
+        assert (digests[0] == digests[1]) is (others[0] == others[1])
+
+
+def _place(fields):
+    """Where the MakerNote is: in a listing that depends on the other fields alone."""
+    return [it[:2] for it in fields].index(MAKER_NOTE)
