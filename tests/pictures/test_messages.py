@@ -211,7 +211,7 @@ class Messages(WithPictures):
                 self.assertEqual(self.raised(NoCatalogue, Catalogue, name, True), text)
             self.assertEqual((read(name), os.listdir(self.folder)), (octets, ["c"]))
         self.assertEqual(
-            self.raised(NoCatalogue, index.run, argparse.Namespace(folders=[""], files_from=None, catalogue=name, null=False)),
+            self.raised(NoCatalogue, index.run, argparse.Namespace(folders=[""], files_from=None, catalogue=name, null=False, limit=60)),
             "a name is empty",
         )
         os.remove(name)
