@@ -70,6 +70,7 @@ fn after(found: &Resource, len: usize) -> usize
 /// writes nothing after the last, other programs write zeros. Allocates nothing.
 pub fn find_resources<'a>(bytes: &'a [u8]) -> Resources<'a>
     ensures said { HasResources bytes.now result (rest_of bytes.now) }
+    ensures computed { result ≡ resources_of 0 bytes.now }
     ensures inside { ResourcesInside bytes.now result }
 {
     Resources { bytes, at: 0 }

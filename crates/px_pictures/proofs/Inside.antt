@@ -1,0 +1,55 @@
+-- The parts of a head are in the picture, and its pieces have no more bytes than the picture.
+use Rattle.std.proofs.Common.{◌≡◌, ◌≤◌, ◌+◌, ℕ, inl, inr, Option, Some, None, List, [], ◌∷◌, ◌++◌, length, ap, arith, length-append}
+use Rattle.std.specs.List.{AllByRecursion}
+use Rattle.px_jpeg.specs.declared.Part.{Part}
+use Rattle.px_jpeg.specs.declared.Kind.{Kind}
+use Rattle.px_jpeg.specs.Head.{IsPart, Spells, HasHead}
+use Rattle.px_jpeg.specs.Pieces.{AllInside, range, kind_of, piece_in, pieces}
+use Rattle.px_pictures.specs.Metadata.{sizes}
+
+part_end : (p : ℕ) (q : Part) (x : List ℕ) → IsPart p q x → q.start + q.size ≡ p + length x
+part_end p q x (inl a) = omega (arith, a.start, a.empty, ap length a.whole, length-append a.fill (255 ∷ q.code ∷ []))
+part_end p q x (inr s) =
+    omega (arith, s.start, s.size, ap length s.whole, length-append s.fill (255 ∷ q.code ∷ s.high ∷ s.low ∷ s.octets))
+
+part_size : (p : ℕ) (q : Part) (x : List ℕ) → IsPart p q x → q.size ≤ length x
+part_size p q x (inl a) = omega (arith, a.empty)
+part_size p q x (inr s) = omega (arith, s.size, ap length s.whole, length-append s.fill (255 ∷ q.code ∷ s.high ∷ s.low ∷ s.octets))
+
+inside_more : (n m : ℕ) (qs : List Part) → n ≤ m → AllByRecursion (λ q. q.start + q.size ≤ n) qs → AllByRecursion
+    (λ q. q.start + q.size ≤ m) qs
+inside_more n m [] l h = tt
+inside_more n m (q ∷ qs) l h = (let k = h.0 in omega arith, inside_more n m qs l h.1)
+
+spells_inside : (p : ℕ) (qs : List Part) (x : List ℕ) → Spells p qs x → AllByRecursion (λ q. q.start + q.size ≤ p + length x) qs
+spells_inside p [] x s = tt
+spells_inside p (q ∷ qs) x (a, b, w, i, s) =
+    let l = ap length w in
+    let e = part_end p q a i in (
+      omega (arith, l, length-append a b, e),
+      inside_more (p + length a + length b) (p + length x) qs (omega (arith, l, length-append a b))
+          (spells_inside (p + length a) qs b s),
+    )
+
+pub head_inside : (b : List ℕ) (qs : List Part) → HasHead b qs → AllInside b qs
+head_inside b qs s =
+    inside_more (2 + length s.spelled) (length b) qs (omega (arith, ap length s.whole, length-append s.spelled s.rest))
+    (spells_inside 2 qs s.spelled s.spells)
+
+-- ---- sizes
+
+pieces_within : (b : List ℕ) (last : Option Kind) (p : ℕ) (qs : List Part) (x : List ℕ) → Spells p qs x
+    → sizes (pieces b last qs) ≤ length x
+pieces_within b last p [] x s = omega arith
+pieces_within b last p (q ∷ qs) x (a, c, w, i, s) =
+    of (kind_of q.code (range b q.start q.size)) (λ l. pieces_within b l (p + length a) qs c s)
+  where
+    of : (o : Option Kind) → ((l : Option Kind) → sizes (pieces b l qs) ≤ length c)
+        → sizes (piece_in b q last o ++ pieces b o qs) ≤ length x
+    of None more = omega (arith, more None, ap length w, length-append a c)
+    of (Some k) more = omega (arith, more (Some k), part_size p q a i, ap length w, length-append a c)
+
+-- the pieces have no more bytes than the picture
+pub head_within : (b : List ℕ) (qs : List Part) → HasHead b qs → sizes (pieces b None qs) ≤ length b
+head_within b qs s =
+    omega (arith, pieces_within b None 2 qs s.spelled s.spells, ap length s.whole, length-append s.spelled s.rest)

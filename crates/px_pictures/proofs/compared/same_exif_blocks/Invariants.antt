@@ -1,0 +1,19 @@
+use Rattle.std.proofs.Common.{◌≡◌, ◌≤◌, ◌+◌, ◌↔◌, length}
+use Rattle.px_meaning.specs.Says.{SaysExif}
+use Rattle.px_pictures.specs.Asking.{exif_requests}
+use Rattle.px_pictures.specs.Faults.{AllExif}
+use Rattle.px_pictures.specs.calls.Judging.{MeanSame}
+use Rattle.px_pictures.proofs.compared.same_exif_blocks.Given as goal
+
+abbrev pub invariant-loop-block : goal.invariant-loop-block
+invariant-loop-block l = record {
+  same : MeanSame SaysExif l.left l.others ↔ MeanSame SaysExif l.initial.left l.initial.others;
+  left_said : AllExif l.left;
+  others_said : AllExif l.others;
+  refusals : l.memory.refusals ≡ l.initial.memory.refusals;
+  asked : l.memory.asked + (exif_requests l.left + exif_requests l.others)
+      ≤ l.initial.memory.asked + (exif_requests l.initial.left + exif_requests l.initial.others);
+}
+
+abbrev pub decreases-loop-block : goal.decreases-loop-block
+decreases-loop-block l = length l.left

@@ -1,0 +1,5 @@
+pub mod Metadata
+pub mod Faults
+pub mod Asking
+pub mod Same
+pub mod calls

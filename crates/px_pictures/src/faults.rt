@@ -1,0 +1,52 @@
+// Why pictures are not compared.
+use px_bytes::Cause;
+use px_jpeg::HeadFault;
+
+/// The kind of a block.
+#[derive(Clone, Copy, Debug, PartialEq, Eq)]
+pub enum BlockKind {
+    /// Exif, of an APP1 segment.
+    Exif,
+    /// IPTC, of Photoshop's resource 0x0404.
+    Iptc,
+}
+
+/// Why a picture's blocks, or their meanings, are not read.
+#[derive(Clone, Copy, Debug, PartialEq, Eq)]
+pub enum Fault {
+    /// It has no head: the cause and the byte offset of the first fault.
+    Head(HeadFault),
+    /// The pieces of its metadata have more than 16 times `LIMIT` bytes.
+    TooLong,
+    /// A block has no meaning: its first fault.
+    Block {
+        /// The kind of the block.
+        kind: BlockKind,
+        /// How many blocks of this kind are before it.
+        number: usize,
+        /// What is wrong.
+        cause: Cause,
+        /// The byte offset from the block's first byte, at most `LIMIT`.
+        place: u32,
+    },
+    /// An allocation failed.
+    OutOfMemory,
+}
+
+/// One of two pictures that are compared.
+#[derive(Clone, Copy, Debug, PartialEq, Eq)]
+pub enum Side {
+    /// The first.
+    First,
+    /// The second.
+    Second,
+}
+
+/// Why two pictures are not compared.
+#[derive(Clone, Copy, Debug, PartialEq, Eq)]
+pub struct PictureFault {
+    /// The picture with the fault.
+    pub side: Side,
+    /// Its fault.
+    pub fault: Fault,
+}

@@ -1,0 +1,18 @@
+//! The Exif and IPTC of JPEG pictures: the blocks of a picture, and whether two pictures have the same. It opens no
+//! file. What a picture has behind its head, its XMP and its pixels are not read.
+#![tactic(auto)]
+
+mod blocks;
+mod compared;
+mod faults;
+mod found;
+mod joining;
+mod judged;
+mod ranges;
+mod runs;
+mod same;
+
+pub use blocks::{ExifBlocks, IptcBlocks};
+pub use faults::{BlockKind, Fault, PictureFault, Side};
+pub use found::{Metadata, metadata_of_in};
+pub use same::{same_metadata, same_metadata_in};
