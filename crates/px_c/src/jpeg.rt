@@ -1,16 +1,12 @@
-// The parts of a JPEG picture's head, and Photoshop's image resources, for C. The calls allocate nothing.
-ghost use Rattle.std.specs.Prelude.{◌≡◌, ◌≢◌, ◌⊎◌, ◌≤◌, ◌++◌, List, length, map, drop};
+// The parts of a JPEG picture's head, and Photoshop's image resources, in the caller's arrays. Nothing is allocated.
+ghost use Rattle.std.specs.Prelude.{◌≡◌, ◌⊎◌, ◌≤◌, ◌++◌, List, length, map, drop};
 ghost use Rattle.px_jpeg.specs.declared.parts.Part.{Part};
 ghost use Rattle.px_jpeg.specs.Fault.{IsFront};
 ghost use Rattle.px_c.specs.Jpeg.{head_cause, piece_kind, seen_part, seen_parts, seen_resource, IsStored, IsShort};
-ghost use Rattle.px_c.specs.Jpeg.{StoresHead, StoresFront, LacksRoom, StoresResources, LacksRoomForResources};
 ghost use Rattle.px_c.specs.Numbers as status;
 
-use crate::statuses::{DONE, REFUSED, TOO_LITTLE_ROOM};
-use px_jpeg::{
-    Cause, HeadPart, Kind, Resource, Resources, WithPieces, find_parts, find_resources, read_head,
-    with_pieces,
-};
+use crate::statuses::{DONE, TOO_LITTLE_ROOM};
+use px_jpeg::{Cause, HeadPart, Kind, Resource, Resources, WithPieces, find_parts, with_pieces};
 
 /// A part of a head: a marker with its segment's data, or one that stands alone.
 #[repr(C)]
@@ -52,7 +48,7 @@ pub struct ExifnormPhotoshopResource {
 }
 
 // A cause as a number.
-fn head_cause(cause: Cause) -> u32
+pub(crate) fn head_cause(cause: Cause) -> u32
     ensures { result ≡ head_cause cause }
 {
     match cause {
@@ -126,7 +122,7 @@ fn store_parts(found: WithPieces, out: &mut [ExifnormJpegPart])
 }
 
 // Stores the resources at the start of `out`, in which there is room for them.
-fn store_resources(found: Resources, out: &mut [ExifnormPhotoshopResource])
+pub(crate) fn store_resources(found: Resources, out: &mut [ExifnormPhotoshopResource])
     requires { length found ≤ length out.old }
     ensures { out.new ≡ map seen_resource found.entry ++ drop (length found.entry) out.old }
 {
@@ -142,7 +138,7 @@ fn store_resources(found: Resources, out: &mut [ExifnormPhotoshopResource])
 }
 
 // Stores the parts that are found in a picture at the start of `out`, if they fit, and their number in `count`.
-fn put_parts(bytes: &[u8], out: &mut [ExifnormJpegPart], count: &mut usize) -> u32
+pub(crate) fn put_parts(bytes: &[u8], out: &mut [ExifnormJpegPart], count: &mut usize) -> u32
     ensures known { (result ≡ status.done) ⊎ (result ≡ status.too_little_room) }
     ensures done { result ≡ status.done → (parts : List Part) × IsFront bytes.now parts
         × IsStored (seen_parts bytes.now parts) count.new out.old out.new }
@@ -155,62 +151,5 @@ fn put_parts(bytes: &[u8], out: &mut [ExifnormJpegPart], count: &mut usize) -> u
         return TOO_LITTLE_ROOM;
     }
     store_parts(found, out);
-    DONE
-}
-
-/// Stores the parts of the head of the picture that begins with these bytes at the start of `parts`, and their
-/// number in `count`. Allocates nothing.
-///
-/// `REFUSED`: the bytes are no head, and `fault` is its first fault; the parts before it are stored and counted.
-/// `TOO_LITTLE_ROOM`: `parts` has fewer than `count` elements, and is unchanged. Only a refusal changes `fault`.
-#[unsafe(no_mangle)]
-pub extern "C" fn exifnorm_jpeg_parts(
-    bytes: &[u8],
-    parts: &mut [ExifnormJpegPart],
-    count: &mut usize,
-    fault: &mut ExifnormJpegFault,
-) -> u32
-    ensures known { (result ≡ status.done) ⊎ (result ≡ status.refused) ⊎ (result ≡ status.too_little_room) }
-    ensures done { result ≡ status.done → StoresHead bytes.now count.new parts.old parts.new }
-    ensures refused { result ≡ status.refused → StoresFront bytes.now fault.new count.new parts.old parts.new }
-    ensures short { result ≡ status.too_little_room → LacksRoom bytes.now count.new parts.old parts.new }
-    ensures fault { result ≢ status.refused → fault.new ≡ fault.old }
-{
-    match read_head(bytes) {
-        Ok(_) => put_parts(bytes, parts, count),
-        Err(why) => {
-            if put_parts(bytes, parts, count) == TOO_LITTLE_ROOM {
-                return TOO_LITTLE_ROOM;
-            }
-            *fault = ExifnormJpegFault {
-                cause: head_cause(why.cause),
-                place: why.place,
-            };
-            REFUSED
-        }
-    }
-}
-
-/// Stores Photoshop's image resources at the start of these bytes at the start of `resources`, and their number in
-/// `count`. They end where no resource is. The bytes are those of one block: its pieces, one after another.
-/// Allocates nothing.
-///
-/// `TOO_LITTLE_ROOM`: `resources` has fewer than `count` elements, and is unchanged.
-#[unsafe(no_mangle)]
-pub extern "C" fn exifnorm_photoshop_resources(
-    bytes: &[u8],
-    resources: &mut [ExifnormPhotoshopResource],
-    count: &mut usize,
-) -> u32
-    ensures known { (result ≡ status.done) ⊎ (result ≡ status.too_little_room) }
-    ensures done { result ≡ status.done → StoresResources bytes.now count.new resources.old resources.new }
-    ensures short { result ≡ status.too_little_room → LacksRoomForResources bytes.now count.new resources.old resources.new }
-{
-    let found = find_resources(bytes);
-    *count = found.len();
-    if *count > resources.len() {
-        return TOO_LITTLE_ROOM;
-    }
-    store_resources(found, resources);
     DONE
 }

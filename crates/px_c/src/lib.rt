@@ -17,6 +17,7 @@ ghost use Rattle.px_engine.specs.Files.{Said};
 ghost use Rattle.px_engine.specs.Hand.{PutsForm, IsUnwritten};
 ghost use Rattle.px_engine.specs.Input.{IsSaid};
 ghost use Rattle.px_engine.specs.Prints.{caption_text, listing};
+ghost use Rattle.px_c.specs.Jpeg.{StoresHead, StoresFront, LacksRoom, StoresResources, LacksRoomForResources};
 ghost use Rattle.px_c.specs.Numbers.{cause_name};
 ghost use Rattle.px_c.specs.Outcomes.{Refuses, PutsText, PutsSaid, IsOfKind, AreCompared};
 ghost use Rattle.px_c.specs.Numbers as status;
@@ -30,14 +31,13 @@ pub mod statuses;
 
 pub use faults::ExifnormFault;
 use giving::give_text;
-pub use jpeg::{
-    ExifnormJpegFault, ExifnormJpegPart, ExifnormPhotoshopResource, exifnorm_jpeg_parts,
-    exifnorm_photoshop_resources,
-};
+pub use jpeg::{ExifnormJpegFault, ExifnormJpegPart, ExifnormPhotoshopResource};
+use jpeg::{head_cause, put_parts, store_resources};
 use names::cause_name;
 use over_memory::{captions_in, check_in, compare_in, normalise_in, show_in};
 use px_bytes::Memory;
 use px_engine::VERSION;
+use px_jpeg::{find_resources, read_head};
 use statuses::{DONE, NO_MEMORY, REFUSED, SECOND_REFUSED, TOO_LITTLE_ROOM, TOO_LONG};
 use std::alloc::Global;
 
@@ -161,6 +161,63 @@ pub extern "C" fn exifnorm_captions(
     ensures fault { result ≢ status.refused → fault.new ≡ fault.old }
 {
     captions_in(&mut Memory::new(alloc), file, out, written, fault)
+}
+
+/// Stores the parts of the head of the picture that begins with these bytes at the start of `parts`, and their
+/// number in `count`. Allocates nothing.
+///
+/// `REFUSED`: the bytes are no head, and `fault` is its first fault; the parts before it are stored and counted.
+/// `TOO_LITTLE_ROOM`: `parts` has fewer than `count` elements, and is unchanged. Only a refusal changes `fault`.
+#[unsafe(no_mangle)]
+pub extern "C" fn exifnorm_jpeg_parts(
+    bytes: &[u8],
+    parts: &mut [ExifnormJpegPart],
+    count: &mut usize,
+    fault: &mut ExifnormJpegFault,
+) -> u32
+    ensures known { (result ≡ status.done) ⊎ (result ≡ status.refused) ⊎ (result ≡ status.too_little_room) }
+    ensures done { result ≡ status.done → StoresHead bytes.now count.new parts.old parts.new }
+    ensures refused { result ≡ status.refused → StoresFront bytes.now fault.new count.new parts.old parts.new }
+    ensures short { result ≡ status.too_little_room → LacksRoom bytes.now count.new parts.old parts.new }
+    ensures fault { result ≢ status.refused → fault.new ≡ fault.old }
+{
+    match read_head(bytes) {
+        Ok(_) => put_parts(bytes, parts, count),
+        Err(why) => {
+            if put_parts(bytes, parts, count) == TOO_LITTLE_ROOM {
+                return TOO_LITTLE_ROOM;
+            }
+            *fault = ExifnormJpegFault {
+                cause: head_cause(why.cause),
+                place: why.place,
+            };
+            REFUSED
+        }
+    }
+}
+
+/// Stores Photoshop's image resources at the start of these bytes at the start of `resources`, and their number in
+/// `count`. They end where no resource is. The bytes are those of one block: its pieces, one after another.
+/// Allocates nothing.
+///
+/// `TOO_LITTLE_ROOM`: `resources` has fewer than `count` elements, and is unchanged.
+#[unsafe(no_mangle)]
+pub extern "C" fn exifnorm_photoshop_resources(
+    bytes: &[u8],
+    resources: &mut [ExifnormPhotoshopResource],
+    count: &mut usize,
+) -> u32
+    ensures known { (result ≡ status.done) ⊎ (result ≡ status.too_little_room) }
+    ensures done { result ≡ status.done → StoresResources bytes.now count.new resources.old resources.new }
+    ensures short { result ≡ status.too_little_room → LacksRoomForResources bytes.now count.new resources.old resources.new }
+{
+    let found = find_resources(bytes);
+    *count = found.len();
+    if *count > resources.len() {
+        return TOO_LITTLE_ROOM;
+    }
+    store_resources(found, resources);
+    DONE
 }
 
 /// Writes the name of the cause with this number and a zero byte to the start of `out`, and the number of
