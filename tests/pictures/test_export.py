@@ -85,7 +85,8 @@ def test_each_table_has_what_the_other_commands_print(exported, run, folder):
     (folder / "p" / "notes.txt").write_bytes(b"no picture")
     base = exported("p")
     groups = [json.loads(it) for it in run("same", "--catalogue", "c", "--json", status=2).splitlines()][:-1]
-    expected = [(it["number"], it["basis"], one["path"], int(one["keep"])) for it in groups for one in it["pictures"]]
+    keep = {None: None, False: 0, True: 1}
+    expected = [(it["number"], it["basis"], one["path"], keep[one["keep"]]) for it in groups for one in it["pictures"]]
     assert asked(base, "SELECT number, kind, path, keep FROM groups JOIN pictures ON id = picture ORDER BY number, path") == sorted(
         expected, key=lambda it: (it[0], it[2])
     )

@@ -33,7 +33,7 @@ def around(note, moved=0, maker=b"Canon", artist=b"Ann", unsorted=False):
     return main_directory + table([entry(0x927C, UNDEFINED, len(octets), 74 + moved)]) + maker + b"\0" + bytes(moved) + octets
 
 
-def noted(owner=b"Annette", inside=b"", wrong=0, hidden=b"", bad=False, more=(), **others):
+def noted(owner=b"Annette", inside=b"", wrong=0, hidden=b"", bad=False, more=(), behind=b"", **others):
     """A picture with a MakerNote that has bytes inside that no value has. Its offset may be wrong, a value may lie outside the file, and bytes
     may follow that only the MakerNote can lead to."""
     outside = [entry(0x0006, ASCII, 99, 60_000)] * bad
@@ -42,7 +42,7 @@ def noted(owner=b"Annette", inside=b"", wrong=0, hidden=b"", bad=False, more=(),
         head = 2 + 12 * (1 + len(outside)) + 4
         return table([*outside, entry(0x0009, ASCII, 8, start + head + len(inside) + wrong)]) + inside + owner + b"\0"
 
-    return jpeg(app1(around(note, **others) + hidden), *more)
+    return jpeg(app1(around(note, **others) + hidden), *more, behind=behind)
 
 
 def bare(octets, *more, **others):
@@ -78,6 +78,9 @@ FILES = {
     "unsorted, rewritten, moved": noted(unsorted=True, inside=b"Anna", moved=64),
     "with XMP": noted(more=[app1_xmp(title("one"))]),
     "with XMP, moved": noted(moved=64, more=[app1_xmp(title("one"))]),
+    "with a part that isn't read": noted(behind=b"one"),
+    "with that part, moved": noted(moved=64, behind=b"one"),
+    "with another part, moved": noted(moved=64, behind=b"two"),
     "with other XMP, moved": noted(moved=64, more=[app1_xmp(title("two"))]),
     "with unreadable XMP": noted(more=[app1_xmp(b"<x")]),
     "with the same unreadable XMP, rewritten": noted(inside=b"Anna", more=[app1_xmp(b"<x")]),
@@ -144,7 +147,7 @@ def names(group):
 
 def beside(name):
     """What a picture has beside its MakerNote. Pairs that differ in that differ in any case, so one such pair is enough."""
-    return next((it for it in ("unreadable XMP", "XMP", "second Exif") if it in name), "")
+    return next((it for it in ("unreadable XMP", "XMP", "second Exif", "part") if it in name), "")
 
 
 PAIRS = [it for it in itertools.combinations(FILES, 2) if beside(it[0]) == beside(it[1]) or it[0] == "plain"]
