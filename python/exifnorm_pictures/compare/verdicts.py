@@ -62,6 +62,9 @@ class Side(NamedTuple):
     repaired: str = ""  # of their meaning after repairs that lose nothing, if one of them is refused
 
 
+_NO_BLOCK = Side(ABSENT)
+
+
 def side(kind: str, judged: Iterable[Judged]) -> Side:
     """The side of a picture for one kind. Several blocks are compared in their order and under their names."""
     return side_of([it for it in judged if it.kind == kind])
@@ -70,7 +73,7 @@ def side(kind: str, judged: Iterable[Judged]) -> Side:
 def side_of(ours: Sequence[Judged]) -> Side:
     """The side of a picture for the kind that these blocks have."""
     if not ours:
-        return Side(ABSENT)
+        return _NO_BLOCK
     if len(ours) == 1 and ours[0].status == ACCEPTED and ours[0].name == NAMES[ours[0].kind]:  # as of most pictures
         return Side(ACCEPTED, ours[0].digest or "", ours[0].octets)
     octets = joined([(it.name, it.octets) for it in ours])

@@ -203,7 +203,8 @@ def _numbers(block: bytes, order: str, place: int, kind: int, size: int, last: i
 
 def may_have_notes(block: bytes) -> bool:
     """Whether a block has the tag of a MakerNote or of another private pointer anywhere: a quick test, which is true of some blocks without one."""
-    return any(it in block for it in (_LITTLE if block[:1] == b"I" else _BIG))
+    note, global_parameters, kodak, leaf, kodak_too, adobe = _LITTLE if block[:1] == b"I" else _BIG  # a loop takes twice as long
+    return note in block or global_parameters in block or kodak in block or leaf in block or kodak_too in block or adobe in block
 
 
 _LITTLE, _BIG = (tuple(struct.pack(order + "H", tag) for tag in PRIVATE) for order in "<>")
