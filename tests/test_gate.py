@@ -111,17 +111,21 @@ def test_a_choice_proves_nothing(gate):
     assert "proving" not in ran.stdout and "building" not in ran.stdout
 
 
-@pytest.mark.parametrize("signal_number", [signal.SIGINT, signal.SIGTERM, signal.SIGHUP])
-def test_a_stopped_run_leaves_no_process(gate, signal_number):
+def test_a_stopped_run_leaves_no_process(gate, tmp_path):
+    """By any of these signals. The runs take seconds to end, so they do it at the same time."""
     put(gate, rt="(trap '' INT TERM; echo $$ >started; exec sleep 600) & sleep 600")
-    started = subprocess.Popen(
-        ["env", "--default-signal", "./test"], cwd=gate, env=environment(gate), stdin=subprocess.DEVNULL, stdout=subprocess.PIPE, text=True
-    )
-    while not (gate / "started").exists():
-        time.sleep(0.05)
-    started.send_signal(signal_number)
-    output, _ = started.communicate(timeout=60)  # the pipe is open as long as a process is left
-    assert started.returncode == 1, output
+    runs = {}
+    for number in (signal.SIGINT, signal.SIGTERM, signal.SIGHUP):
+        shutil.copytree(gate, top := tmp_path / number.name)
+        words, how = ["env", "--default-signal", "./test"], {"stdin": subprocess.DEVNULL, "stdout": subprocess.PIPE, "text": True}
+        runs[number] = subprocess.Popen(words, cwd=top, env=environment(top), **how)
+    for number, started in runs.items():
+        while not (tmp_path / number.name / "started").exists():
+            time.sleep(0.05)
+        started.send_signal(number)
+    for number, started in runs.items():
+        output, _ = started.communicate(timeout=60)  # the pipe is open as long as a process is left
+        assert started.returncode == 1, (number, output)
 
 
 def test_packages_are_in_debian(gate):
