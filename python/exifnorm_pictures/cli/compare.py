@@ -91,6 +91,8 @@ _SENTENCES = {
     changes.UNREADABLE_SAME: "No difference: XMP is unreadable, and has the same bytes in both.",
     changes.FILE_SAME: "The same bytes, in a format that isn't read.",
     changes.FILE_DIFFERENT: "Different bytes, in a format that isn't read.",
+    changes.NO_PICTURE_SAME: "The same bytes, and no pictures.",
+    changes.NO_PICTURE_DIFFERENT: "Different bytes, and no pictures.",
     changes.NOT_READ: "The metadata can't be compared: a file isn't read.",
 }
 

@@ -42,10 +42,14 @@ def run(arguments: argparse.Namespace) -> int:
         fewest = groups.Fewest(arguments.least_fields)
         unknown: Unknown = Counter()
         results: "Counter[str]" = Counter()
-        count = grouped = partial = 0
+        listed: "Counter[str]" = Counter()
+        grouped: "Counter[str]" = Counter()
+        partial = 0
         for it in _groups(catalogue, arguments, kinds, only, choice, fewest, unknown):
-            count, grouped, partial = count + 1, grouped + it.count, partial + it.is_partial
+            what = "pictures" if it.are_pictures else "files"
+            listed[what], grouped[what], partial = listed[what] + 1, grouped[what] + it.count, partial + it.is_partial
             results[it.result] += 1
+            count = sum(listed.values())
             keep = it.to_keep() if has_keep and not choice else None
             if arguments.json:
                 _print_group(count, it, keep)
@@ -55,11 +59,11 @@ def run(arguments: argparse.Namespace) -> int:
                 _print_lines(it, count)
         if not table:
             left = 0 if arguments.kind == PIXELS else groups.left_out(catalogue, kinds, only)
-            totals = {"groups": count, "pictures": grouped, "undecided": left, "small_groups": fewest.small}
             if arguments.json:
-                print_object("same", "summary", {**totals, "maker_notes_unknown": dict(unknown)})
+                totals = {"groups": sum(listed.values()), "pictures": sum(grouped.values()), "undecided": left}
+                print_object("same", "summary", {**totals, "small_groups": fewest.small, "maker_notes_unknown": dict(unknown)})
             else:
-                _print_totals(count, grouped, left, fewest)
+                _print_totals(listed, grouped, left, fewest)
                 if unknown:
                     print_line(of_unknown(unknown))
                 if partial:
@@ -109,10 +113,12 @@ def _groups(
 # Lines
 
 
-def _print_totals(count: int, grouped: int, left: int, fewest: groups.Fewest) -> None:
-    if count > 1:
+def _print_totals(listed: "Counter[str]", grouped: "Counter[str]", left: int, fewest: groups.Fewest) -> None:
+    if sum(listed.values()) > 1:
         print_line("")
-    print_line(f"{count} group{'s' * (count != 1)} of {grouped} pictures")
+    count, files = listed["pictures"], listed["files"]
+    more = f", and {files} group{'s' * (files != 1)} of {grouped['files']} files that are no pictures" if files else ""
+    print_line(f"{count} group{'s' * (count != 1)} of {grouped['pictures']} pictures{more}")
     if fewest.small:
         print_line(
             f"{fewest.small} more, of pictures with fewer than {fewest.fields} fields, {'are' if fewest.small > 1 else 'is'} not listed"
@@ -131,7 +137,7 @@ def _print_without_digest(count: int) -> None:
 def _print_lines(it: groups.Group, number: int) -> None:
     if number > 1:
         print_line("")
-    print_line(f"{it.count} pictures: {it.sentence()}:")
+    print_line(f"{it.count} {'pictures' if it.are_pictures else 'files'}: {it.sentence()}:")
     links: Dict[bytes, List[groups.Link]] = {}
     for link in it.links:
         links.setdefault(link.of, []).append(link)

@@ -54,19 +54,21 @@ if TYPE_CHECKING:
 MISSING_BEFORE, MISSING_AFTER, MOVED, NOT_READ = "missing before", "missing after", "moved", "not read"
 MOVED_EDITED = "moved and edited"  # which the digest of its coded picture shows
 FILE_SAME, FILE_DIFFERENT = "not read, the same bytes", "not read, different bytes"
+NO_PICTURE_SAME, NO_PICTURE_DIFFERENT = "no picture, the same bytes", "no picture, different bytes"
 DIFFERENCES = (
     DIFFERENT,
     DIFFERENT_REPAIRED,
     ONLY_MAKER_NOTE,
     ONLY_NUMBERS,
     FILE_DIFFERENT,
+    NO_PICTURE_DIFFERENT,
     MOVED,
     MOVED_EDITED,
     MISSING_BEFORE,
     MISSING_AFTER,
 )
 OPEN = (MOVED_NOTE, SAME_REPAIRED, ONLY_REACHED, REFUSED, UNREADABLE, NOT_WHOLLY_READ, NOT_READ)  # it isn't wholly decided
-UNCHANGED = (SAME, SAME_BUT, SAME_NUMBERS, REFUSED_SAME, UNREADABLE_SAME, FILE_SAME)  # nothing is reported to differ
+UNCHANGED = (SAME, SAME_BUT, SAME_NUMBERS, REFUSED_SAME, UNREADABLE_SAME, FILE_SAME, NO_PICTURE_SAME)  # nothing is reported to differ
 RESULTS = (
     SAME,
     SAME_BUT,
@@ -81,6 +83,7 @@ RESULTS = (
     UNREADABLE_SAME,
     NOT_WHOLLY_READ,
     FILE_SAME,
+    NO_PICTURE_SAME,
     NOT_READ,
 )
 
@@ -157,12 +160,15 @@ def compared(pair: Pair, pairs: Sides, ask: bool, choice: Choice = EVERYTHING) -
 
 def _unread(name: bytes, one: Picture, other: Picture) -> Compared:
     """Two files of which one or both were not read: their bytes are compared, if they are known."""
-    words = {"NoPicture": "no picture"}
     if one.problem and one.problem == other.problem:
-        word = words.get(one.problem, one.problem)
+        is_picture = one.problem != "NoPicture"
+        same, different = (FILE_SAME, FILE_DIFFERENT) if is_picture else (NO_PICTURE_SAME, NO_PICTURE_DIFFERENT)
+        note = one.problem if is_picture else ""
         if one.file and other.file:
-            return Compared(name, FILE_SAME if one.file == other.file else FILE_DIFFERENT, word)
-        return Compared(name, FILE_DIFFERENT if one.size != other.size else NOT_READ, word)
+            return Compared(name, same if one.file == other.file else different, note)
+        if one.size != other.size:
+            return Compared(name, different, note)
+        return Compared(name, NOT_READ, note or "no picture")
     notes = [f"{word}: {it.problem}" for word, it in (("before", one), ("after", other)) if it.problem]
     return Compared(name, NOT_READ, ", ".join(notes))
 

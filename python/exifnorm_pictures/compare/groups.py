@@ -94,6 +94,11 @@ class Group:
         return (it.path for it in (self.members if most < 0 else self.members[:most]))
 
     @property
+    def are_pictures(self) -> bool:
+        """Whether ExifTool or a reader takes the files for pictures."""
+        return self.members[0].problem != "NoPicture"
+
+    @property
     def has_other_notes(self) -> bool:
         """Whether the MakerNotes have different bytes."""
         return self.basis == MAKER_NOTE and len({_meaning(it) for it in self.members}) > 1
@@ -124,7 +129,8 @@ class Group:
             return f"the coded picture is the same; {_metadata_of(self.members)}"
         first = self.members[0]
         if first.file:
-            return f"the files are the same byte for byte, and not read ({first.problem or self.not_read})"
+            same = "the same byte for byte"
+            return f"the files are {same}, and not read ({first.problem or self.not_read})" if self.are_pictures else f"no pictures, {same}"
         by_kind = dict(zip(KINDS, first.meanings))
         refused = [it for it in self.kinds if any(picture.meanings[KINDS.index(it)] is None for picture in self.members)]
         there = [it for it in self.kinds if by_kind[it] != "" and it not in refused]
@@ -181,7 +187,7 @@ def _queries(kinds: Sequence[str], only: Optional[str]) -> Iterator[_Query]:
     octets = tuple(f"ifnull({it}, 'bytes ' || {it}_octets)" for it in columns)
     yield _Query(BYTES, (*octets, "not_read", *place), f"{base} AND NOT ({known}){chosen}")
     if len(kinds) == len(KINDS):
-        unread = f"((problem IS NULL AND not_read IS NULL) OR problem NOT IN {NOT_THERE})"
+        unread = f"((problem IS NULL AND not_read IS NULL) OR problem NOT IN {(*NOT_THERE, 'NoPicture')})"
         yield _Query(BYTES, ("file",), f"file != '' AND {unread}{chosen}")
     if EXIF in kinds:
         several = "count(*) > 1 AND count(DISTINCT ifnull(exif, exif_repaired) || ' ' || maker_notes || ' ' || not_read) > 1"
@@ -191,6 +197,8 @@ def _queries(kinds: Sequence[str], only: Optional[str]) -> Iterator[_Query]:
         after = " AND ".join(f"{it} IS NOT NULL" for it in repaired)
         several = "count(*) > 1 AND sum(exif IS NULL) > 0 AND count(DISTINCT exif_octets) > 1"
         yield _Query(REPAIR, (*repaired, "not_read"), f"{base} AND {after}{chosen}", several)
+    if len(kinds) == len(KINDS):  # last, because people ask for pictures
+        yield _Query(BYTES, ("file",), f"file != '' AND problem = 'NoPicture'{chosen}")
 
 
 @dataclass

@@ -1,0 +1,54 @@
+"""Files that are no pictures, which every archive has beside its pictures, are never counted as pictures."""
+
+import json
+
+import pytest
+from made_files import A, app1, jpeg
+from studio import needs
+
+PICTURE = jpeg(app1(A))
+
+
+@pytest.fixture
+def archive(folder):
+    """Two states of a folder with a picture twice, and with texts, two of which are equal."""
+    for side, changed in (("b", b"one line"), ("a", b"another line")):
+        (folder / side).mkdir()
+        for name, octets in (
+            ("1.jpg", PICTURE),
+            ("2.jpg", PICTURE),
+            ("1.txt", b"a text"),
+            ("2.txt", b"a text"),
+            ("3.txt", b"a text"),
+            ("4.txt", changed),
+        ):
+            (folder / side / name).write_bytes(octets)
+    return folder
+
+
+@needs("exiftool")
+def test_groups_of_files_come_last(archive, called_lines):
+    """Though more files are equal than pictures."""
+    called_lines("index", "b", "--catalogue", "c", "--quiet")
+    status, lines, _ = called_lines("same", "--catalogue", "c")
+    heads = [it.partition(":")[0] for it in lines if it and not it.startswith(" ")]
+    assert (status, heads) == (0, ["2 pictures", "3 files", "1 group of 2 pictures, and 1 group of 3 files that are no pictures"])
+    *found, summary = map(json.loads, called_lines("same", "--catalogue", "c", "--json")[1])
+    assert [len(it["pictures"]) for it in found] == [2, 3]
+    assert (summary["groups"], summary["pictures"]) == (2, 5)
+
+
+@needs("exiftool")
+def test_only_pictures_are_counted(archive, called_lines):
+    status, lines, _ = called_lines("changed", "b", "a")
+    assert (status, lines[0]) == (1, "2 pictures compared: none changed.")
+    assert "3 no picture, the same bytes" in lines
+    assert "1 no picture, different bytes: 4.txt" in lines
+
+
+@needs("exiftool")
+def test_compare_says_it(archive, called_lines):
+    assert called_lines("compare", "b/1.txt", "b/2.txt")[0] == 0
+    status, lines, _ = called_lines("compare", "b/4.txt", "a/4.txt")
+    assert status == 1
+    assert "no pictures" in lines[0]
