@@ -5,3 +5,4 @@ pub mod JudgeLaws
 pub mod PairLaws
 pub mod CountLaws
 pub mod SameLaws
+pub mod MetadataLaws

@@ -2,4 +2,5 @@ pub mod Metadata
 pub mod Faults
 pub mod Asking
 pub mod Same
+pub mod Laws
 pub mod calls

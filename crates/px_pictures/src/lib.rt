@@ -8,6 +8,7 @@ mod faults;
 mod found;
 mod joining;
 mod judged;
+pub mod laws;
 mod ranges;
 mod runs;
 mod same;

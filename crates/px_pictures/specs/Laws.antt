@@ -1,0 +1,18 @@
+-- The laws of the definitions.
+use Rattle.std.specs.Prelude.{◌≡◌, ◌≢◌, ℕ, List}
+use Rattle.px_iim.specs.Group.{Record}
+use Rattle.px_meaning.specs.Tree.{Meaning}
+use Rattle.px_pictures.specs.declared.faults.Fault.TheVariants.{OutOfMemory}
+use Rattle.px_pictures.specs.declared.faults.PictureFault.{PictureFault}
+use Rattle.px_pictures.specs.Faults.{IsPictureFault}
+use Rattle.px_pictures.specs.Metadata.{SaysMetadata}
+
+-- The blocks of a picture have at most one list of meanings, and one of records.
+abbrev pub OneMetadata : Type 0
+OneMetadata = (b : List ℕ) (exif others : List Meaning) (iptc records : List Record) → SaysMetadata b exif iptc
+    → SaysMetadata b others records → (exif ≡ others) × (iptc ≡ records)
+
+-- If two pictures have a fault, not all of their blocks have meanings.
+abbrev pub FaultsTell : Type 0
+FaultsTell = (f g : List ℕ) (refused : ℕ) (e : PictureFault) (exif others : List Meaning) (iptc records : List Record)
+    → e.fault ≢ OutOfMemory → IsPictureFault f g refused e → SaysMetadata f exif iptc → SaysMetadata g others records → ⊥
