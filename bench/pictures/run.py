@@ -1,11 +1,12 @@
 #!/usr/bin/env python3
-"""Times exifnorm-pictures at an archive's scale beside ExifTool, in one interleaved run, and prints a table.
+"""Times exifnorm-pictures at an archive's scale beside ExifTool and exiv2's library, in one interleaved run, and prints a table.
 
-  bench/pictures/run.py LIBRARY [--pictures N] [--rows N] [--compared N] [--counted N] [--rounds N]
+  bench/pictures/run.py LIBRARY [--pictures N] [--folder FOLDER] [--rows N] [--compared N] [--counted N] [--rounds N]
 
-LIBRARY is a folder such as out/lib. The pictures are small JPEG files with Exif, IPTC and XMP, made here from a few bytes; those of
-another format are PSD files by ImageMagick's convert. A time is the least of all rounds. Catalogues with many rows are made by the
-package itself, without pictures. Memory is the peak of one process, as the system counts it.
+LIBRARY is a folder such as out/lib. The pictures are small JPEG files with Exif, IPTC and XMP, made here from a few bytes, or those of a
+folder; those of another format are PSD files by ImageMagick's convert. exiv2's library is left out where it or its header (Debian:
+libexiv2-dev) isn't installed. A time is the least of all rounds. Catalogues with many rows are made by the package itself, without
+pictures. Memory is the peak of one process, as the system counts it.
 """
 
 import argparse
@@ -54,6 +55,18 @@ def make_pictures(folder: str, count: int) -> None:
         record = made.resource(0x0404, made.iim(b"keyword %d" % says))
         picture = made.jpeg(made.app1(made.exif(letters(says))), made.app1_xmp(made.title(f"title {says}")), made.app13(record))
         Path(there, f"{number:07}.jpg").write_bytes(picture)
+
+
+def exiv2_reader(folder: str) -> str:
+    """The program of exiv2.cpp; no name if it can't be built."""
+    out, source = os.path.join(folder, "exiv2"), Path(__file__).resolve().parent / "exiv2.cpp"
+    if not shutil.which("pkg-config") or not shutil.which("g++"):
+        return ""
+    asked = subprocess.run(["pkg-config", "--cflags", "--libs", "exiv2"], capture_output=True, text=True, check=False)
+    words = ["g++", "-O2", "-o", out, str(source), *asked.stdout.split()]
+    if asked.returncode == 0 and subprocess.run(words, capture_output=True, check=False).returncode == 0:
+        return out
+    return ""
 
 
 def make_others(folder: str, count: int) -> bool:
@@ -143,18 +156,27 @@ def pictures(*words: str) -> List[str]:
 class Timed:
     """The commands on pictures, in turns."""
 
-    def __init__(self, folder: str, count: int) -> None:
-        self.folder, self.count = folder, count
+    def __init__(self, folder: str, count: int, named: str = "") -> None:
+        self.folder = folder
         self.least: Dict[str, Cost] = {}
         self.jpegs, self.others, self.empty = (os.path.join(folder, it) for it in ("jpegs", "others", "empty"))
         for it in (self.jpegs, self.others, self.empty):
             os.mkdir(it)
-        make_pictures(self.jpegs, count)
-        self.has_others = make_others(self.others, max(200, count // 5))
+        if named:
+            self.jpegs = os.path.abspath(named)
+        else:
+            make_pictures(self.jpegs, count)
+        names = [os.path.join(top, it) for top, _, files in os.walk(self.jpegs) for it in files]
+        self.count, self.list = len(names), os.path.join(folder, "names")
+        Path(self.list).write_bytes(b"".join(os.fsencode(it) + b"\n" for it in sorted(names)))
+        self.exiv2 = exiv2_reader(folder)
+        self.has_others = make_others(self.others, max(200, self.count // 5))
 
     def round(self) -> None:
         """Each command once."""
         self._time("exiftool", ["exiftool", *EXIFTOOL, self.jpegs])
+        if self.exiv2:
+            self._time("exiv2", [self.exiv2, self.list], [0, 1])
         self._index("one", self.jpegs, "1")
         self._index("four", self.jpegs, "4")
         self._index("again", self.jpegs, "1", new=False)
@@ -169,8 +191,8 @@ class Timed:
             os.unlink(catalogue)
         self._time(name, pictures("index", folder, "--catalogue", catalogue, "--jobs", jobs, "--quiet"))
 
-    def _time(self, name: str, words: Sequence[str]) -> None:
-        one, other = cost(words), self.least.get(name)
+    def _time(self, name: str, words: Sequence[str], statuses: Sequence[int] = (0,)) -> None:
+        one, other = cost(words, statuses), self.least.get(name)
         self.least[name] = Cost(*map(min, one.all(), other.all())) if other else one
 
     def rows(self) -> Iterator[ROW]:
@@ -178,6 +200,11 @@ class Timed:
         least = self.least
         count = f"{self.count:,} JPEG files"
         yield f"`index`, over `exiftool -b -Exif`, one process each ({count})", ratio(least, "one", "exiftool"), "0.1"
+        if self.exiv2:
+            mine, its = (least[it].processor / self.count * 1000 for it in ("one", "exiv2"))
+            mine -= least["start"].processor / self.count * 1000
+            result = f"processor time: {mine / its:.2f} ({mine:.3f} ms over {its:.3f} ms for a file)"
+            yield f"`index`, without its start, over exiv2's library reading Exif, IPTC and XMP ({count})", result, "3"
         yield f"`index` with four processes, over one ({count})", ratio(least, "four", "one"), "0.35"
         first = share("index", self.jpegs, "--catalogue", os.path.join(self.folder, "share.catalogue"), "--jobs", "4", "--quiet")
         yield f"the first process's part of the processor time of four ({count})", f"{first:.3f}", "0.15"
@@ -269,6 +296,7 @@ def main() -> None:
     words = argparse.ArgumentParser(description=__doc__, formatter_class=argparse.RawDescriptionHelpFormatter)
     words.add_argument("library")
     words.add_argument("--pictures", type=int, default=5000, help="JPEG files")
+    words.add_argument("--folder", default="", help="a folder with JPEG files to be timed in place of made ones")
     words.add_argument("--rows", type=int, default=1000000, help="rows of the catalogue for `same`; 0 leaves it out")
     words.add_argument("--compared", type=int, default=100000, help="pictures for `changed` and `report`; 0 leaves them out")
     words.add_argument("--counted", type=int, default=0, help="JPEG files whose instructions Valgrind counts; 0 leaves it out")
@@ -281,7 +309,7 @@ def main() -> None:
         os.environ.pop("PYTHONDONTWRITEBYTECODE", None)
         os.environ["PYTHONPYCACHEPREFIX"] = os.path.join(folder, "compiled")  # once, as in an installed package
         if asked.pictures:
-            timed = Timed(folder, asked.pictures)
+            timed = Timed(folder, asked.pictures, asked.folder)
             for _ in range(asked.rounds):
                 timed.round()
             show(timed.rows())

@@ -28,13 +28,18 @@ void iptc_data_unref(IptcData *);
     "exiv2/exiv2.hpp": """
 #include <cstdint>
 #include <exception>
+#include <memory>
+#include <string>
 #include <vector>
 namespace Exiv2 {
 typedef std::vector<unsigned char> Blob;
 enum ByteOrder { invalidByteOrder, littleEndian, bigEndian };
 struct DataBuf {};
-struct IptcData {};
-struct ExifData { bool empty() const; };
+struct IptcData { long count() const; };
+struct ExifData { bool empty() const; long count() const; };
+struct XmpData { long count() const; };
+struct Image { void readMetadata(); ExifData &exifData(); IptcData &iptcData(); XmpData &xmpData(); };
+struct ImageFactory { static std::unique_ptr<Image> open(const std::string &); };
 struct IptcParser {
     static int decode(IptcData &, const unsigned char *, uint32_t);
     static DataBuf encode(const IptcData &);

@@ -71,14 +71,16 @@ def test_which_blocks_are_for_a_peer(folder):
     assert found == {"libexif": (True, False), "libiptcdata": (False, True), "exiv2": (True, True), "kamadak-exif": (True, False)}
 
 
-@pytest.mark.parametrize("driver", ["libexif.c", "libiptcdata.c", "exiv2.cpp"])
+@pytest.mark.parametrize(
+    "driver", [PEERS / "libexif.c", PEERS / "libiptcdata.c", PEERS / "exiv2.cpp", TOP / "bench/pictures/exiv2.cpp"], ids=str
+)
 def test_drivers_of_peers_compile(driver, folder):
     for name, text in PEER_HEADERS.items():
         path = folder / name
         path.parent.mkdir(parents=True, exist_ok=True)
         path.write_text(f"#pragma once\n{text}", encoding="utf-8")
-    compiler = ["c++", "-std=c++11"] if driver.endswith(".cpp") else ["cc", "-std=c99", "-D_POSIX_C_SOURCE=200809L"]
-    run(*compiler, *STRICT, "-I", folder, PEERS / driver)
+    compiler = ["c++", "-std=c++11"] if driver.suffix == ".cpp" else ["cc", "-std=c99", "-D_POSIX_C_SOURCE=200809L"]
+    run(*compiler, *STRICT, "-I", folder, driver)
 
 
 @pytest.mark.parametrize("count", [0, 1, 70_000, 3 << 20])
@@ -195,12 +197,29 @@ def of_pictures(monkeypatch):
 
 def test_processes_of_commands_on_pictures(of_pictures, folder, monkeypatch):
     called = []
-    monkeypatch.setattr(of_pictures, "cost", lambda words: called.append(words) or of_pictures.Cost(len(called), 1, 1))
+    monkeypatch.setattr(of_pictures, "cost", lambda words, *_: called.append(words) or of_pictures.Cost(len(called), 1, 1))
     timed = of_pictures.Timed(str(folder), 1)
     timed.round()
-    jobs = {name: called[int(it.seconds) - 1][-2] for name, it in timed.least.items() if name != "exiftool"}
+    jobs = {name: called[int(it.seconds) - 1][-2] for name, it in timed.least.items() if name not in ("exiftool", "exiv2")}
     assert {name for name, it in jobs.items() if it == "4"} == {"four", "others by four"}
     assert {it for name, it in jobs.items() if "four" not in name} == {"1"}
+
+
+def test_time_over_exiv2s_library(of_pictures, folder, monkeypatch):
+    """The start of the command is no part of the time for the pictures."""
+    monkeypatch.setattr(of_pictures, "exiv2_reader", lambda _: "reader")
+    monkeypatch.setattr(of_pictures, "share", lambda *_: 1.0)
+    pictures = folder / "named"
+    pictures.mkdir()
+    for name in "ab":
+        (pictures / f"{name}.jpg").write_bytes(b"")
+    timed = of_pictures.Timed(str(folder), 5000, str(pictures))
+    assert Path(timed.list).read_text().split() == [f"{pictures}/a.jpg", f"{pictures}/b.jpg"]
+    spent = {"exiv2": 0.004, "one": 0.025, "start": 0.005}
+    monkeypatch.setattr(of_pictures, "cost", lambda words, *_: of_pictures.Cost(1, 1, 1))
+    timed.round()
+    timed.least.update((name, of_pictures.Cost(1, it, 1)) for name, it in spent.items())
+    assert [row[1] for row in timed.rows() if "exiv2" in row[0]] == ["processor time: 5.00 (10.000 ms over 2.000 ms for a file)"]
 
 
 def test_instructions_of_commands_on_pictures(of_pictures, folder, monkeypatch):
