@@ -6,6 +6,7 @@ import itertools
 import json
 import os
 import sqlite3
+import zlib
 
 import hypothesis
 import hypothesis.strategies as st
@@ -50,7 +51,18 @@ def bare(octets, *more, **others):
     return jpeg(app1(around(lambda _: octets, **others)), *more)
 
 
+def leading(*more, swapped=False):
+    """A picture whose MakerNote leads to the value of a field: to another one if these have changed places, which means the same."""
+    make, artist = b"Canon\0", b"Annette\0"
+    first, second = (artist, make) if swapped else (make, artist)
+    at = {first: 68, second: 68 + len(first)}
+    entries = [entry(0x010F, ASCII, 6, at[make]), entry(0x013B, ASCII, 8, at[artist]), entry(0x8769, LONG, 1, 50)]
+    note = table([entry(0x0009, ASCII, 8, 68)])
+    return jpeg(app1(block(entries) + table([entry(0x927C, UNDEFINED, len(note), 82)]) + first + second + note), *more)
+
+
 SHORT = table([entry(0x0009, ASCII, 4, short(b"Eva"))])
+WARNED_OF = table([entry(0x0009, ASCII, 4, short(b"Eva")), entry(0x0010, 99, 1, 0)])
 FILES = {
     "plain": noted(),
     "moved": noted(moved=64),
@@ -68,6 +80,12 @@ FILES = {
     "short": bare(SHORT),
     "short, moved": bare(SHORT, moved=64),
     "short, unsorted, moved": bare(SHORT, moved=64, unsorted=True),
+    "short, warned of": bare(WARNED_OF),
+    "short, warned of, unsorted, moved": bare(WARNED_OF, moved=64, unsorted=True),
+    "leading to a field": leading(),
+    "leading to another field": leading(swapped=True),
+    "leading to a field, with unreadable XMP": leading(app1_xmp(b"<x")),
+    "leading to another field, with unreadable XMP": leading(app1_xmp(b"<x"), swapped=True),
     "short, with unreadable XMP": bare(SHORT, app1_xmp(b"<x")),
     "short, with unreadable XMP, moved": bare(SHORT, app1_xmp(b"<x"), moved=64),
     "with a second Exif": noted(more=[app1(exif(b"abc"))]),
@@ -223,6 +241,7 @@ def test_what_a_group_says(put, same, called, one, other, words, status):
     assert (found, names(group), unknown) == (status, ["a", "b"], {})
     assert all(it in group["description"] for it in words), group["description"]
     assert [it["keep"] for it in group["pictures"]] == [None, None]
+    assert "exif" not in group["digests"] or "but for the MakerNote" not in group["description"], "they have none in common"
     _, printed, _ = called("same", "--catalogue", "c")
     assert group["description"] in printed and "which one to keep isn't known" in printed
     _, table, _ = called("same", "--catalogue", "c", "--csv")
@@ -268,6 +287,23 @@ def test_what_is_kept_is_not_asked_about(put, same, asked):
     put("--maker-notes", a=noted(), b=noted(moved=64))
     asked.clear()
     assert [it["basis"] for it in same()[1]] == ["maker note"] and asked == []
+
+
+@needs("exiftool")
+@pytest.mark.parametrize(
+    "readings", [b"no zlib", zlib.compress(b"[]"), zlib.compress(b'[{"a": 1}, []]'), zlib.compress(b"[" * 9999), "text"]
+)
+def test_damaged_readings(put, called, folder, readings):
+    """Those of a stranger's catalogue: it is damaged, and nothing else happens."""
+    put("--maker-notes", a=noted(), b=noted(moved=64))
+    (folder / "q").mkdir()
+    (folder / "q/a.jpg").write_bytes(noted(moved=64))
+    called("index", "q", "--catalogue", "d", "--quiet")
+    with contextlib.closing(sqlite3.connect("c")) as base, base:
+        base.execute("UPDATE maker_notes SET readings = ?", (readings,))
+    for words in (["same", "--catalogue", "c"], ["changed", "c", "d"]):
+        status, _, message = called(*words)
+        assert status == 4 and "is damaged" in message and "Traceback" not in message, message
 
 
 def is_open(same, due, *words):

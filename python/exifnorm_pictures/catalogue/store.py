@@ -508,9 +508,9 @@ class Catalogue:
         with self.transaction():
             self.base.executemany("UPDATE pictures SET device = ? WHERE id = ?", devices)
 
-    def maker_notes(self, picture: Picture) -> Optional[bytes]:
-        """What ExifTool read of a picture's MakerNotes, if it was asked."""
-        return next(self.rows("SELECT readings FROM maker_notes WHERE picture = ?", (picture.id,), lambda row: bytes(row[0])), None)
+    def maker_notes(self, picture: Picture, made: Callable[[bytes], Made]) -> Optional[Made]:
+        """The result of `made` for what ExifTool read of a picture's MakerNotes, if it was asked."""
+        return next(self.rows("SELECT readings FROM maker_notes WHERE picture = ?", (picture.id,), lambda row: made(row[0])), None)
 
     def copy_to(self, name: str) -> None:
         """Copies the whole catalogue to another file."""

@@ -11,7 +11,7 @@ import zlib
 from collections import Counter
 from typing import Dict, Iterator, List, NamedTuple, Optional, Sequence, Tuple
 
-from ..catalogue.records import Damaged, Picture, Stamp, is_marked_as
+from ..catalogue.records import Damaged, Picture, Stamp, has, is_marked_as
 from ..extract import exiftool, programs
 from ..extract.budgets import FIELD_BYTES
 from .sides import KeepsNotes
@@ -126,6 +126,7 @@ def packed(reading: Reading) -> bytes:
 
 def unpacked(octets: bytes) -> Reading:
     """A reading from the result of `packed`. Raises `Damaged` for anything else."""
+    has(bytes, octets)
     try:
         opening = zlib.decompressobj()
         values, warnings = json.loads(opening.decompress(octets, FIELD_BYTES))
@@ -148,9 +149,9 @@ def compared(before: KeepsNotes, one: Picture, after: KeepsNotes, other: Picture
     """Two pictures compared; None if a reading isn't known: a file has changed since, or there is no ExifTool."""
     known: Dict[int, Reading] = {}
     for number, (catalogue, it) in enumerate(((before, one), (after, other))):
-        kept = catalogue.maker_notes(it)
+        kept = catalogue.maker_notes(it, unpacked)
         if kept is not None:
-            known[number] = unpacked(kept)
+            known[number] = kept
         elif not is_there(it):
             return None
     missing = [number for number in (0, 1) if number not in known]

@@ -60,10 +60,9 @@ class Readings:
 
         wanted = [it for it in pictures if it.id not in self._known] if self.look else []
         for it in wanted:
-            kept = self.catalogue.maker_notes(it)
+            kept = self.catalogue.maker_notes(it, maker_notes.unpacked)
             if kept is not None:
-                with self.catalogue.guarded():
-                    self._known[it.id] = Read.of(maker_notes.unpacked(kept))
+                self._known[it.id] = Read.of(kept)
         asked = [it for it in wanted if it.id not in self._known]
         with contextlib.suppress(Missing):
             for it, found in zip(asked, maker_notes.each_reading([it.path for it in asked])):

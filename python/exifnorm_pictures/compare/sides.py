@@ -2,18 +2,21 @@
 
 from __future__ import annotations
 
-from typing import List, Optional, Protocol, Tuple
+from typing import Callable, List, Optional, Protocol, Tuple, TypeVar
 
 from ..catalogue.records import Block, Picture
 from ..extract.formats.found import NotRead
 from ..fields.listing import Field
 
 
+Made = TypeVar("Made")
+
+
 class KeepsNotes(Protocol):
     """What may keep ExifTool's readings of MakerNotes."""
 
-    def maker_notes(self, picture: Picture) -> Optional[bytes]:
-        """The readings of a picture; None if they aren't kept."""
+    def maker_notes(self, picture: Picture, made: Callable[[bytes], Made]) -> Optional[Made]:
+        """The result of `made` for the readings of a picture; None if they aren't kept."""
         ...
 
 

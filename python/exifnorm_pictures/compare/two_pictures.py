@@ -6,7 +6,7 @@ import contextlib
 import filecmp
 import os
 from dataclasses import dataclass, field
-from typing import Dict, List, NamedTuple, Optional, Sequence, Tuple
+from typing import Callable, Dict, List, NamedTuple, Optional, Sequence, Tuple
 
 from .. import xmp
 from ..catalogue.records import KINDS, Block, Picture, PictureRecord, Stamp, digests
@@ -25,15 +25,16 @@ from ..xmp.texts import texts
 from .changed import Compared, compared
 from .differing import Difference, exact
 from .pairs import Pair
+from .sides import Made
 from .verdicts import ABSENT, SAME
 
 
 class _KeepsNothing(NamedTuple):
     """In place of a catalogue: no reading of a MakerNote is kept."""
 
-    def maker_notes(self, picture: Picture) -> Optional[bytes]:
+    def maker_notes(self, picture: Picture, made: Callable[[bytes], Made]) -> Optional[Made]:
         """None is kept."""
-        del picture
+        del picture, made
         return None
 
 
