@@ -1,10 +1,10 @@
-//! The engine for C: the kind of a block in memory, its normal form, its texts, whether two blocks mean the same,
-//! and where the blocks of a JPEG picture are. No call copies a block. Each call returns one of the statuses of `statuses`. Its contract states
-//! for each status when it comes, what the call has written to its output arguments, and what is unchanged.
-//! For each input exactly one status other than `NO_MEMORY` is possible. `NO_MEMORY` is returned instead
-//! exactly if an allocation failed: each call that allocates is one line over its `_in` variant in
-//! `over_memory`, whose contract states this. Calls share no state, so any number of threads may call at
-//! once.
+//! The engine for C: the kind of a block in memory, its normal form, its texts, whether two blocks mean the
+//! same, and where the blocks of a JPEG picture are. No call copies a block. Each call returns one of the
+//! statuses of `statuses`. Its contract states for each status when it comes, what the call has written to
+//! its output arguments, and what is unchanged. For each input exactly one status other than `NO_MEMORY` is
+//! possible. `NO_MEMORY` is returned instead exactly if an allocation failed: each call that allocates is
+//! one line over its `_in` variant in `over_memory`, whose contract states this. Calls share no state, so
+//! any number of threads may call at once.
 //!
 //! `include/exifnorm.h` declares these calls for C. A slice is a pointer and a length there, and a `Global`
 //! is no argument.
