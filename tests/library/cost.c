@@ -1,6 +1,7 @@
 /* What one call of the library costs: cost CALL FILE, where CALL is check, normalise, show, captions, compare (with itself), jpeg_parts or
- * photoshop_resources. It prints the most bytes that the call has allocated at once, the number of its allocations, and how many of these made something longer. test_costs.py runs
- * it, also under callgrind, which counts the instructions of the call. */
+ * photoshop_resources. It prints the most bytes that the call has allocated at once, the number of its allocations, how many of these made
+ * something longer, the bytes that they asked for, and the length of the output. test_costs.py runs it, also under callgrind, which counts the
+ * instructions of the call. */
 #include "fuzz/memory.h"
 #include <exifnorm.h>
 #include <stdio.h>
@@ -30,25 +31,24 @@ static struct block read_file(const char *name) {
     return block;
 }
 
-static uint32_t called(const char *name, struct block block, void *out, size_t room) {
+static uint32_t called(const char *name, struct block block, void *out, size_t room, size_t *written) {
     struct exifnorm_fault fault;
     struct exifnorm_jpeg_fault of_head;
     uint32_t number;
-    size_t written;
     if (!strcmp(name, "check"))
         return exifnorm_check(block.bytes, block.length, &number, &fault);
     if (!strcmp(name, "compare"))
         return exifnorm_compare(block.bytes, block.length, block.bytes, block.length, &number, &fault);
     if (!strcmp(name, "normalise"))
-        return exifnorm_normalise(block.bytes, block.length, out, room, &written, &fault);
+        return exifnorm_normalise(block.bytes, block.length, out, room, written, &fault);
     if (!strcmp(name, "show"))
-        return exifnorm_show(block.bytes, block.length, out, room, &written, &fault);
+        return exifnorm_show(block.bytes, block.length, out, room, written, &fault);
     if (!strcmp(name, "captions"))
-        return exifnorm_captions(block.bytes, block.length, out, room, &written, &fault);
+        return exifnorm_captions(block.bytes, block.length, out, room, written, &fault);
     if (!strcmp(name, "jpeg_parts"))
-        return exifnorm_jpeg_parts(block.bytes, block.length, out, room / sizeof(struct exifnorm_jpeg_part), &written, &of_head);
+        return exifnorm_jpeg_parts(block.bytes, block.length, out, room / sizeof(struct exifnorm_jpeg_part), written, &of_head);
     if (!strcmp(name, "photoshop_resources"))
-        return exifnorm_photoshop_resources(block.bytes, block.length, out, room / sizeof(struct exifnorm_photoshop_resource), &written);
+        return exifnorm_photoshop_resources(block.bytes, block.length, out, room / sizeof(struct exifnorm_photoshop_resource), written);
     exit(2);
 }
 
@@ -56,15 +56,15 @@ int main(int count, char **words) {
     if (count != 3)
         return 2;
     struct block block = read_file(words[2]);
-    size_t room = TIMES * block.length + BESIDE, before;
+    size_t room = TIMES * block.length + BESIDE, before, written = 0;
     unsigned char *out = malloc(room);
     if (!out)
         return 2;
     before = memory.live;
     start_counting(0);
-    uint32_t status = called(words[1], block, out, room);
+    uint32_t status = called(words[1], block, out, room, &written);
     stop_counting();
-    printf("%zu %zu %zu\n", memory.peak - before, memory.taken, memory.grown);
+    printf("%zu %zu %zu %zu %zu\n", memory.peak - before, memory.taken, memory.grown, memory.asked, written);
     free(out);
     free(block.bytes);
     return status != EXIFNORM_DONE;

@@ -9,8 +9,9 @@ import pytest
 
 import orders
 from compiling import C99, HERE, need, run
-from kinds import ORIENTATION, OfStrips, bad_orders, many_datasets, random_records
+from kinds import LARGE_MAKERS, ORIENTATION, OfStrips, bad_orders, many_datasets, random_records, small_kinds
 from meanings import RATIONAL, SHORT, Exif, Layout, Record, Value, laid
+from proved import bounds
 
 # The bytes of a DataSet; more DataSets than FEW are sorted, in a second list or with four bytes for each group.
 ITEM, FEW, COUNTERS = 24, 64, 4 * 65536
@@ -21,7 +22,7 @@ STRIP = {"check": (18, 52), "normalise": (181, 216), "compare": (152, 220)}
 SAME, SORTED = 1.3, 3.0  # how often the instructions of the usual order an unusual one takes, and one that has to be sorted
 PIECE = 8192  # bytes of the output buffer
 
-Counts = namedtuple("Counts", "peak allocations growths")
+Counts = namedtuple("Counts", "peak allocations growths asked written")
 
 
 class Costs:
@@ -31,7 +32,8 @@ class Costs:
         self.program, self.path = program, folder / "block"
 
     def counts(self, call, block):
-        """The most bytes that a call has allocated at once, its allocations, and how many of these made a list longer."""
+        """The most bytes that a call has allocated at once, its allocations, how many of these made a list longer, the bytes that they
+        asked for, and the length of the output."""
         self.path.write_bytes(block)
         return Counts(*map(int, run(self.program, call, self.path).split()))
 
@@ -152,7 +154,29 @@ def test_one_allocation_for_each_list(costs, meaning, checked, read):
         "captions": (read + 1 + captions, captions),
         "compare": (2 * read, 0),
     }
-    assert {call: costs.counts(call, block)[1:] for call in calls} == calls
+    assert {call: costs.counts(call, block)[1:3] for call in calls} == calls
+
+
+def see_that_proofs_hold(costs, block):
+    """No call asks the allocator for more than its contract states."""
+    most = bounds().block_request(len(block))
+    for call, proved in {"check": most, "normalise": most, "show": most, "captions": most, "compare": 2 * most}.items():
+        counts = costs.counts(call, block)
+        if call in ("show", "captions"):
+            proved += bounds().text_request(counts.written)
+        assert counts.asked <= proved, f"{call} of {len(block)} bytes asks for {counts.asked}"
+
+
+@pytest.mark.parametrize("kind", [pytest.param(it, id=it.name) for it in small_kinds()])
+def test_no_call_asks_for_more_than_is_proved(costs, kind):
+    for block in kind.blocks:
+        see_that_proofs_hold(costs, block)
+
+
+@pytest.mark.parametrize("make", LARGE_MAKERS, ids=lambda it: it.__name__)
+def test_no_call_for_a_large_block_asks_for_more_than_is_proved(costs, make):
+    for kind in make():
+        see_that_proofs_hold(costs, kind.blocks[0])
 
 
 # ---- instructions

@@ -10,6 +10,7 @@ from cases import Keeps
 from judging import problems
 from meanings import LIMIT
 from program import run
+from proved import bounds
 
 SECONDS = 60
 ROOM = 8192  # the size of the output buffer
@@ -35,21 +36,20 @@ class Cost:
 
 @lru_cache(maxsize=None)
 def reading(size):
-    """The cost of the list that a file of this size is read into, in whole buffers. It doubles up to 1 MiB, by a few calls that are
-    counted with the others of a run, and then grows by an eighth.
+    """The cost of the list that a file of this size is read into. It doubles up to 1 MiB, by a few calls that are counted with the others
+    of a run, and then grows by an eighth.
 
     >>> reading(65537), reading(3)
     (Cost(calls=0, asked=262144, capacity=131072), Cost(calls=0, asked=128, capacity=64))
     >>> reading((1 << 20) + 1)
-    Cost(calls=1, asked=3276800, capacity=1179648)
+    Cost(calls=1, asked=3276801, capacity=1179649)
     >>> reading(10_000_000).capacity < 10_000_000 * 9 // 8, reading(LIMIT).capacity <= MOST
     (True, True)
     """
     capacity = max(64, 1 << (min(size, DOUBLES) - 1).bit_length())
     it = Cost(asked=2 * capacity, capacity=capacity)
     while it.capacity < min(size, MOST):
-        full = it.capacity // CHUNK * CHUNK  # the next buffer doesn't fit
-        it.capacity = full + min(full // 8, MOST - full)
+        it.capacity = min(it.capacity + it.capacity // 8 + 1, MOST)
         it.calls += 1
         it.asked += it.capacity
     return it
@@ -158,6 +158,9 @@ def problems_of_cost(program, shim, case):
     found = problems(case, outcome)
     if counts is None:
         return [*found, "the run reported no counts"]
+    proved = sum(map(bounds().file_request, sizes_read(case))) + (WORDS if case.words else 0)
+    if counts.asked > proved:
+        found.append(f"asked: the contracts allow {proved}, and {counts.asked} came")
     most = limits_of(case, outcome)
     for name in ("calls", "asked", "held", "reads", "writes", "spent"):
         came, limit = getattr(counts, name), getattr(most, name)

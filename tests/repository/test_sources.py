@@ -90,11 +90,11 @@ MAKES = re.compile(r"\bMemory::new\(|\.fresh\(\)")
 # for later calls, and one of `Memory` itself.
 MAKERS = {
     "crates/px_bytes/src/growing.rt: new",
-    "crates/px_bytes/src/growing.rt: with_room_in",
     "crates/px_bytes/src/memory.rt: fresh",
     "crates/px_cli/src/main.rt: main",
     "crates/px_words/src/texts.rt: new",
     "crates/px_iim/src/iim.rt: new_in",
+    "crates/px_iim/src/iim.rt: with_room",
     "crates/px_plans/src/plan.rt: new_in",
 }
 

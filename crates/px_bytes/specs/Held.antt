@@ -4,6 +4,11 @@ use Rattle.std.specs.Ordering.{nat_cmp}
 use Rattle.std.specs.Map.{lookup}
 use Rattle.std.specs.BTreeMap.{is_at}
 
+-- the claimed ranges, the last one first, and a number of bytes: for marks of the bytes before it nothing is asked for any more
+pub record Claims : Type 0 where
+  pub ranges : List (ℕ × ℕ)
+  pub room : ℕ
+
 -- the range from `start` up to `end` is claimed
 abbrev pub Holds : List (ℕ × ℕ) → ℕ → ℕ → Type 0
 Holds held start end = lookup (is_at (nat_cmp start)) held ≡ Some end

@@ -1,9 +1,9 @@
--- What the contract of a call that allocates states of its memory: the number of failed allocations and of requested bytes,
--- before the call and after it.
-use Rattle.std.specs.Prelude.{◌≡◌, ◌+◌, ◌*◌, ◌≤◌, ℕ, Result, Ok, Err}
+-- What the contract of a call that allocates states of its memory: the number of failed allocations and of the bytes that the
+-- allocator was asked for, before the call and after it.
+use Rattle.std.specs.Prelude.{◌≡◌, ◌+◌, ◌*◌, ◌≤◌, ℕ, max, Result, Ok, Err}
 use Rattle.px_bytes.specs.Parts.{limit}
 
--- the number of failed allocations, and the bytes that calls have requested, whether the allocation succeeded or not
+-- the number of failed allocations, and the bytes that the allocator was asked for, whether the allocation succeeded or not
 pub record Taken : Type 0 where
   pub refusals : ℕ
   pub asked : ℕ
@@ -17,15 +17,16 @@ LacksBy (Err e) old new = new ≡ old + 1
 abbrev pub Lacks : {A E : Type 0} → Result A E → Taken → Taken → Type 0
 Lacks r old new = LacksBy r old.refusals new.refusals
 
--- a call may request so many bytes at once: sixteen for each byte of the longest block, as much as strips of one byte each take.
--- If the allocation of more fails, that doesn't mean that memory is short.
+-- A call may ask for so many bytes more than twice what is in memory already: sixteen for each byte of the longest block, as much as
+-- strips of one byte each take. If the allocation of more fails, that doesn't mean that memory is short.
 abbrev pub MayAsk : ℕ → Type 0
 MayAsk bytes = bytes ≤ 16 * limit
 
--- the bytes that count as requested for an entry of a map in addition to key and value: four machine words, for its share of nodes
-abbrev pub entry_links : ℕ
-entry_links = 32
+-- the new capacity of a vector that has too little for `wanted` elements, all of which the allocator is then asked for: at least
+-- twice as much, and at least four
+abbrev pub enlarged : ℕ → ℕ → ℕ
+enlarged capacity wanted = max wanted (2 * max 2 capacity)
 
--- a call has requested no more than so many bytes, whether it succeeded or not
+-- a call has asked for no more than so many bytes, whether it succeeded or not
 abbrev pub AsksAtMost : ℕ → Taken → Taken → Type 0
 AsksAtMost bytes old new = new.asked ≤ old.asked + bytes

@@ -1,6 +1,6 @@
 // A writer into memory.
-ghost use Rattle.std.specs.Prelude.{◌≡◌, ◌<◌, ◌+◌, [], IfOk, IsErr, ◌↔◌};
-ghost use Rattle.px_bytes.specs.Lacking.{Lacks, MayAsk, AsksAtMost};
+ghost use Rattle.std.specs.Prelude.{◌≡◌, ◌<◌, [], IfOk, IsErr, ◌↔◌};
+ghost use Rattle.px_bytes.specs.Lacking.{Lacks, AsksAtMost};
 ghost use Rattle.px_bytes.specs.calls.Grown.{grown_bytes};
 
 use crate::devices::{Device, Failed, Sink, Spell};
@@ -23,22 +23,16 @@ pub struct Growing {
 }
 
 impl Model for Growing {
-    ghost use Rattle.std.specs.Prelude.{◌≡◌, ◌≤◌, ◌+◌, ◌*◌, length};
-    ghost use Rattle.px_bytes.specs.calls.Grown.{Grown, grown_bytes};
+    ghost use Rattle.std.specs.Prelude.{◌≡◌, vec_len, vec_capacity};
+    ghost use Rattle.px_bytes.specs.calls.Grown.{Grown, HasGrown};
 
     ghost Value = { Grown };
 
     ghost view = { λ g. record { taken = g.taken.items; refusals = g.refusals; flushes = g.flushes.count; since = g.flushes.since } };
 
-    // One allocation of its memory has failed for each failed call, and no more was requested than the bytes
-    // written and those of the failed calls.
+    // One allocation of its memory has failed for each failed call.
     ghost invariant = { λ g. (g.memory.refusals ≡ g.refusals)
-        × (g.memory.asked ≤ grown_bytes (record {
-          taken = g.taken.items;
-          refusals = g.refusals;
-          flushes = g.flushes.count;
-          since = g.flushes.since;
-        })) };
+        × HasGrown (vec_len g.taken) (vec_capacity g.taken) g.refusals g.memory.asked };
 }
 
 impl Growing {
@@ -52,24 +46,6 @@ impl Growing {
             refusals: 0,
             flushes: Flushes::none(),
         }
-    }
-
-    /// An empty writer, which requests space for `room` bytes at first, at most sixteen times `LIMIT`. `Err`: that
-    /// allocation failed.
-    pub fn with_room_in(memory: &mut Memory, room: usize) -> Result<Growing, Refused>
-        requires { MayAsk room }
-        ensures none { IfOk result (λ g. g ≡ record { taken = []; refusals = 0; flushes = 0; since = 0 }) }
-        ensures memory { Lacks result memory.old memory.new }
-        ensures asked { memory.new.asked ≡ memory.old.asked + room }
-    {
-        let mut taken = memory.list();
-        memory.reserve(&mut taken, room)?;
-        Ok(Growing {
-            memory: memory.fresh(),
-            taken,
-            refusals: 0,
-            flushes: Flushes::none(),
-        })
     }
 
     /// The bytes written, or `Err` if a call has failed.

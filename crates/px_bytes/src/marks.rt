@@ -1,6 +1,6 @@
 // A bit for each byte of a block: testing and setting the bits of a range.
 ghost use Rattle.std.specs.Prelude.{◌≡◌, ℕ, ◌+◌, ◌*◌, ◌/◌, ◌-◌, ◌^◌, ◌<◌, ◌≤◌, true, false, [], length, get_or, max};
-ghost use Rattle.std.specs.Prelude.{vec_capacity, IfOk, OnOk, OnErr};
+ghost use Rattle.std.specs.Prelude.{vec_capacity, IfOk, IsOk, OnOk, OnErr};
 ghost use Rattle.px_bytes.specs.Lacking.{Lacks, MayAsk, AsksAtMost};
 ghost use Rattle.px_bytes.specs.Held.{mark_bytes};
 ghost use Rattle.px_bytes.specs.calls.Marks.{IsClear, HasOne, SameMarks, Puts};
@@ -80,7 +80,7 @@ pub fn with_room(memory: &mut Memory, end: usize) -> Result<Vec<u64>, Refused>
     ensures none { IfOk result (λ words. words.items ≡ []) }
     ensures room { IfOk result (λ words. end ≤ vec_capacity words * 64) }
     ensures memory { Lacks result memory.old memory.new }
-    ensures asked { memory.new.asked ≡ memory.old.asked + mark_bytes end }
+    ensures asked { AsksAtMost (mark_bytes end) memory.old memory.new }
 {
     let mut words = memory.list();
     memory.reserve_exact(&mut words, end.div_ceil(WIDTH))?;
@@ -96,13 +96,16 @@ fn reserve(memory: &mut Memory, words: &mut Vec<u64>, end: usize) -> Result<(), 
     ensures err { OnErr result (words.new.items ≡ words.old.items) }
     ensures memory { Lacks result memory.old memory.new }
     ensures len { OnOk result (length words.new.items ≡ max (length words.old.items) ((end + 63) / 64)) }
-    ensures asked { OnOk result (memory.new.asked + 8 * length words.old.items ≡ memory.old.asked + 8 * length words.new.items) }
-    ensures refused { OnErr result (AsksAtMost (mark_bytes end) memory.old memory.new) }
+    ensures capacity { vec_capacity words.old ≤ vec_capacity words.new }
+    ensures kept { OnErr result (vec_capacity words.new ≡ vec_capacity words.old) }
+    ensures fits { end ≤ vec_capacity words.old * 64 → IsOk result × (memory.new.asked ≡ memory.old.asked) }
+    ensures asked { AsksAtMost (2 * mark_bytes end + 16) memory.old memory.new }
 {
     let len = end.div_ceil(WIDTH);
     if len <= words.len() {
         return Ok(());
     }
+    memory.reserve(words, len - words.len())?;
     memory.resize(words, len, 0)
 }
 
@@ -163,13 +166,15 @@ fn put_far(
     ensures free { IfOk result (λ free. free ≡ true → IsClear words.old.items start end) }
     ensures puts { IfOk result (λ free. free ≡ true → Puts words.old.items words.new.items start end) }
     ensures taken { IfOk result (λ free. free ≡ false → HasOne words.old.items start end) }
-    ensures same { IfOk result (λ free. free ≡ false → words.new.items ≡ words.old.items) }
-    ensures err { OnErr result (words.new.items ≡ words.old.items) }
+    ensures same { IfOk result (λ free. free ≡ false →
+        (words.new.items ≡ words.old.items) × (vec_capacity words.new ≡ vec_capacity words.old)) }
+    ensures err { OnErr result ((words.new.items ≡ words.old.items) × (vec_capacity words.new ≡ vec_capacity words.old)) }
     ensures needed { OnErr result (IsClear words.old.items start end) }
     ensures memory { Lacks result memory.old memory.new }
     ensures len { IfOk result (λ free. free ≡ true → length words.new.items ≡ max (length words.old.items) ((end + 63) / 64)) }
-    ensures asked { OnOk result (memory.new.asked + 8 * length words.old.items ≡ memory.old.asked + 8 * length words.new.items) }
-    ensures refused { OnErr result (AsksAtMost (mark_bytes end) memory.old memory.new) }
+    ensures capacity { vec_capacity words.old ≤ vec_capacity words.new }
+    ensures fits { end ≤ vec_capacity words.old * 64 → IsOk result × (memory.new.asked ≡ memory.old.asked) }
+    ensures asked { AsksAtMost (2 * mark_bytes end + 16) memory.old memory.new }
 {
     if !are_clear(words, start, end) {
         return Ok(false);
@@ -231,13 +236,15 @@ pub fn put(
     ensures free { IfOk result (λ free. free ≡ true → IsClear words.old.items start end) }
     ensures puts { IfOk result (λ free. free ≡ true → Puts words.old.items words.new.items start end) }
     ensures taken { IfOk result (λ free. free ≡ false → HasOne words.old.items start end) }
-    ensures same { IfOk result (λ free. free ≡ false → words.new.items ≡ words.old.items) }
-    ensures err { OnErr result (words.new.items ≡ words.old.items) }
+    ensures same { IfOk result (λ free. free ≡ false →
+        (words.new.items ≡ words.old.items) × (vec_capacity words.new ≡ vec_capacity words.old)) }
+    ensures err { OnErr result ((words.new.items ≡ words.old.items) × (vec_capacity words.new ≡ vec_capacity words.old)) }
     ensures needed { OnErr result (IsClear words.old.items start end) }
     ensures memory { Lacks result memory.old memory.new }
     ensures len { IfOk result (λ free. free ≡ true → length words.new.items ≡ max (length words.old.items) ((end + 63) / 64)) }
-    ensures asked { OnOk result (memory.new.asked + 8 * length words.old.items ≡ memory.old.asked + 8 * length words.new.items) }
-    ensures refused { OnErr result (AsksAtMost (mark_bytes end) memory.old memory.new) }
+    ensures capacity { vec_capacity words.old ≤ vec_capacity words.new }
+    ensures fits { end ≤ vec_capacity words.old * 64 → IsOk result × (memory.new.asked ≡ memory.old.asked) }
+    ensures asked { AsksAtMost (2 * mark_bytes end + 16) memory.old memory.new }
 {
     // The usual result is a constant here, so that no caller looks at it again.
     if put_in_one(words, start, end) {

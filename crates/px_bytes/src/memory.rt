@@ -4,7 +4,7 @@ ghost use Rattle.std.specs.Prelude.{max, vec_len, vec_capacity, string_bytes, st
 ghost use Rattle.std.specs.Prelude.{if◌then◌else◌, IfOk, OnOk, OnErr, IsOk, IsErr, ◌↔◌, None, Some};
 ghost use Rattle.std.specs.BTreeMap.{get, insert_entry, btree_map_len, IsUnchanged, Updates};
 ghost use Rattle.std.specs.Mem.{type_size};
-ghost use Rattle.px_bytes.specs.Lacking.{Lacks, MayAsk, entry_links};
+ghost use Rattle.px_bytes.specs.Lacking.{Lacks, MayAsk, enlarged};
 
 use crate::told::Told;
 use std::alloc::{AllocError, Global};
@@ -12,9 +12,6 @@ use std::collections::BTreeMap;
 use std::marker::Model;
 use std::mem::size_of;
 use thiserror::Error;
-
-// What `put` counts as requested in addition to key and value: `entry_links` of the definitions.
-const ENTRY_LINKS: usize = 32;
 
 /// The error that an allocation failed. Only `Memory` makes one.
 #[derive(Debug, Drop, Error)]
@@ -33,17 +30,17 @@ impl From<Refused> for AllocError {
 /// calls of a device have failed. Only its calls enlarge a vector, a map or a text. A call that fails counts
 /// one failed allocation and leaves its vector, map or text as it was.
 ///
-/// No element, and no capacity that `reserve`, `reserve_exact` or `resize` requests, is larger than sixteen
+/// No call asks for more than twice what is in memory already, the vector and what is added to it, and sixteen
 /// bytes for each byte of the longest block. So no request is one that memory could never meet.
 ///
-/// Contracts also see how many bytes its calls have requested: the sizes of the elements, entries and texts
-/// that space was made for, whether the allocation succeeded or not. This is neither what is allocated at one
-/// time nor what the allocator is asked for: a vector or text that grows asks for its whole new capacity.
+/// Contracts also see how many bytes the allocator was asked for: the whole new capacity each time a vector
+/// grows, whether the allocation succeeded or not. A vector that has space for what is added asks for nothing.
+/// This is not what is allocated at one time. What a map and a text ask for is not counted.
 #[derive(Drop)]
 pub struct Memory {
     alloc: Global,
     refused: bool,
-    // The number of failed allocations and of requested bytes, which only proofs read.
+    // The number of failed allocations and of the bytes asked for, which only proofs read.
     told: Told,
 }
 
@@ -59,7 +56,7 @@ impl Model for Memory {
 }
 
 impl Memory {
-    /// Memory over an allocator, with no failed allocation and no requested byte. Allocates nothing.
+    /// Memory over an allocator, with no failed allocation and no byte asked for. Allocates nothing.
     pub fn new(alloc: Global) -> Memory
         ensures { result ≡ record { refusals = 0; asked = 0 } }
     {
@@ -77,14 +74,14 @@ impl Memory {
         self.refused
     }
 
-    /// Memory over the same allocator, with no failed allocation and no requested byte. Allocates nothing.
+    /// Memory over the same allocator, with no failed allocation and no byte asked for. Allocates nothing.
     pub fn fresh(&self) -> Memory
         ensures { result ≡ record { refusals = 0; asked = 0 } }
     {
         Memory::new(self.alloc)
     }
 
-    /// Takes over the counts of other memory. It adds that memory's requested bytes to its own. It returns
+    /// Takes over the counts of other memory. It adds the bytes that it asked for to its own. It returns
     /// `Err` and counts one failed allocation exactly if an allocation of that memory failed. Allocates nothing.
     pub fn join(&mut self, other: &Memory) -> Result<(), Refused>
         ensures which { IsErr result ↔ 0 < other.now.refusals }
@@ -110,14 +107,59 @@ impl Memory {
         Refused { _made: () }
     }
 
-    // Counts a request of capacity for `count` elements of `size` bytes each.
+    // Counts a request of capacity for `len` elements of `size` bytes each, and for `more` more.
     #[inline(always)]
-    fn ask(&mut self, count: usize, size: usize)
+    fn ask(&mut self, len: usize, more: usize, size: usize)
         ensures refusals { self.new.refusals ≡ self.old.refusals }
-        ensures asked { self.new.asked ≡ self.old.asked + count * size }
+        ensures asked { self.new.asked ≡ self.old.asked + (len + more) * size }
     {
-        let told = self.told.asking(count, size);
+        let told = self.told.asking(len, more, size);
         self.told = told;
+    }
+
+    // Makes the capacity exactly `more` more than the elements, which is more than it is. No other call asks
+    // std for a vector's memory.
+    #[inline(never)]
+    fn enlarge<T>(&mut self, list: &mut Vec<T>, more: usize) -> Result<(), Refused>
+        requires size { MayAsk (type_size T.row) }
+        requires lacks { vec_capacity list.old < vec_len list.old + more }
+        ensures items { list.new.items ≡ list.old.items }
+        ensures len { vec_len list.new ≡ vec_len list.old }
+        ensures capacity { OnOk result (vec_capacity list.new ≡ vec_len list.old + more) }
+        ensures kept { OnErr result (vec_capacity list.new ≡ vec_capacity list.old) }
+        ensures memory { Lacks result self.old self.new }
+        ensures asked { self.new.asked ≡ self.old.asked + (vec_len list.old + more) * type_size T.row }
+    {
+        self.ask(list.len(), more, 1 * size_of::<T>());
+        match list.reserve_exact(more) {
+            Ok(()) => Ok(()),
+            Err(_) => Err(self.refuse()),
+        }
+    }
+
+    // Makes capacity for at least `more` more elements, and at least doubles a capacity that is too small.
+    #[inline(always)]
+    fn have<T>(&mut self, list: &mut Vec<T>, more: usize) -> Result<(), Refused>
+        requires { MayAsk (type_size T.row) }
+        ensures items { list.new.items ≡ list.old.items }
+        ensures len { vec_len list.new ≡ vec_len list.old }
+        ensures room { OnOk result (vec_len list.new + more ≤ vec_capacity list.new) }
+        ensures capacity { vec_capacity list.old ≤ vec_capacity list.new }
+        ensures larger { vec_capacity list.old < vec_len list.old + more →
+            OnOk result (vec_capacity list.new ≡ enlarged (vec_capacity list.old) (vec_len list.old + more)) }
+        ensures kept { OnErr result (vec_capacity list.new ≡ vec_capacity list.old) }
+        ensures full { OnErr result (vec_capacity list.old < vec_len list.old + more) }
+        ensures memory { Lacks result self.old self.new }
+        ensures fits { vec_len list.old + more ≤ vec_capacity list.old →
+            IsOk result × (vec_capacity list.new ≡ vec_capacity list.old) × (self.new.asked ≡ self.old.asked) }
+        ensures asked { vec_capacity list.old < vec_len list.old + more →
+            self.new.asked ≡ self.old.asked + enlarged (vec_capacity list.old) (vec_len list.old + more) * type_size T.row }
+    {
+        if more <= list.capacity() - list.len() {
+            return Ok(());
+        }
+        let twice = 2 * list.capacity().max(2);
+        self.enlarge(list, more.max(twice - list.len()))
     }
 
     /// An empty vector. Allocates nothing.
@@ -151,15 +193,18 @@ impl Memory {
         ensures items { list.new.items ≡ (if is_ok result then list.old.items ++ x ∷ [] else list.old.items) }
         ensures len { vec_len list.new ≡ (if is_ok result then vec_len list.old + 1 else vec_len list.old) }
         ensures capacity { vec_capacity list.old ≤ vec_capacity list.new }
+        ensures larger { vec_capacity list.old < vec_len list.old + 1 →
+            OnOk result (vec_capacity list.new ≡ enlarged (vec_capacity list.old) (vec_len list.old + 1)) }
         ensures full { OnErr result (vec_capacity list.old ≤ vec_len list.old) }
         ensures memory { Lacks result self.old self.new }
-        ensures asked { self.new.asked ≡ self.old.asked + type_size T.row }
+        ensures fits { vec_len list.old + 1 ≤ vec_capacity list.old →
+            IsOk result × (vec_capacity list.new ≡ vec_capacity list.old) × (self.new.asked ≡ self.old.asked) }
+        ensures asked { vec_capacity list.old < vec_len list.old + 1 →
+            self.new.asked ≡ self.old.asked + enlarged (vec_capacity list.old) (vec_len list.old + 1) * type_size T.row }
     {
-        self.ask(1, 1 * size_of::<T>());
-        match list.push(x) {
-            Ok(()) => Ok(()),
-            Err(_) => Err(self.refuse()),
-        }
+        self.have(list, 1)?;
+        list.push_reserved(x);
+        Ok(())
     }
 
     /// Inserts an element at `index`, which is at most the number of elements. Allocates if the vector has no
@@ -169,39 +214,49 @@ impl Memory {
         requires size { MayAsk (type_size T.row) }
         ensures items { list.new.items ≡ (if is_ok result then insert list.old.items index x else list.old.items) }
         ensures len { vec_len list.new ≡ (if is_ok result then vec_len list.old + 1 else vec_len list.old) }
+        ensures capacity { vec_capacity list.old ≤ vec_capacity list.new }
+        ensures larger { vec_capacity list.old < vec_len list.old + 1 →
+            OnOk result (vec_capacity list.new ≡ enlarged (vec_capacity list.old) (vec_len list.old + 1)) }
         ensures full { OnErr result (vec_capacity list.old ≤ vec_len list.old) }
         ensures memory { Lacks result self.old self.new }
-        ensures asked { self.new.asked ≡ self.old.asked + type_size T.row }
+        ensures fits { vec_len list.old + 1 ≤ vec_capacity list.old →
+            IsOk result × (vec_capacity list.new ≡ vec_capacity list.old) × (self.new.asked ≡ self.old.asked) }
+        ensures asked { vec_capacity list.old < vec_len list.old + 1 →
+            self.new.asked ≡ self.old.asked + enlarged (vec_capacity list.old) (vec_len list.old + 1) * type_size T.row }
     {
-        self.ask(1, 1 * size_of::<T>());
+        self.have(list, 1)?;
         match list.insert(index, x) {
             Ok(()) => Ok(()),
             Err(_) => Err(self.refuse()),
         }
     }
 
-    /// Makes capacity for at least `more` more elements. `Err`: the allocation failed; that capacity is
-    /// missing. In either case the elements are as they were.
+    /// Makes capacity for at least `more` more elements. A vector that lacks it gets at least twice the capacity
+    /// that it has. `Err`: the allocation failed; the capacity is as it was. In either case the elements are.
     pub fn reserve<T>(&mut self, list: &mut Vec<T>, more: usize) -> Result<(), Refused>
-        requires { MayAsk (more * type_size T.row) }
+        requires size { MayAsk (type_size T.row) }
+        requires bounded { MayAsk ((more - vec_len list.old) * type_size T.row) }
         ensures items { list.new.items ≡ list.old.items }
         ensures len { vec_len list.new ≡ vec_len list.old }
         ensures room { OnOk result (vec_len list.new + more ≤ vec_capacity list.new) }
         ensures capacity { vec_capacity list.old ≤ vec_capacity list.new }
+        ensures larger { vec_capacity list.old < vec_len list.old + more →
+            OnOk result (vec_capacity list.new ≡ enlarged (vec_capacity list.old) (vec_len list.old + more)) }
+        ensures kept { OnErr result (vec_capacity list.new ≡ vec_capacity list.old) }
         ensures full { OnErr result (vec_capacity list.old < vec_len list.old + more) }
         ensures memory { Lacks result self.old self.new }
-        ensures asked { self.new.asked ≡ self.old.asked + more * type_size T.row }
+        ensures fits { vec_len list.old + more ≤ vec_capacity list.old →
+            IsOk result × (vec_capacity list.new ≡ vec_capacity list.old) × (self.new.asked ≡ self.old.asked) }
+        ensures asked { vec_capacity list.old < vec_len list.old + more →
+            self.new.asked ≡ self.old.asked + enlarged (vec_capacity list.old) (vec_len list.old + more) * type_size T.row }
     {
-        self.ask(1, more * size_of::<T>());
-        match list.reserve(more) {
-            Ok(()) => Ok(()),
-            Err(_) => Err(self.refuse()),
-        }
+        self.have(list, more)
     }
 
     /// Like `reserve`, but makes capacity for exactly `more` more elements.
     pub fn reserve_exact<T>(&mut self, list: &mut Vec<T>, more: usize) -> Result<(), Refused>
-        requires { MayAsk (more * type_size T.row) }
+        requires size { MayAsk (type_size T.row) }
+        requires bounded { MayAsk ((more - vec_len list.old) * type_size T.row) }
         ensures items { list.new.items ≡ list.old.items }
         ensures len { vec_len list.new ≡ vec_len list.old }
         ensures room { OnOk result (vec_len list.new + more ≤ vec_capacity list.new) }
@@ -209,13 +264,14 @@ impl Memory {
         ensures kept { OnErr result (vec_capacity list.new ≡ vec_capacity list.old) }
         ensures full { OnErr result (vec_capacity list.old < vec_len list.old + more) }
         ensures memory { Lacks result self.old self.new }
-        ensures asked { self.new.asked ≡ self.old.asked + more * type_size T.row }
+        ensures fits { vec_len list.old + more ≤ vec_capacity list.old → IsOk result × (self.new.asked ≡ self.old.asked) }
+        ensures asked { vec_capacity list.old < vec_len list.old + more →
+            self.new.asked ≡ self.old.asked + (vec_len list.old + more) * type_size T.row }
     {
-        self.ask(1, more * size_of::<T>());
-        match list.reserve_exact(more) {
-            Ok(()) => Ok(()),
-            Err(_) => Err(self.refuse()),
+        if more <= list.capacity() - list.len() {
+            return Ok(());
         }
+        self.enlarge(list, more)
     }
 
     /// Appends copies of the elements. Allocates if the vector has no capacity for all of them. `Err`: that
@@ -229,12 +285,16 @@ impl Memory {
         ensures items { list.new.items ≡ (if is_ok result then list.old.items ++ more.now else list.old.items) }
         ensures len { vec_len list.new ≡ (if is_ok result then vec_len list.old + length more.now else vec_len list.old) }
         ensures capacity { vec_capacity list.old ≤ vec_capacity list.new }
+        ensures larger { vec_capacity list.old < vec_len list.old + length more.now →
+            OnOk result (enlarged (vec_capacity list.old) (vec_len list.old + length more.now) ≤ vec_capacity list.new) }
         ensures succeeds { vec_len list.old + length more.now ≤ vec_capacity list.old → IsOk result }
         ensures full { OnErr result (vec_capacity list.old < vec_len list.old + length more.now) }
         ensures memory { Lacks result self.old self.new }
-        ensures asked { self.new.asked ≡ self.old.asked + length more.now * type_size T.row }
+        ensures fits { vec_len list.old + length more.now ≤ vec_capacity list.old → self.new.asked ≡ self.old.asked }
+        ensures asked { vec_capacity list.old < vec_len list.old + length more.now → self.new.asked
+            ≡ self.old.asked + enlarged (vec_capacity list.old) (vec_len list.old + length more.now) * type_size T.row }
     {
-        self.ask(more.len(), 1 * size_of::<T>());
+        self.have(list, more.len())?;
         match list.extend_from_slice(more) {
             Ok(()) => Ok(()),
             Err(_) => Err(self.refuse()),
@@ -244,16 +304,19 @@ impl Memory {
     /// Makes the vector `n` elements long: it removes the last elements or appends copies of `x`. Allocates if
     /// the vector has no capacity for `n`. `Err`: that allocation failed; the elements are as they were.
     pub fn resize<T: Copy>(&mut self, list: &mut Vec<T>, n: usize, x: T) -> Result<(), Refused>
-        requires { MayAsk (n * type_size T.row) }
+        requires size { MayAsk (type_size T.row) }
+        requires bounded { MayAsk ((n - 2 * vec_len list.old) * type_size T.row) }
         ensures items { list.new.items ≡ (if is_ok result then take n list.old.items ++ replicate (n - vec_len list.old) x else
             list.old.items) }
         ensures len { vec_len list.new ≡ (if is_ok result then n else vec_len list.old) }
+        ensures capacity { vec_capacity list.old ≤ vec_capacity list.new }
+        ensures kept { OnErr result (vec_capacity list.new ≡ vec_capacity list.old) }
         ensures full { OnErr result (vec_capacity list.old < n) }
         ensures memory { Lacks result self.old self.new }
-        ensures asked { self.new.asked ≡ self.old.asked + (n - vec_len list.old) * type_size T.row }
+        ensures fits { n ≤ vec_capacity list.old → IsOk result × (self.new.asked ≡ self.old.asked) }
+        ensures asked { vec_capacity list.old < n → self.new.asked ≡ self.old.asked + n * type_size T.row }
     {
-        let more = n.saturating_sub(list.len());
-        self.ask(1, more * size_of::<T>());
+        self.reserve_exact(list, n.saturating_sub(list.len()))?;
         match list.resize(n, x) {
             Ok(()) => Ok(()),
             Err(_) => Err(self.refuse()),
@@ -276,11 +339,7 @@ impl Memory {
         ensures absent { OnErr result (get K.cmp map.old key ≡ None) }
         ensures err { OnErr result (IsUnchanged map.old map.new) }
         ensures memory { Lacks result self.old self.new }
-        ensures asked { self.new.asked ≡ self.old.asked + (type_size K.row + type_size V.row + entry_links) }
     {
-        self.ask(1, 1 * size_of::<K>());
-        self.ask(1, 1 * size_of::<V>());
-        self.ask(1, ENTRY_LINKS);
         match map.insert(key, value) {
             Ok(old) => Ok(old),
             Err(_) => Err(self.refuse()),
@@ -294,9 +353,7 @@ impl Memory {
         ensures len { string_len text.new ≡ (if is_ok result then string_len text.old + length more.now else string_len text.old) }
         ensures full { OnErr result (string_capacity text.old < string_len text.old + length more.now) }
         ensures memory { Lacks result self.old self.new }
-        ensures asked { self.new.asked ≡ self.old.asked + length more.now }
     {
-        self.ask(more.len(), 1);
         match text.push_str(more) {
             Ok(()) => Ok(()),
             Err(_) => Err(self.refuse()),

@@ -1,10 +1,10 @@
-// The number of failed allocations and of requested bytes, which only proofs read.
+// The number of failed allocations and of the bytes asked for, which only proofs read.
 ghost use Rattle.std.specs.Prelude.{◌≡◌, ◌+◌, ◌*◌, ℕ};
 ghost use Rattle.std.specs.Borrow.{ftrue};
 
 use std::marker::Model;
 
-/// The number of failed allocations and the number of requested bytes. It has no size when the program runs,
+/// The number of failed allocations and the number of bytes asked for. It has no size when the program runs,
 /// and its functions do nothing then.
 #[derive(Drop)]
 pub struct Told {
@@ -32,15 +32,15 @@ impl Told {
         Told {}
     }
 
-    /// The bytes of `_count` elements of `_size` bytes each are added to the requested bytes.
+    /// The bytes of `_len` and `_more` elements of `_size` bytes each are added to the bytes asked for.
     #[inline(always)]
-    pub fn asking(&self, _count: usize, _size: usize) -> Told
-        ensures { (result.refusals ≡ self.now.refusals) × (result.asked ≡ self.now.asked + _count * _size) }
+    pub fn asking(&self, _len: usize, _more: usize, _size: usize) -> Told
+        ensures { (result.refusals ≡ self.now.refusals) × (result.asked ≡ self.now.asked + (_len + _more) * _size) }
     {
         Told {}
     }
 
-    /// The requested bytes of `_other` are added. The failed allocations stay the same.
+    /// The bytes that `_other` asked for are added. The failed allocations stay the same.
     #[inline(always)]
     pub fn besides(&self, _other: &Told) -> Told
         ensures { (result.refusals ≡ self.now.refusals) × (result.asked ≡ self.now.asked + _other.now.asked) }

@@ -1,5 +1,5 @@
-// px_bytes: ranges over an allocator, the texts of refusals, a failed flush, a write of no bytes, and space
-// allocated ahead.
+// px_bytes: ranges over an allocator, the texts of refusals, a failed flush, a write of no bytes, and a writer
+// into memory.
 use px_bytes::{
     Cause, Device, Growing, Memory, Ranges, ReadFault, Refusal, Sink, Watched, WriteRefusal,
 };
@@ -45,9 +45,9 @@ fn a_write_of_no_byte_passes(rt: HostRuntime) {
 }
 
 #[test]
-fn a_writer_with_capacity_grows(rt: HostRuntime) -> Result<(), Fail> {
+fn a_writer_into_memory_keeps_its_bytes(rt: HostRuntime) -> Result<(), Fail> {
     let mut memory = Memory::new(rt.alloc());
-    let mut writer = Growing::with_room_in(&mut memory, 2)?;
+    let mut writer = Growing::new(&memory);
     assert_eq!(rt; writer.write_some(b"II"), Ok(2));
     assert_eq!(rt; writer.finish_in(&mut memory)?.len(), 2);
     Ok(())

@@ -1,9 +1,12 @@
 -- How much a block in a file requests, and a file that was read.
-use Rattle.std.proofs.Common.{◌≤◌, ◌+◌, ◌*◌, ℕ, Bool, true, false, List, Option, Some, None, length, drop, ap}
-use Rattle.std.proofs.Common.{if◌then◌else◌, arith}
+use Rattle.std.proofs.Common.{◌≡◌, ◌≤◌, ◌+◌, ◌*◌, ℕ, Bool, true, false, List, [], Option, Some, None, length, drop, take, ap, ◌∙◌}
+use Rattle.std.proofs.Common.{if◌then◌else◌, arith, inl, inr, Result, Ok, Err, length-append}
 use Rattle.std.proofs.lemmas.List.{length-drop, length-take}
-use Rattle.px_bytes.specs.Reading.{ReadsUpTo, readable}
-use Rattle.px_engine.specs.Asking.{block_request, run_request}
+use Rattle.std.proofs.Math.Nat.{mul-le-mul_right}
+use Rattle.px_bytes.specs.Devices.{Calls, Writes, CountsFlush}
+use Rattle.px_bytes.specs.calls.Grown.{Grown, grown_bytes}
+use Rattle.px_bytes.specs.Reading.{ReadsUpTo, readable, read_request}
+use Rattle.px_engine.specs.Asking.{block_request, run_request, text_request}
 use Rattle.px_engine.specs.Files.{is_prefixed, block_of}
 use Rattle.px_engine.specs.Input.{most_read}
 
@@ -28,7 +31,36 @@ read_within (Some xs) new most bs h =
 
 -- the bytes were read, and then a call requested no more than their block does
 pub run_within : (old new : Option (List ℕ)) (bs : List ℕ) (first read now : ℕ) → ReadsUpTo old new most_read bs
-    → read ≤ first + (4 * readable old most_read + 262144) → now ≤ read + block_request (length bs) → now ≤ first + run_request old
+    → read ≤ first + read_request (readable old most_read) → now ≤ read + block_request (length bs) → now ≤ first + run_request old
 run_within old new bs first read now found asked more =
     let within = read_within old new most_read bs found in
     omega arith
+
+-- ---- a text in memory
+
+text_within : {A E : Type 0} (r : Result A E) (old new text : List ℕ) → length old ≡ 0 → Writes r (Some old) (Some new) text
+    → length new ≤ length text
+text_within (Ok x) old new text none w =
+    let all = ap (λ (xs : List ℕ). length xs) w ∙ length-append old text in omega arith
+text_within (Err e) old new text none w =
+    let n = w.0 in
+    let all = ap (λ (xs : List ℕ). length xs) w.2 ∙ length-append old (take n text) in
+    omega (arith, all, none, length-take {A = ℕ} n text)
+
+one_failure : {A E : Type 0} (r : Result A E) (old new : Calls) → CountsFlush r old new → new.failed ≤ old.failed + 1
+one_failure (Ok x) old new e = let failed = ap (λ (calls : Calls). calls.failed) e in omega arith
+one_failure (Err x) old new (inl e) = let failed = ap (λ (calls : Calls). calls.failed) e in omega arith
+one_failure (Err x) old new (inr e) = let failed = ap (λ (calls : Calls). calls.failed) e in omega arith
+
+pub text_asks : {A E : Type 0} (r : Result A E) (old new : Grown) (text : List ℕ)
+    → old ≡ record { taken = []; refusals = 0; flushes = 0; since = 0 } → Writes r (Some old.taken) (Some new.taken) text
+    → CountsFlush r (record { failed = old.refusals; flushes = old.flushes }) (record { failed = new.refusals; flushes = new.flushes })
+    → grown_bytes new ≤ text_request (length text)
+text_asks r old new text start wrote counted =
+    let none = ap (λ (g : Grown). length g.taken) start in
+    let zero = ap (λ (g : Grown). g.refusals) start in
+    let within = text_within r old.taken new.taken text none wrote in
+    let few = one_failure r (record { failed = old.refusals; flushes = old.flushes })
+    (record { failed = new.refusals; flushes = new.flushes }) counted in
+    let failed = mul-le-mul_right {m = new.refusals} {n = 1} (2 * (length new.taken + 65536)) (omega arith) in
+    omega (arith, within, failed)

@@ -1,6 +1,6 @@
 // Normal forms: written to a writer, or kept in memory. In memory a form is measured first, and then written
 // into a vector of exactly its length or into the caller's buffer.
-ghost use Rattle.std.specs.Prelude.{◌≡◌, ◌≤◌, ◌+◌, ◌*◌, length, IfOk, IfErr, OnOk};
+ghost use Rattle.std.specs.Prelude.{◌≡◌, ◌≤◌, length, IfOk, IfErr, OnOk};
 ghost use Rattle.px_bytes.specs.Lacking.{AsksAtMost};
 ghost use Rattle.px_bytes.specs.Devices.{CanFail, IsShort, over, Sends, SendsOnce};
 ghost use Rattle.px_bytes.specs.Parts.{limit};
@@ -20,7 +20,7 @@ ghost use Rattle.px_engine.specs.calls.Seen.{said_of};
 use crate::faults::Fault;
 use crate::filling::Filling;
 use crate::meanings::Said;
-use px_bytes::{CAPACITY, Failed, Growing, LIMIT, Memory, Pending, Sink, WriteRefusal};
+use px_bytes::{CAPACITY, Failed, LIMIT, Memory, Pending, Sink, WriteRefusal};
 use px_iim::{Iim, normal_len, put_iim, write_iim};
 use px_layout::{NormalForm, put_normal, write_normal_in};
 use px_tree::Meaning;
@@ -114,15 +114,15 @@ fn exif_form(memory: &mut Memory, m: &Meaning) -> Result<Vec<u8>, Fault>
     ensures formed { IfOk result (λ v. (v.items ≡ normal_exif (meaning_of m.now)) × (length v.items ≤ limit)) }
     ensures unformed { IfErr result (IsUnformed (said.Exif (meaning_of m.now)) memory.new.refusals) }
     ensures memory { LacksRun result memory.old memory.new }
-    ensures asked { AsksAtMost (2 * length (normal_exif (meaning_of m.now)) + 65536) memory.old memory.new }
+    ensures asked { AsksAtMost (length (normal_exif (meaning_of m.now))) memory.old memory.new }
 {
     let Ok(form) = NormalForm::new(m) else {
         return Err(Fault::NormalTooLong);
     };
-    let mut writer = Growing::with_room_in(memory, form.len() as usize)?;
-    // If an allocation failed, `finish_in` reports it.
-    let _ = send_exif(&form, &mut writer);
-    Ok(writer.finish_in(memory)?)
+    let mut out = memory.list();
+    memory.resize(&mut out, form.len() as usize, 0u8)?;
+    fill_exif(&form, &mut out);
+    Ok(out)
 }
 
 // The normal form of a record.
@@ -130,16 +130,16 @@ fn iim_form(memory: &mut Memory, iim: &Iim) -> Result<Vec<u8>, Fault>
     ensures formed { IfOk result (λ v. (v.items ≡ normal_iim iim.now) × (length v.items ≤ limit)) }
     ensures unformed { IfErr result (IsUnformed (said.Iim iim.now) memory.new.refusals) }
     ensures memory { LacksRun result memory.old memory.new }
-    ensures asked { AsksAtMost (2 * length (normal_iim iim.now) + 65536) memory.old memory.new }
+    ensures asked { AsksAtMost (length (normal_iim iim.now)) memory.old memory.new }
 {
     let len = normal_len(iim).unwrap_or(LIMIT + 1);
     if len > LIMIT {
         return Err(Fault::NormalTooLong);
     }
-    let mut writer = Growing::with_room_in(memory, len as usize)?;
-    // If the allocation failed, `finish_in` reports it.
-    let _ = send_record(iim, &mut writer, len as usize);
-    Ok(writer.finish_in(memory)?)
+    let mut out = memory.list();
+    memory.resize(&mut out, len as usize, 0u8)?;
+    fill_record(iim, &mut out);
+    Ok(out)
 }
 
 // The normal form of what a file means.
@@ -148,7 +148,7 @@ pub(crate) fn form_of(memory: &mut Memory, said: &Said) -> Result<Vec<u8>, Fault
     ensures formed { IfOk result (λ v. (v.items ≡ normal (said_of said.now)) × (length v.items ≤ limit)) }
     ensures unformed { IfErr result (IsUnformed (said_of said.now) memory.new.refusals) }
     ensures memory { LacksRun result memory.old memory.new }
-    ensures asked { AsksAtMost (2 * length (normal (said_of said.now)) + 65536) memory.old memory.new }
+    ensures asked { AsksAtMost (length (normal (said_of said.now))) memory.old memory.new }
 {
     match said {
         Said::Exif(meaning) => exif_form(memory, meaning),

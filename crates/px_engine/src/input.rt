@@ -1,8 +1,8 @@
 // Reads a whole file and judges it.
-ghost use Rattle.std.specs.Prelude.{◌≡◌, ◌+◌, ◌*◌, ℕ, length, IfOk, IfErr};
+ghost use Rattle.std.specs.Prelude.{◌≡◌, ℕ, length, IfOk, IfErr};
 ghost use Rattle.px_bytes.specs.Checks.{LacksBlock, LacksBlockBy};
 ghost use Rattle.px_bytes.specs.Lacking.{AsksAtMost};
-ghost use Rattle.px_bytes.specs.Reading.{ReadsUpTo, ConsumesAtMost, readable};
+ghost use Rattle.px_bytes.specs.Reading.{ReadsUpTo, ConsumesAtMost, readable, read_request};
 ghost use Rattle.px_meaning.specs.calls.Seen.{meaning_of};
 ghost use Rattle.px_engine.specs.declared.kinds.BlockKind.TheVariants as kind;
 ghost use Rattle.px_engine.specs.Asking.{block_request};
@@ -32,7 +32,7 @@ pub fn read_all_in<R: Source>(memory: &mut Memory, reader: &mut R) -> Result<Vec
     ensures fault { IfErr result IsReadFault }
     ensures count { CountsReads result (R.calls reader.old) (R.calls reader.new) }
     ensures memory { LacksRun result memory.old memory.new }
-    ensures asked { AsksAtMost (4 * readable (R.bytes_left reader.old) most_read + 262144) memory.old memory.new }
+    ensures asked { AsksAtMost (read_request (readable (R.bytes_left reader.old) most_read)) memory.old memory.new }
 {
     Ok(read_up_to_in(memory, reader, LIMIT as usize + 7)?)
 }
@@ -61,7 +61,7 @@ pub(crate) fn read_side<R: Source>(
     ensures fault { IfErr result (λ e. IsReadFault e.fault) }
     ensures count { CountsSecond result (R.calls reader.old) (R.calls reader.new) }
     ensures memory { LacksPair result memory.old memory.new }
-    ensures asked { AsksAtMost (4 * readable (R.bytes_left reader.old) most_read + 262144) memory.old memory.new }
+    ensures asked { AsksAtMost (read_request (readable (R.bytes_left reader.old) most_read)) memory.old memory.new }
 {
     match read_all_in(memory, reader) {
         Ok(file) => Ok(file),

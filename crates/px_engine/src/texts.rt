@@ -1,8 +1,9 @@
 // Writes the listing and the captions of a file.
-ghost use Rattle.std.specs.Prelude.{◌≡◌, ◌+◌, length, IfOk, OnOk};
+ghost use Rattle.std.specs.Prelude.{◌≡◌, length, IfOk, OnOk};
 ghost use Rattle.px_bytes.specs.Devices.{CanFail, over, SendsFlushed};
 ghost use Rattle.px_bytes.specs.Lacking.{Lacks, AsksAtMost};
 ghost use Rattle.px_bytes.specs.Waiting.{Adds};
+ghost use Rattle.px_engine.specs.Asking.{text_request};
 ghost use Rattle.px_engine.specs.Prints.{caption_text, listing};
 ghost use Rattle.px_engine.specs.calls.Ends.{WritesText};
 ghost use Rattle.px_engine.specs.calls.Faults.{as_fault};
@@ -112,7 +113,7 @@ pub(crate) fn write_captions<W: Sink>(said: &Said, writer: &mut W) -> Result<(),
 pub(crate) fn listing(memory: &mut Memory, said: &Said) -> Result<Vec<u8>, Refused>
     ensures text { IfOk result (λ text. text.items ≡ listing (said_of said.now)) }
     ensures memory { Lacks result memory.old memory.new }
-    ensures asked { AsksAtMost (length (listing (said_of said.now)) + 65536) memory.old memory.new }
+    ensures asked { AsksAtMost (text_request (length (listing (said_of said.now)))) memory.old memory.new }
 {
     let mut writer = Growing::new(memory);
     // A write fails if an allocation failed, which `finish_in` reports.
@@ -124,7 +125,7 @@ pub(crate) fn listing(memory: &mut Memory, said: &Said) -> Result<Vec<u8>, Refus
 pub(crate) fn caption_text(memory: &mut Memory, said: &Said) -> Result<Vec<u8>, Refused>
     ensures text { IfOk result (λ text. text.items ≡ caption_text (said_of said.now)) }
     ensures memory { Lacks result memory.old memory.new }
-    ensures asked { AsksAtMost (length (caption_text (said_of said.now)) + 65536) memory.old memory.new }
+    ensures asked { AsksAtMost (text_request (length (caption_text (said_of said.now)))) memory.old memory.new }
 {
     let mut writer = Growing::new(memory);
     // A write fails if an allocation failed, which `finish_in` reports.

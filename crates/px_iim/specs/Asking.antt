@@ -1,4 +1,4 @@
--- How many bytes the calls request at most.
+-- How many bytes the calls ask for at most.
 use Rattle.std.specs.Prelude.{◌≡◌, ℕ, ◌+◌, ◌*◌, ◌/◌, max, length, flat_map, Result, Ok, Err, ⊤}
 use Rattle.px_bytes.specs.declared.Refusal.{Refusal}
 use Rattle.px_bytes.specs.declared.Refusal.TheVariants.{Content, OutOfMemory}
@@ -17,7 +17,7 @@ counter_bytes = 262144
 abbrev pub iim_request : ℕ → ℕ
 iim_request n = item_bytes * (n / 5) + counter_bytes
 
--- a block that is refused requests nothing
+-- for a block that is refused nothing is asked for
 abbrev pub RefusesFirst : {A : Type 0} → Result A Refusal → Taken → Taken → Type 0
 RefusesFirst (Ok x) old new = ⊤
 RefusesFirst (Err (Content cause place)) old new = new.asked ≡ old.asked
@@ -27,6 +27,6 @@ RefusesFirst (Err OutOfMemory) old new = ⊤
 abbrev pub dataset_count : Record → ℕ
 dataset_count i = length (flat_map (λ g. g.items) i)
 
--- to put one more DataSet after n others: capacity for half as many, at least for three, and for this one
+-- to put one more DataSet after n others: the whole new list, which has space for half as many more, and for at least three
 abbrev pub put_request : ℕ → ℕ
-put_request n = item_bytes * (max 3 (n / 2) + 1)
+put_request n = item_bytes * (n + max 3 (n / 2))

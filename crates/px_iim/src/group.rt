@@ -72,7 +72,7 @@ fn reserve_more<'a>(memory: &mut Memory, list: &mut Vec<Item<'a>>) -> Result<(),
     ensures long { LONG < vec_len list.old →
         vec_capacity list.new ≤ max (vec_capacity list.old) (vec_len list.old + vec_len list.old / 32) }
     ensures memory { Lacks result memory.old memory.new }
-    ensures asked { AsksAtMost (item_bytes * max 3 (vec_len list.old / 2)) memory.old memory.new }
+    ensures asked { AsksAtMost (put_request (vec_len list.old)) memory.old memory.new }
 {
     if list.len() < list.capacity() {
         return Ok(());
@@ -116,7 +116,7 @@ pub(crate) fn reserve_for<'a>(
     ensures room { OnOk result (vec_len list.new + count ≤ vec_capacity list.new) }
     ensures most { vec_capacity list.new ≤ max (vec_capacity list.old) (vec_len list.old + count) }
     ensures memory { Lacks result memory.old memory.new }
-    ensures asked { memory.new.asked ≡ memory.old.asked + item_bytes * count }
+    ensures asked { AsksAtMost (item_bytes * (vec_len list.old + count)) memory.old memory.new }
 {
     memory.reserve_exact(list, count)
 }

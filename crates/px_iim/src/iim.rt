@@ -74,11 +74,15 @@ impl<'a> Iim<'a> {
         requires { 5 * count ≤ limit }
         ensures none { IfOk result (λ i. i ≡ []) }
         ensures memory { Lacks result memory.old memory.new }
-        ensures asked { memory.new.asked ≡ memory.old.asked + item_bytes * count }
+        ensures asked { AsksAtMost (item_bytes * count) memory.old memory.new }
     {
-        let mut record = Iim::new_in(memory);
-        reserve_for(memory, &mut record.items, count)?;
-        Ok(record)
+        let mut items = memory.list();
+        reserve_for(memory, &mut items, count)?;
+        Ok(Iim {
+            own: memory.fresh(),
+            items,
+            form_len: Some(0),
+        })
     }
 
     // The record of DataSets that are in order, with the length of its normal form.

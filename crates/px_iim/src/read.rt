@@ -81,8 +81,8 @@ pub fn read_iim<'a>(alloc: Global, bytes: &'a [u8]) -> Result<Iim<'a>, Refusal>
 }
 
 /// Like `read_iim`, with the caller's memory: it returns `OutOfMemory` exactly if an allocation failed in this
-/// call. It requests at most 24 bytes for each five octets of the block, and 262,144 for sorting; for a block
-/// that is refused, it requests nothing.
+/// call. It asks for at most 24 bytes for each five octets of the block, and 262,144 for sorting; for a block
+/// that is refused, for nothing.
 pub fn read_iim_in<'a>(memory: &mut Memory, bytes: &'a [u8]) -> Result<Iim<'a>, Refusal>
     ensures judged { Judges result (iim_checks bytes.now) (SaysIim bytes.now) }
     ensures computed { IfOk result (λ i. iim_of bytes.now ≡ Some i) }

@@ -1,8 +1,8 @@
 // Writes and measures the normal form.
-ghost use Rattle.std.specs.Prelude.{◌≡◌, ◌≤◌, ◌<◌, ◌++◌, length, map, OnOk, OnErr};
+ghost use Rattle.std.specs.Prelude.{◌≡◌, ◌≤◌, ◌<◌, ◌+◌, ◌++◌, length, map, vec_len, vec_capacity, OnOk, OnErr};
 ghost use Rattle.std.specs.List.{flat_map};
 ghost use Rattle.px_bytes.specs.Devices.{CanFail, IsShort, SendsOnce, WritesOnce, over};
-ghost use Rattle.px_bytes.specs.Lacking.{Lacks, AsksAtMost};
+ghost use Rattle.px_bytes.specs.Lacking.{Lacks, AsksAtMost, enlarged};
 ghost use Rattle.px_bytes.specs.Parts.{limit};
 ghost use Rattle.px_bytes.specs.Waiting.{Waits, Adds, AddsTo};
 ghost use Rattle.px_iim.specs.Record.{normal_dataset, normal_iim};
@@ -112,27 +112,35 @@ pub fn write_iim<W: Sink>(iim: &Iim, writer: &mut W) -> Result<u64, WriteRefusal
     Ok(len)
 }
 
+// Appends the normal form of a DataSet to a vector that has capacity for it.
 fn append_item(memory: &mut Memory, rec: u8, item: &Item, out: &mut Vec<u8>) -> Result<(), Refused>
-    requires { length item.now.octets.now ≤ limit }
+    requires few { length item.now.octets.now ≤ limit }
+    requires room { vec_len out.old + length (normal_dataset rec (item_view item.now)) ≤ vec_capacity out.old }
     ensures grown { Grows result out.old.items out.new.items (normal_dataset rec (item_view item.now)) }
     ensures memory { Lacks result memory.old memory.new }
-    ensures asked { AsksAtMost (length (normal_dataset rec (item_view item.now))) memory.old memory.new }
+    ensures asked { memory.new.asked ≡ memory.old.asked }
+    ensures room { vec_len out.new + vec_capacity out.old
+        ≤ vec_len out.old + vec_capacity out.new + length (normal_dataset rec (item_view item.now)) }
 {
     let (octets, len) = head(rec, item.number, item.octets.len() as u32);
     memory.extend_from_slice(out, &octets[..len])?;
     memory.extend_from_slice(out, item.octets)
 }
 
+// The same for all DataSets of a group.
 fn append_group(
     memory: &mut Memory,
     rec: u8,
     items: &[Item],
     out: &mut Vec<u8>,
 ) -> Result<(), Refused>
-    requires { AreShort (map item_view items.now) }
+    requires short { AreShort (map item_view items.now) }
+    requires room { vec_len out.old + length (flat_map (normal_dataset rec) (map item_view items.now)) ≤ vec_capacity out.old }
     ensures grown { Grows result out.old.items out.new.items (flat_map (normal_dataset rec) (map item_view items.now)) }
     ensures memory { Lacks result memory.old memory.new }
-    ensures asked { AsksAtMost (length (flat_map (normal_dataset rec) (map item_view items.now))) memory.old memory.new }
+    ensures asked { memory.new.asked ≡ memory.old.asked }
+    ensures room { vec_len out.new + vec_capacity out.old
+        ≤ vec_len out.old + vec_capacity out.new + length (flat_map (normal_dataset rec) (map item_view items.now)) }
 {
     for item in items {
         append_item(memory, rec, item, out)?;
@@ -140,10 +148,12 @@ fn append_group(
     Ok(())
 }
 
+// The same for a record.
 fn append_record(memory: &mut Memory, iim: &Iim, out: &mut Vec<u8>) -> Result<(), Refused>
+    requires { vec_len out.old + length (normal_iim iim.now) ≤ vec_capacity out.old }
     ensures grown { Grows result out.old.items out.new.items (normal_iim iim.now) }
     ensures memory { Lacks result memory.old memory.new }
-    ensures asked { AsksAtMost (length (normal_iim iim.now)) memory.old memory.new }
+    ensures asked { memory.new.asked ≡ memory.old.asked }
 {
     for (rec, _, items) in iim.iter() {
         append_group(memory, rec, items, out)?;
@@ -169,8 +179,10 @@ pub fn append_iim_in(memory: &mut Memory, iim: &Iim, out: &mut Vec<u8>) -> Resul
     ensures done { OnOk result (out.new.items ≡ out.old.items ++ normal_iim iim.now) }
     ensures failed { OnErr result (out.new.items ≡ out.old.items) }
     ensures memory { Lacks result memory.old memory.new }
-    ensures asked { AsksAtMost (length (normal_iim iim.now)) memory.old memory.new }
+    ensures fits { vec_len out.old + length (normal_iim iim.now) ≤ vec_capacity out.old → memory.new.asked ≡ memory.old.asked }
+    ensures asked { AsksAtMost (enlarged (vec_capacity out.old) (vec_len out.old + length (normal_iim iim.now))) memory.old memory.new }
 {
+    memory.reserve(out, normal_len(iim).unwrap_or(0) as usize)?;
     let before = out.len();
     let result = append_record(memory, iim, out);
     if result.is_err() {

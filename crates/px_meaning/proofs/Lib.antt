@@ -1,2 +1,3 @@
+mod Added
 pub mod writable
 pub mod tables

@@ -1,8 +1,8 @@
 // The fields of a directory, by their tags.
 ghost use Rattle.std.specs.Prelude.{◌≡◌, ◌<◌, [], ◌∷◌, ◌++◌, OnOk, IfOk, IfErr, OnErr, Some, None, length, slice_get, option_copied};
 ghost use Rattle.std.specs.Prelude.{is_some, true, false, IsTrue, ◌↔◌, ◌+◌, ◌*◌, if◌then◌else◌};
-ghost use Rattle.px_bytes.specs.Lacking.{Lacks};
-ghost use Rattle.px_meaning.specs.Asking.{field_bytes};
+ghost use Rattle.px_bytes.specs.Lacking.{Lacks, AsksAtMost};
+ghost use Rattle.px_meaning.specs.Asking.{field_request};
 ghost use Rattle.px_meaning.specs.Roles.{at_tag};
 ghost use Rattle.px_meaning.specs.Fits.{put};
 ghost use Rattle.px_meaning.specs.Entry.{Rising};
@@ -109,7 +109,7 @@ impl<'a> Fields<'a> {
         ensures absent { OnErr result (at_tag tag self.old ≡ None) }
         ensures err { OnErr result (self.new ≡ self.old) }
         ensures memory { Lacks result memory.old memory.new }
-        ensures asked { memory.new.asked ≡ memory.old.asked + (if is_some (at_tag tag self.old) then 0 else field_bytes) }
+        ensures asked { AsksAtMost (if is_some (at_tag tag self.old) then 0 else field_request (length self.old)) memory.old memory.new }
     {
         match position_of(self.list.as_slice(), tag) {
             Ok(_) => Ok(false),
@@ -122,27 +122,12 @@ impl<'a> Fields<'a> {
 }
 
 impl<'a> Fields<'a> {
-    /// No fields, with capacity for so many.
-    pub fn with_room(memory: &mut Memory, count: u16) -> Result<Fields<'a>, Refused>
-        ensures none { IfOk result (λ f. f ≡ []) }
-        ensures memory { Lacks result memory.old memory.new }
-        ensures asked { memory.new.asked ≡ memory.old.asked + count * field_bytes }
+    /// The fields of a list by ascending tag.
+    pub fn of_list(list: Vec<(u16, Value<'a>)>) -> Fields<'a>
+        requires { Rising (tags list.items) }
+        ensures { result ≡ list.entry.items }
     {
-        let mut list = memory.list();
-        memory.reserve(&mut list, usize::from(count))?;
-        Ok(Fields { list })
-    }
-
-    /// Appends a field.
-    pub fn push(&mut self, memory: &mut Memory, tag: u16, value: Value<'a>) -> Result<(), Refused>
-        requires { Rising (tags (self.old ++ (tag, value) ∷ [])) }
-        ensures ok { OnOk result (self.new ≡ self.old ++ (tag, value.entry) ∷ []) }
-        ensures err { OnErr result (self.new ≡ self.old) }
-        ensures memory { Lacks result memory.old memory.new }
-        ensures asked { memory.new.asked ≡ memory.old.asked + field_bytes }
-    {
-        memory.push(&mut self.list, (tag, value))?;
-        Ok(())
+        Fields { list }
     }
 }
 

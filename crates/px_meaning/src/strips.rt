@@ -1,8 +1,8 @@
 // The strips of a thumbnail.
 ghost use Rattle.std.specs.Prelude.{◌≡◌, ◌<◌, ◌≤◌, ◌+◌, [], ◌∷◌, ◌++◌, length, map, slice_get, Some, OnOk, OnErr, IsTrue, ◌↔◌};
 ghost use Rattle.std.specs.Prelude.{IfSome};
-ghost use Rattle.px_bytes.specs.Lacking.{Lacks};
-ghost use Rattle.px_meaning.specs.Asking.{strip_bytes};
+ghost use Rattle.px_bytes.specs.Lacking.{Lacks, AsksAtMost};
+ghost use Rattle.px_meaning.specs.Asking.{strip_request};
 ghost use Rattle.px_meaning.specs.calls.Strips.{AreNamed, AreJoined, named_strips, longs};
 
 use crate::strip_lists::{StripLists, long_sizes, strip_at, strip_len};
@@ -77,7 +77,7 @@ impl<'a> Strips<'a> {
         ensures ok { OnOk result (self.new ≡ self.old ++ strip.now ∷ []) }
         ensures err { OnErr result (self.new ≡ self.old) }
         ensures memory { Lacks result memory.old memory.new }
-        ensures asked { memory.new.asked ≡ memory.old.asked + strip_bytes }
+        ensures asked { AsksAtMost (strip_request (length self.old)) memory.old memory.new }
     {
         memory.push(&mut self.list, strip)?;
         Ok(())

@@ -27,9 +27,9 @@ fn claim(
 ) -> Result<bool, Refused>
     requires { (plan_of plan.now).length ≤ limit }
     ensures memory { Lacks result memory.old memory.new }
-    ensures free { (taken : List Range) → Agrees taken held.old →
+    ensures free { (taken : List Range) → Agrees taken held.old.ranges →
         IfOk result (λ free. (free ≡ stands (plan_of plan.now) taken (chunk, size))
-        × (free ≡ true → Agrees (range (place (plan_of plan.now) chunk) size ∷ taken) held.new)) }
+        × (free ≡ true → Agrees (range (place (plan_of plan.now) chunk) size ∷ taken) held.new.ranges)) }
 {
     let Some(offset) = plan.offset(chunk) else {
         return Ok(false);
@@ -53,7 +53,7 @@ fn claim_all(
 ) -> Result<bool, Refused>
     requires { (plan_of plan.now).length ≤ limit }
     ensures memory { Lacks result memory.old memory.new }
-    ensures free { (taken : List Range) → Agrees taken held.old →
+    ensures free { (taken : List Range) → Agrees taken held.old.ranges →
         IfOk result (λ free. free ≡ all_stand (plan_of plan.now) taken chunks.now) }
 {
     for i in 0..chunks.len() {

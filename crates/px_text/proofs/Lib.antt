@@ -1,3 +1,4 @@
+pub mod Growth
 pub mod Chains
 pub mod Parts
 pub mod Shown

@@ -103,9 +103,10 @@ captions_of_exif m = (record_declares m.iptc, exif_captions m.main ++ record_cap
 abbrev pub captions_of_iim : Record → Bool × List Labelled
 captions_of_iim i = (declares_utf8 i, iim_captions i)
 
--- the bytes of a caption in a list, besides its text
+-- the bytes asked for for each caption in a list, besides its text: 24 in the list, and three times as many for the lists before and
+-- after it, each twice as large as the one before
 abbrev pub caption_bytes : ℕ
-caption_bytes = 24
+caption_bytes = 96
 
 -- ---- their text
 

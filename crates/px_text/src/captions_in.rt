@@ -1,6 +1,6 @@
 // Which texts of a file are captions.
 ghost use Rattle.std.specs.Prelude.{◌≡◌, ◌≤◌, ◌+◌, ◌*◌, [], ◌∷◌, ◌++◌, length, map, filter_map, option_map, if◌then◌else◌};
-ghost use Rattle.std.specs.Prelude.{Some, None, bytes_eq, OnOk, IfOk};
+ghost use Rattle.std.specs.Prelude.{Some, None, bytes_eq, is_ok, vec_len, vec_capacity, OnOk, IfOk};
 ghost use Rattle.px_bytes.specs.Lacking.{Lacks, AsksAtMost};
 ghost use Rattle.px_bytes.specs.declared.Order.TheVariants.{Most};
 ghost use Rattle.px_field.specs.Values.{spelled};
@@ -10,6 +10,7 @@ ghost use Rattle.px_meaning.specs.calls.Seen.{meaning_of};
 ghost use Rattle.px_text.specs.Captions.{labelled, iim_captions, utf8_designation, declares_utf8, is_text, text_captions, exif_captions};
 ghost use Rattle.px_text.specs.Captions.{captions_of_exif, captions_of_iim, caption_bytes};
 ghost use Rattle.px_text.specs.calls.CaptionView.{caption_view};
+ghost use Rattle.px_text.specs.calls.Spent.{spent};
 
 use crate::caption::{Caption, Captions};
 use crate::labels::{GROUPS, Label, TEXTS, label_of};
@@ -21,6 +22,21 @@ use px_meaning::{Fields, Meaning};
 // ESC % G.
 const UTF8: [u8; 3] = [0x1B, 0x25, 0x47];
 
+// Appends a caption.
+fn push_caption<'a>(
+    memory: &mut Memory,
+    list: &mut Vec<Caption<'a>>,
+    caption: Caption<'a>,
+) -> Result<(), Refused>
+    ensures list { list.new.items ≡ (if is_ok result then list.old.items ++ caption.entry ∷ [] else list.old.items) }
+    ensures memory { Lacks result memory.old memory.new }
+    ensures asked { memory.new.asked ≤ spent memory.old (vec_len list.old) (vec_capacity list.old) + caption_bytes }
+    ensures paid { OnOk result (spent memory.new (vec_len list.new) (vec_capacity list.new)
+        ≤ spent memory.old (vec_len list.old) (vec_capacity list.old) + caption_bytes) }
+{
+    memory.push(list, caption)
+}
+
 // Appends a DataSet if it has a label.
 fn push_item<'a>(
     memory: &mut Memory,
@@ -30,11 +46,14 @@ fn push_item<'a>(
     ensures list { OnOk result (map caption_view list.new.items ≡ map caption_view list.old.items ++ filter_map labelled
         (item_view item.entry ∷ [])) }
     ensures memory { Lacks result memory.old memory.new }
-    ensures asked { AsksAtMost (caption_bytes * length (filter_map labelled (item_view item.entry ∷ []))) memory.old memory.new }
+    ensures asked { memory.new.asked ≤ spent memory.old (vec_len list.old) (vec_capacity list.old) + caption_bytes * length (filter_map labelled (item_view item.entry ∷ [])) }
+    ensures paid { OnOk result (spent memory.new (vec_len list.new) (vec_capacity list.new)
+        ≤ spent memory.old (vec_len list.old) (vec_capacity list.old) + caption_bytes * length (filter_map labelled (item_view item.entry ∷ []))) }
 {
     match label_of(item.number) {
         Some(label) => {
-            memory.push(
+            push_caption(
+                memory,
                 list,
                 Caption {
                     label,
@@ -55,7 +74,9 @@ fn push_group<'a>(
     ensures list { OnOk result (map caption_view list.new.items ≡ map caption_view list.old.items ++ filter_map labelled
         (map item_view items.now)) }
     ensures memory { Lacks result memory.old memory.new }
-    ensures asked { AsksAtMost (caption_bytes * length (filter_map labelled (map item_view items.now))) memory.old memory.new }
+    ensures asked { memory.new.asked ≤ spent memory.old (vec_len list.old) (vec_capacity list.old) + caption_bytes * length (filter_map labelled (map item_view items.now)) }
+    ensures paid { OnOk result (spent memory.new (vec_len list.new) (vec_capacity list.new)
+        ≤ spent memory.old (vec_len list.old) (vec_capacity list.old) + caption_bytes * length (filter_map labelled (map item_view items.now))) }
 {
     for item in items {
         push_item(memory, *item, list)?;
@@ -72,7 +93,9 @@ fn push_record<'a>(
 ) -> Result<(), Refused>
     ensures list { OnOk result (map caption_view list.new.items ≡ map caption_view list.old.items ++ iim_captions iim.now) }
     ensures memory { Lacks result memory.old memory.new }
-    ensures asked { AsksAtMost (caption_bytes * length (iim_captions iim.now)) memory.old memory.new }
+    ensures asked { memory.new.asked ≤ spent memory.old (vec_len list.old) (vec_capacity list.old) + caption_bytes * length (iim_captions iim.now) }
+    ensures paid { OnOk result (spent memory.new (vec_len list.new) (vec_capacity list.new)
+        ≤ spent memory.old (vec_len list.old) (vec_capacity list.old) + caption_bytes * length (iim_captions iim.now)) }
 {
     for i in 0..GROUPS.len() {
         push_group(memory, iim.group(2, GROUPS[i]), list)?;
@@ -129,7 +152,9 @@ fn push_text<'a>(
     ensures list { OnOk result (map caption_view list.new.items ≡ map caption_view list.old.items ++ text_captions label
         (at_tag tag fields.now)) }
     ensures memory { Lacks result memory.old memory.new }
-    ensures asked { AsksAtMost (caption_bytes * length (text_captions label (at_tag tag fields.now))) memory.old memory.new }
+    ensures asked { memory.new.asked ≤ spent memory.old (vec_len list.old) (vec_capacity list.old) + caption_bytes * length (text_captions label (at_tag tag fields.now)) }
+    ensures paid { OnOk result (spent memory.new (vec_len list.new) (vec_capacity list.new)
+        ≤ spent memory.old (vec_len list.old) (vec_capacity list.old) + caption_bytes * length (text_captions label (at_tag tag fields.now))) }
 {
     let Some(value) = fields.get(tag) else {
         return Ok(());
@@ -137,7 +162,7 @@ fn push_text<'a>(
     let Some(text) = text_of(value) else {
         return Ok(());
     };
-    memory.push(list, Caption { label, text })
+    push_caption(memory, list, Caption { label, text })
 }
 
 // Appends the captions of a main directory.
@@ -149,7 +174,9 @@ fn push_texts<'a>(
 ) -> Result<(), Refused>
     ensures list { OnOk result (map caption_view list.new.items ≡ map caption_view list.old.items ++ exif_captions fields.now) }
     ensures memory { Lacks result memory.old memory.new }
-    ensures asked { AsksAtMost (caption_bytes * length (exif_captions fields.now)) memory.old memory.new }
+    ensures asked { memory.new.asked ≤ spent memory.old (vec_len list.old) (vec_capacity list.old) + caption_bytes * length (exif_captions fields.now) }
+    ensures paid { OnOk result (spent memory.new (vec_len list.new) (vec_capacity list.new)
+        ≤ spent memory.old (vec_len list.old) (vec_capacity list.old) + caption_bytes * length (exif_captions fields.now)) }
 {
     for i in 0..TEXTS.len() {
         let (tag, label) = TEXTS[i];

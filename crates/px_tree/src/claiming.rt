@@ -17,14 +17,16 @@ pub fn claim_range(
     start: u32,
     len: u32,
 ) -> Result<(), Refusal>
-    requires { start + len ≤ limit }
-    ensures judged { (taken : List Range) → Agrees taken held.old →
+    requires bounded { start + len ≤ limit }
+    requires room { start + len ≤ held.old.room }
+    ensures judged { (taken : List Range) → Agrees taken held.old.ranges →
         Judges result (check Overlap at (is_free taken (range start len)) ∷ [])
-        (λ _. Agrees (range start len ∷ taken) held.new) }
+        (λ _. Agrees (range start len ∷ taken) held.new.ranges) }
     ensures memory { LacksBlock result memory.old memory.new }
     ensures claimed { OnOk result (memory.new.asked + paid held.old + fields_request len ≡ memory.old.asked + paid held.new) }
-    ensures asked { Pays (start + len) 0 result memory.old memory.new held.old held.new }
+    ensures asked { Pays 0 memory.old memory.new held.old held.new }
     ensures below { StaysBelow (start + len) held.old held.new }
+    ensures room { held.old.room ≤ held.new.room }
 {
     if !held.add_in(memory, start, len)? {
         return Err(Cause::Overlap.at(at));

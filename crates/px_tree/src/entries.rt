@@ -107,15 +107,17 @@ fn claim_value(
     shape: Shape,
 ) -> Result<(), Refusal>
     requires bounded { length block.now ≤ limit }
+    requires room { length block.now ≤ held.old.room }
     ensures judged { let start = shape.head.offset in let len = shape.head.count * size shape.form in
-        (taken : List Range) → Agrees taken held.old →
+        (taken : List Range) → Agrees taken held.old.ranges →
         Judges result (span_checks block.now taken at start len)
-        (λ _. Agrees (option_to_list (span start len) ++ taken) held.new) }
+        (λ _. Agrees (option_to_list (span start len) ++ taken) held.new.ranges) }
     ensures inside { let start = shape.head.offset in let len = shape.head.count * size shape.form in
         IfOk result (λ _. 4 < len → start + len ≤ length block.now) }
     ensures memory { LacksBlock result memory.old memory.new }
-    ensures asked { Pays (length block.now) 0 result memory.old memory.new held.old held.new }
+    ensures asked { Pays 0 memory.old memory.new held.old held.new }
     ensures below { StaysBelow (length block.now) held.old held.new }
+    ensures room { held.old.room ≤ held.new.room }
 {
     let start = shape.head.offset;
     let len = u64::from(shape.head.count) * u64::from(shape.form.size());
@@ -138,11 +140,12 @@ pub fn judge_entry(
 ) -> Result<Shape, Refusal>
     requires inside { at + 12 ≤ length source.now.block.now }
     requires bounded { length source.now.block.now ≤ limit }
+    requires room { length source.now.block.now ≤ held.old.room }
     ensures judged { let b = source.now.block.now in let o = source.now.order in
         let e = entry o (part b at 12) in
-        (taken : List Range) → Agrees taken held.old →
+        (taken : List Range) → Agrees taken held.old.ranges →
         Judges result (entry_checks b o source.now.dir taken at before e)
-        (λ s. Agrees (option_to_list (placed_range o e) ++ taken) held.new) }
+        (λ s. Agrees (option_to_list (placed_range o e) ++ taken) held.new.ranges) }
     ensures shape { let o = source.now.order in
         IfOk result (λ s. IsShape o source.now.dir s (entry o (part source.now.block.now at 12))) }
     ensures inside { IfOk result
@@ -151,8 +154,9 @@ pub fn judge_entry(
     ensures follows { IfOk result (λ s. Follows before s.head.tag) }
     ensures common { IfOk result (λ s. s.is_common ≡ true → HasNoUse s.head.tag) }
     ensures memory { LacksBlock result memory.old memory.new }
-    ensures asked { Pays (length source.now.block.now) 0 result memory.old memory.new held.old held.new }
+    ensures asked { Pays 0 memory.old memory.new held.old held.new }
     ensures below { StaysBelow (length source.now.block.now) held.old held.new }
+    ensures room { held.old.room ≤ held.new.room }
 {
     let head = head_at(source.block, source.order, at);
     let shape = shape_of(source.dir, at, before, head)?;

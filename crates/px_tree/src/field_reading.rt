@@ -1,16 +1,13 @@
 // Reads the fields of a directory from its entries. TIFF 6.0 section 2, "IFD Entry" and "Value/Offset".
 ghost use Rattle.std.specs.Prelude.{◌≡◌, ◌≤◌, ◌<◌, ◌+◌, ◌*◌, ◌++◌, List, length, filter_map, option_map, option_to_list, Some, None, IfOk};
-ghost use Rattle.std.specs.Prelude.{IfErr, true, []};
-ghost use Rattle.std.specs.List.{AllByRecursion};
-ghost use Rattle.px_bytes.specs.declared.Refusal.TheVariants.{OutOfMemory};
+ghost use Rattle.std.specs.Prelude.{true, [], vec_len, vec_capacity};
 ghost use Rattle.px_bytes.specs.Parts.{limit, part};
 ghost use Rattle.px_bytes.specs.Range.{Range, Agrees};
 ghost use Rattle.px_bytes.specs.Checks.{LacksBlock, Judges};
 ghost use Rattle.px_field.specs.declared.Kind.TheVariants.{Of};
-ghost use Rattle.px_meaning.specs.Entry.{entry, raw, entry_elements, widened_value, record_in, unless_record, value_in, field, Rising};
+ghost use Rattle.px_meaning.specs.Entry.{entry, raw, entry_elements, widened_value, record_in, unless_record, value_in, field};
 ghost use Rattle.px_meaning.specs.Footprint.{placed_range};
 ghost use Rattle.px_tree.specs.Checks.{entries_checks};
-ghost use Rattle.px_meaning.specs.calls.Places.{tags};
 ghost use Rattle.px_tree.specs.calls.Reading.{IsHeld, is_whole, if_kept, entries_from};
 ghost use Rattle.px_tree.specs.calls.Uses.{AreUses};
 ghost use Rattle.px_bytes.specs.Lacking.{Lacks, AsksAtMost};
@@ -78,63 +75,43 @@ fn field_of<'a>(block: &'a [u8], order: Order, at: u32, shape: Shape) -> Option<
     }
 }
 
-// Keeps the field of any entry.
-fn keep_any_field<'a>(
-    memory: &mut Memory,
-    fields: &mut Fields<'a>,
-    source: &Source<'a>,
-    at: u32,
-    shape: Shape,
-) -> Result<(), Refusal>
+// Keeps the field of any entry, in a list that has capacity for it.
+fn keep_any_field<'a>(list: &mut Vec<(u16, Value<'a>)>, source: &Source<'a>, at: u32, shape: Shape)
     requires held { IsHeld source.now.block.now source.now.order at shape.head shape.form }
-    requires rising { Rising (tags fields.old) }
-    requires below { AllByRecursion (λ t. t < shape.head.tag) (tags fields.old) }
+    requires room { vec_len list.old < vec_capacity list.old }
     ensures kept { let b = source.now.block.now in let o = source.now.order in
-        IfOk result (λ _. fields.new ≡ fields.old
+        list.new.items ≡ list.old.items
         ++ option_to_list (option_map (λ v. (shape.head.tag, v))
-        (value_in b o (entry o (part b at 12)) shape.role shape.form))) }
-    ensures err { IfErr result (λ e. e ≡ OutOfMemory) }
-    ensures memory { LacksBlock result memory.old memory.new }
-    ensures asked { AsksAtMost field_bytes memory.old memory.new }
+        (value_in b o (entry o (part b at 12)) shape.role shape.form)) }
+    ensures len { vec_len list.new ≤ vec_len list.old + 1 }
+    ensures capacity { vec_capacity list.new ≡ vec_capacity list.old }
 {
-    match field_of(source.block, source.order, at, shape) {
-        Some(value) => {
-            fields.push(memory, shape.head.tag, value)?;
-            Ok(())
-        }
-        None => Ok(()),
-    }
+    let Some(value) = field_of(source.block, source.order, at, shape) else {
+        return;
+    };
+    list.push_reserved((shape.head.tag, value));
 }
 
 // Keeps the field of an entry, if it is one and fields are kept. Most are plain.
-fn keep_field<'a>(
-    memory: &mut Memory,
-    fields: &mut Fields<'a>,
-    source: &Source<'a>,
-    at: u32,
-    shape: Shape,
-) -> Result<(), Refusal>
+fn keep_field<'a>(list: &mut Vec<(u16, Value<'a>)>, source: &Source<'a>, at: u32, shape: Shape)
     requires held { IsHeld source.now.block.now source.now.order at shape.head shape.form }
-    requires rising { Rising (tags fields.old) }
-    requires below { AllByRecursion (λ t. t < shape.head.tag) (tags fields.old) }
+    requires room { source.now.keeps_fields ≡ true → vec_len list.old < vec_capacity list.old }
     ensures kept { let b = source.now.block.now in let o = source.now.order in
-        IfOk result (λ _. fields.new ≡ fields.old
+        list.new.items ≡ list.old.items
         ++ option_to_list (option_map (λ v. (shape.head.tag, v))
-        (if_kept source.now.keeps_fields (value_in b o (entry o (part b at 12)) shape.role shape.form)))) }
-    ensures err { IfErr result (λ e. e ≡ OutOfMemory) }
-    ensures memory { LacksBlock result memory.old memory.new }
-    ensures asked { AsksAtMost field_bytes memory.old memory.new }
+        (if_kept source.now.keeps_fields (value_in b o (entry o (part b at 12)) shape.role shape.form))) }
+    ensures len { vec_len list.new ≤ vec_len list.old + 1 }
+    ensures capacity { vec_capacity list.new ≡ vec_capacity list.old }
 {
     if !source.keeps_fields {
-        return Ok(());
+        return;
     }
     match shape.role {
         Role::Plain => {
             let value = value_at(source.block, source.order, at, shape.head, shape.form);
-            fields.push(memory, shape.head.tag, value)?;
-            Ok(())
+            list.push_reserved((shape.head.tag, value));
         }
-        _ => keep_any_field(memory, fields, source, at, shape),
+        _ => keep_any_field(list, source, at, shape),
     }
 }
 
@@ -145,20 +122,24 @@ pub struct Entries<'a> {
     pub uses: Uses,
 }
 
-// No fields, with capacity for so many if fields are kept.
-fn empty_fields<'a>(
+// An empty list, with capacity for so many fields if fields are kept.
+fn list_for<'a>(
     memory: &mut Memory,
     keeps_fields: bool,
     count: u16,
-) -> Result<Fields<'a>, Refused>
-    ensures none { IfOk result (λ f. f ≡ []) }
+) -> Result<Vec<(u16, Value<'a>)>, Refused>
+    ensures none { IfOk result (λ list. list.items ≡ []) }
+    ensures len { IfOk result (λ list. vec_len list ≡ 0) }
+    ensures room { IfOk result (λ list. keeps_fields ≡ true → count ≤ vec_capacity list) }
     ensures memory { Lacks result memory.old memory.new }
     ensures asked { AsksAtMost (count * field_bytes) memory.old memory.new }
 {
+    let mut list = memory.list();
     if !keeps_fields {
-        return Ok(Fields::new_in(memory));
+        return Ok(list);
     }
-    Fields::with_room(memory, count)
+    memory.reserve_exact(&mut list, usize::from(count))?;
+    Ok(list)
 }
 
 // Reads so many entries: judges each, claims its value and keeps its field, if fields are kept.
@@ -171,28 +152,31 @@ pub fn read_entries<'a>(
 ) -> Result<Entries<'a>, Refusal>
     requires inside { start + 12 * count ≤ length source.now.block.now }
     requires bounded { length source.now.block.now ≤ limit }
+    requires room { length source.now.block.now ≤ held.old.room }
     ensures judged { let b = source.now.block.now in let o = source.now.order in
         let d = source.now.dir in let es = entries_from b o start count in
-        (taken : List Range) → Agrees taken held.old →
+        (taken : List Range) → Agrees taken held.old.ranges →
         Judges result (entries_checks b o d taken start None es)
         (λ v. (source.now.keeps_fields ≡ true → v.fields ≡ filter_map (field b o d) es)
-        × Agrees (filter_map (placed_range o) es ++ taken) held.new) }
+        × Agrees (filter_map (placed_range o) es ++ taken) held.new.ranges) }
     ensures uses { let b = source.now.block.now in let o = source.now.order in
         IfOk result (λ v. AreUses b o (entries_from b o start count) start v.uses) }
     ensures memory { LacksBlock result memory.old memory.new }
-    ensures asked { Pays (length source.now.block.now) (2 * count * field_bytes) result memory.old memory.new held.old held.new }
+    ensures asked { Pays (count * field_bytes) memory.old memory.new held.old held.new }
     ensures below { StaysBelow (length source.now.block.now) held.old held.new }
+    ensures room { held.old.room ≤ held.new.room }
 {
-    let mut fields = empty_fields(memory, source.keeps_fields, count)?;
+    let mut list = list_for(memory, source.keeps_fields, count)?;
     let mut uses = no_uses();
     let mut at = start;
     let mut before = None;
     for _ in 0..count {
         let shape = judge_entry(memory, source, held, at, before)?;
-        keep_field(memory, &mut fields, source, at, shape)?;
+        keep_field(&mut list, source, at, shape);
         keep_use(&mut uses, shape, at);
         before = Some(shape.head.tag);
         at += 12;
     }
+    let fields = Fields::of_list(list);
     Ok(Entries { fields, uses })
 }

@@ -46,8 +46,8 @@ fn judge_tree(memory: &mut Memory, block: &[u8], order: Order) -> Result<(), Ref
 /// Judges a block as `read_block_in` does, without the record and the meaning: whether it has a meaning, or its
 /// first fault.
 ///
-/// Allocates the claimed ranges and the fields of the thumbnail directory while it judges, and at most what
-/// `read_block_in` requests. The cost is linear in the block's length. `Content` and `OutOfMemory`: as for `read_block_in`.
+/// Allocates the claimed ranges and the fields of the thumbnail directory while it judges, and asks for at
+/// most what `read_block_in` does. The cost is linear in the block's length. `Content` and `OutOfMemory`: as for `read_block_in`.
 pub fn judge_block_in(memory: &mut Memory, block: Block) -> Result<(), Refusal>
     ensures said { IfOk result (λ _. (m : said.Meaning) × SaysExif block.entry m × Fits m) }
     ensures refused { IfErr result (IsRefused block.entry memory.new.refusals) }

@@ -38,16 +38,18 @@ fn open_table(
     earlier: &[Option<Link>],
     link: Link,
 ) -> Result<u16, Refusal>
-    requires { length source.now.block.now ≤ limit }
-    ensures judged { (taken : List Range) → Agrees taken held.old →
+    requires bounded { length source.now.block.now ≤ limit }
+    requires room { length source.now.block.now ≤ held.old.room }
+    ensures judged { (taken : List Range) → Agrees taken held.old.ranges →
         Judges result (opening_checks source.now.block.now source.now.order
         (offsets_of earlier.now) taken link.place link.at)
-        (λ n. Agrees (range link.at (table_size n) ∷ taken) held.new) }
+        (λ n. Agrees (range link.at (table_size n) ∷ taken) held.new.ranges) }
     ensures there { IfOk result (λ n. HasTable source.now.block.now source.now.order link.at n) }
     ensures memory { LacksBlock result memory.old memory.new }
-    ensures table { IfOk result (λ n. memory.new.asked + paid held.old + 2 * n * field_bytes ≤ memory.old.asked + paid held.new) }
-    ensures asked { Pays (length source.now.block.now) 0 result memory.old memory.new held.old held.new }
+    ensures table { IfOk result (λ n. memory.new.asked + paid held.old + n * field_bytes ≤ memory.old.asked + paid held.new) }
+    ensures asked { Pays 0 memory.old memory.new held.old held.new }
     ensures below { StaysBelow (length source.now.block.now) held.old held.new }
+    ensures room { held.old.room ≤ held.new.room }
 {
     let block = source.block;
     let at = link.at;
@@ -78,20 +80,22 @@ pub fn read_directory<'a>(
     earlier: &[Option<Link>],
     link: Link,
 ) -> Result<Directory<'a>, Refusal>
-    requires { length source.now.block.now ≤ limit }
+    requires bounded { length source.now.block.now ≤ limit }
+    requires room { length source.now.block.now ≤ held.old.room }
     ensures judged { let b = source.now.block.now in let o = source.now.order in
         let d = source.now.dir in
-        (taken : List Range) → Agrees taken held.old →
+        (taken : List Range) → Agrees taken held.old.ranges →
         Judges result (dir_checks b o (offsets_of earlier.now) taken link.place d link.at)
         (λ t. (source.now.keeps_fields ≡ true → t.fields ≡ fields b o d link.at)
-        × Agrees (dir_ranges b o link.at ++ taken) held.new) }
+        × Agrees (dir_ranges b o link.at ++ taken) held.new.ranges) }
     ensures there { let b = source.now.block.now in let o = source.now.order in
         IfOk result (λ t. (t.at ≡ link.at) × HasTable b o t.at t.count) }
     ensures uses { let b = source.now.block.now in let o = source.now.order in
         IfOk result (λ t. AreUses b o (entries_at b o t.at) (t.at + 2) t.uses) }
     ensures memory { LacksBlock result memory.old memory.new }
-    ensures asked { Pays (length source.now.block.now) 0 result memory.old memory.new held.old held.new }
+    ensures asked { Pays 0 memory.old memory.new held.old held.new }
     ensures below { StaysBelow (length source.now.block.now) held.old held.new }
+    ensures room { held.old.room ≤ held.new.room }
 {
     let count = open_table(memory, source, held, earlier, link)?;
     let entries = read_entries(memory, source, held, link.at + 2, count)?;

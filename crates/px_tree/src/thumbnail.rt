@@ -95,16 +95,18 @@ fn claim(
     place: u32,
     extent: Extent,
 ) -> Result<(), Refusal>
-    requires { length block.now ≤ limit }
+    requires bounded { length block.now ≤ limit }
+    requires room { length block.now ≤ held.old.room }
     ensures judged { let start = extent.start in let len = extent.len in
-        (taken : List Range) → Agrees taken held.old →
+        (taken : List Range) → Agrees taken held.old.ranges →
         Judges result (check ThumbnailOutside place (nat_le (start + len) (length block.now))
         ∷ check Overlap place (is_free taken (range start len)) ∷ [])
-        (λ _. Agrees (range start len ∷ taken) held.new) }
+        (λ _. Agrees (range start len ∷ taken) held.new.ranges) }
     ensures inside { OnOk result (extent.start + extent.len ≤ length block.now) }
     ensures memory { LacksBlock result memory.old memory.new }
-    ensures asked { Pays (length block.now) 0 result memory.old memory.new held.old held.new }
+    ensures asked { Pays 0 memory.old memory.new held.old held.new }
     ensures below { StaysBelow (length block.now) held.old held.new }
+    ensures room { held.old.room ≤ held.new.room }
 {
     let Extent { start, len } = extent;
     if u64::from(start) + u64::from(len) > block.len() as u64 {
@@ -120,16 +122,18 @@ fn claim_jpeg<'a>(
     held: &mut Ranges,
     parts: Uses,
 ) -> Result<Option<&'a [u8]>, Refusal>
-    requires { length block.now ≤ limit }
+    requires bounded { length block.now ≤ limit }
+    requires room { length block.now ≤ held.old.room }
     ensures judged { let rs = option_to_list (jpeg_of parts.jpeg_offset parts.jpeg_length) in
-        (taken : List Range) → Agrees taken held.old →
+        (taken : List Range) → Agrees taken held.old.ranges →
         Judges result (range_checks block.now (place_in parts.jpeg_offset) taken rs)
-        (λ _. Agrees (rs ++ taken) held.new) }
+        (λ _. Agrees (rs ++ taken) held.new.ranges) }
     ensures part { IfOk result (λ j. option_map
         (λ s. s.now) j ≡ option_map (bytes_of block.now) (jpeg_of parts.jpeg_offset parts.jpeg_length)) }
     ensures memory { LacksBlock result memory.old memory.new }
-    ensures asked { Pays (length block.now) 0 result memory.old memory.new held.old held.new }
+    ensures asked { Pays 0 memory.old memory.new held.old held.new }
     ensures below { StaysBelow (length block.now) held.old held.new }
+    ensures room { held.old.room ≤ held.new.room }
 {
     match (parts.jpeg_offset, parts.jpeg_length) {
         (Some(offset), Some(size)) => {
@@ -180,12 +184,14 @@ fn claim_each(
 ) -> Result<(), Refusal>
     requires bounded { length lists.now.block.now ≤ limit }
     requires same { length lists.now.starts.elements ≡ length lists.now.sizes.elements }
-    ensures judged { (taken : List Range) → Agrees taken held.old →
+    requires room { length lists.now.block.now ≤ held.old.room }
+    ensures judged { (taken : List Range) → Agrees taken held.old.ranges →
         Judges result (range_checks lists.now.block.now place taken (ranges_in lists.now)) (λ _. ⊤) }
     ensures inside { OnOk result (AllByRecursion (IsInside lists.now.block.now) (ranges_in lists.now)) }
     ensures memory { LacksBlock result memory.old memory.new }
-    ensures asked { Pays (length lists.now.block.now) 0 result memory.old memory.new held.old held.new }
+    ensures asked { Pays 0 memory.old memory.new held.old held.new }
     ensures below { StaysBelow (length lists.now.block.now) held.old held.new }
+    ensures room { held.old.room ≤ held.new.room }
 {
     for i in 0..lists.starts.count() {
         let extent = Extent {
@@ -207,12 +213,14 @@ fn claim_strips(
 ) -> Result<(), Refusal>
     requires bounded { length lists.now.block.now ≤ limit }
     requires same { length lists.now.starts.elements ≡ length lists.now.sizes.elements }
-    ensures judged { (taken : List Range) → Agrees taken held.old →
+    requires room { length lists.now.block.now ≤ held.old.room }
+    ensures judged { (taken : List Range) → Agrees taken held.old.ranges →
         Judges result (range_checks lists.now.block.now place taken (ranges_in lists.now)) (λ _. ⊤) }
     ensures inside { OnOk result (AllByRecursion (IsInside lists.now.block.now) (ranges_in lists.now)) }
     ensures memory { LacksBlock result memory.old memory.new }
-    ensures asked { Pays (length lists.now.block.now) 0 result memory.old memory.new held.old held.new }
+    ensures asked { Pays 0 memory.old memory.new held.old held.new }
     ensures below { StaysBelow (length lists.now.block.now) held.old held.new }
+    ensures room { held.old.room ≤ held.new.room }
 {
     let longs = Kind::Of(Form::Long);
     if lists.starts.kind() == longs && lists.sizes.kind() == longs {
@@ -231,12 +239,14 @@ fn judge_strips(
 ) -> Result<(), Refusal>
     requires bounded { length lists.now.block.now ≤ limit }
     requires same { length lists.now.starts.elements ≡ length lists.now.sizes.elements }
-    ensures judged { (taken : List Range) → Agrees taken held.old →
+    requires room { length lists.now.block.now ≤ held.old.room }
+    ensures judged { (taken : List Range) → Agrees taken held.old.ranges →
         Judges result (range_checks lists.now.block.now place taken (ranges_in lists.now)) (λ _. ⊤) }
     ensures inside { OnOk result (AllByRecursion (IsInside lists.now.block.now) (ranges_in lists.now)) }
     ensures memory { LacksBlock result memory.old memory.new }
-    ensures asked { Pays (length lists.now.block.now) 0 result memory.old memory.new held.old held.new }
+    ensures asked { Pays 0 memory.old memory.new held.old held.new }
     ensures below { StaysBelow (length lists.now.block.now) held.old held.new }
+    ensures room { held.old.room ≤ held.new.room }
 {
     if let Some(span) = rising_span(lists) {
         if held.are_free(span.start, span.end) {
@@ -257,13 +267,15 @@ fn read_strips<'a>(
     requires bounded { length block.now ≤ limit }
     requires numbers { HaveNumbers block.now order parts.strip_offsets × HaveNumbers block.now order parts.strip_lengths }
     requires even { AreEven parts.strip_offsets parts.strip_lengths }
+    requires room { length block.now ≤ held.old.room }
     ensures judged { let rs = strips_of block.now order parts.strip_offsets parts.strip_lengths in
-        (taken : List Range) → Agrees taken held.old →
+        (taken : List Range) → Agrees taken held.old.ranges →
         Judges result (range_checks block.now (place_in parts.strip_offsets) taken (listed rs))
         (λ s. s ≡ option_map (map (bytes_of block.now)) rs) }
     ensures memory { LacksBlock result memory.old memory.new }
-    ensures asked { Pays (length block.now) 0 result memory.old memory.new held.old held.new }
+    ensures asked { Pays 0 memory.old memory.new held.old held.new }
     ensures below { StaysBelow (length block.now) held.old held.new }
+    ensures room { held.old.room ≤ held.new.room }
 {
     match (parts.strip_offsets, parts.strip_lengths) {
         (Some(offsets), Some(lengths)) => {
@@ -289,12 +301,14 @@ pub fn read_thumbnail<'a>(
 ) -> Result<Thumb<'a>, Refusal>
     requires bounded { length block.now ≤ limit }
     requires read { IsReadThumb block.now order directory }
-    ensures judged { (taken : List Range) → Agrees taken held.old →
+    requires room { length block.now ≤ held.old.room }
+    ensures judged { (taken : List Range) → Agrees taken held.old.ranges →
         Judges result (thumb_checks block.now order taken directory.entry.at)
         (λ t. thumb_of t ≡ thumbnail block.now order directory.entry.at) }
     ensures memory { LacksBlock result memory.old memory.new }
-    ensures asked { Pays (length block.now) 0 result memory.old memory.new held.old held.new }
+    ensures asked { Pays 0 memory.old memory.new held.old held.new }
     ensures below { StaysBelow (length block.now) held.old held.new }
+    ensures room { held.old.room ≤ held.new.room }
 {
     let Directory {
         fields,
@@ -323,13 +337,15 @@ pub fn read_thumb<'a>(
 ) -> Result<Option<Thumb<'a>>, Refusal>
     requires bounded { length block.now ≤ limit }
     requires read { IfSome directory (IsReadThumb block.now order) }
+    requires room { length block.now ≤ held.old.room }
     ensures judged { let a = option_map (λ t. t.at) directory.entry in
-        (taken : List Range) → Agrees taken held.old →
+        (taken : List Range) → Agrees taken held.old.ranges →
         Judges result (thumb_checks_at block.now order taken a)
         (λ t. option_map thumb_of t ≡ option_map (thumbnail block.now order) a) }
     ensures memory { LacksBlock result memory.old memory.new }
-    ensures asked { Pays (length block.now) 0 result memory.old memory.new held.old held.new }
+    ensures asked { Pays 0 memory.old memory.new held.old held.new }
     ensures below { StaysBelow (length block.now) held.old held.new }
+    ensures room { held.old.room ≤ held.new.room }
 {
     match directory {
         None => Ok(None),

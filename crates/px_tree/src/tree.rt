@@ -52,17 +52,19 @@ fn read_linked<'a>(
 ) -> Result<Option<Directory<'a>>, Refusal>
     requires bounded { length source.now.block.now ≤ limit }
     requires named { Names source.now.block.now source.now.order source.now.dir link }
+    requires room { length source.now.block.now ≤ held.old.room }
     ensures judged { let b = source.now.block.now in let o = source.now.order in
         let d = source.now.dir in
-        (taken : List Range) → Agrees taken held.old →
+        (taken : List Range) → Agrees taken held.old.ranges →
         Judges result (checks_at b o (offsets_of earlier.now) taken d (dir_at b o d))
         (λ t. (source.now.keeps_fields ≡ true → option_map (λ t. t.fields) t ≡ fields_at b o d)
-        × Agrees (ranges_at b o d ++ taken) held.new) }
+        × Agrees (ranges_at b o d ++ taken) held.new.ranges) }
     ensures there { IfOk result
         (λ t. IsRead source.now.block.now source.now.order source.now.dir t) }
     ensures memory { LacksBlock result memory.old memory.new }
-    ensures asked { Pays (length source.now.block.now) 0 result memory.old memory.new held.old held.new }
+    ensures asked { Pays 0 memory.old memory.new held.old held.new }
     ensures below { StaysBelow (length source.now.block.now) held.old held.new }
+    ensures room { held.old.room ≤ held.new.room }
 {
     match link {
         None => Ok(None),
@@ -147,13 +149,15 @@ pub fn read_main<'a>(
     requires least { 8 ≤ length source.now.block.now }
     requires bounded { length source.now.block.now ≤ limit }
     requires main { source.now.dir ≡ Main }
-    requires none { held.old ≡ [] }
+    requires none { held.old.ranges ≡ [] }
+    requires room { length source.now.block.now ≤ held.old.room }
     ensures judged { let b = source.now.block.now in let o = source.now.order in
         Judges result (main_checks b o)
-        (λ t. IsReadMain b o source.now.keeps_fields t × Agrees (main_held b o) held.new) }
+        (λ t. IsReadMain b o source.now.keeps_fields t × Agrees (main_held b o) held.new.ranges) }
     ensures memory { LacksBlock result memory.old memory.new }
-    ensures asked { Pays (length source.now.block.now) 0 result memory.old memory.new held.old held.new }
+    ensures asked { Pays 0 memory.old memory.new held.old held.new }
     ensures below { StaysBelow (length source.now.block.now) held.old held.new }
+    ensures room { held.old.room ≤ held.new.room }
 {
     claim_range(memory, held, 0, 0, 8)?;
     let link = link_to_main(source.block, source.order);
@@ -190,13 +194,15 @@ pub fn read_others<'a>(
     requires least { 8 ≤ length source.now.block.now }
     requires bounded { length source.now.block.now ≤ limit }
     requires read { IsReadMain source.now.block.now source.now.order source.now.keeps_fields main }
+    requires room { length source.now.block.now ≤ held.old.room }
     ensures judged { let b = source.now.block.now in let o = source.now.order in
-        (taken : List Range) → Agrees taken held.old →
+        (taken : List Range) → Agrees taken held.old.ranges →
         Judges result (dirs_checks b o (main_at b o ∷ []) taken others)
-        (λ t. SeenTree b o source.now.keeps_fields t × Agrees (dirs_held b o taken others) held.new) }
+        (λ t. SeenTree b o source.now.keeps_fields t × Agrees (dirs_held b o taken others) held.new.ranges) }
     ensures memory { LacksBlock result memory.old memory.new }
-    ensures asked { Pays (length source.now.block.now) 0 result memory.old memory.new held.old held.new }
+    ensures asked { Pays 0 memory.old memory.new held.old held.new }
     ensures below { StaysBelow (length source.now.block.now) held.old held.new }
+    ensures room { held.old.room ≤ held.new.room }
 {
     let block = source.block;
     let order = source.order;

@@ -22,7 +22,7 @@ void SYSTEMS(free)(void *old);
 void start_counting(long refuse) {
     counts = 1;
     memory.peak = memory.live;
-    memory.taken = memory.grown = 0;
+    memory.taken = memory.grown = memory.asked = 0;
     memory.refuse = refuse;
     memory.refused = 0;
 }
@@ -32,10 +32,11 @@ void stop_counting(void) {
     memory.refuse = 0;
 }
 
-static int is_refused(void) {
+static int is_refused(size_t size) {
     if (!counts)
         return 0;
     memory.taken++;
+    memory.asked += size;
     if (memory.refuse == 0 || --memory.refuse > 0)
         return 0;
     memory.refused = 1;
@@ -50,15 +51,15 @@ static void *took(void *got) {
 }
 
 void *COUNTED(malloc)(size_t size) {
-    return is_refused() ? NULL : took(SYSTEMS(malloc)(size));
+    return is_refused(size) ? NULL : took(SYSTEMS(malloc)(size));
 }
 
 void *COUNTED(calloc)(size_t count, size_t size) {
-    return is_refused() ? NULL : took(SYSTEMS(calloc)(count, size));
+    return is_refused(count * size) ? NULL : took(SYSTEMS(calloc)(count, size));
 }
 
 void *COUNTED(realloc)(void *old, size_t size) {
-    if (is_refused())
+    if (is_refused(size))
         return NULL;
     if (old)
         memory.grown += counts;

@@ -9,6 +9,7 @@ struct memory {
     size_t peak;   /* the most of them since `start_counting` */
     size_t taken;  /* allocations since then */
     size_t grown;  /* how many of them made something longer that was allocated before */
+    size_t asked;  /* the bytes that all of them asked for */
     long refuse;   /* which allocation from now on fails: 1 is the next one, 0 is none */
     int refused;   /* whether one failed */
 };

@@ -1,5 +1,5 @@
 -- The bytes of a writer into memory, the number of its failed allocations, that of its flushes, and that of its bytes since.
-use Rattle.std.specs.Prelude.{ℕ, List, length, ◌+◌, ◌*◌}
+use Rattle.std.specs.Prelude.{ℕ, List, length, min, ◌≤◌, ◌+◌, ◌*◌}
 
 pub record Grown : Type 0 where
   pub taken : List ℕ
@@ -7,6 +7,12 @@ pub record Grown : Type 0 where
   pub flushes : ℕ
   pub since : ℕ
 
--- the bytes that it requested at most: those that were written, and 65,536 for each call that failed
+-- the bytes that it asked for at most: four for each byte that was written, and for each call that failed twice the bytes that the
+-- vector should have had then
 abbrev pub grown_bytes : Grown → ℕ
-grown_bytes g = length g.taken + 65536 * g.refusals
+grown_bytes g = 4 * length g.taken + g.refusals * (2 * (length g.taken + 65536))
+
+-- The same of its vector. A vector that lacks capacity has more bytes afterwards than the capacity that it had, and the new one is at
+-- least twice as large. So all capacities together are at most twice the last one, and also four times the bytes.
+abbrev pub HasGrown : ℕ → ℕ → ℕ → ℕ → Type 0
+HasGrown len capacity refusals asked = asked ≤ min (2 * capacity) (4 * len) + refusals * (2 * (len + 65536))

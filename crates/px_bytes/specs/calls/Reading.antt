@@ -1,7 +1,6 @@
 -- The result of a single read.
-use Rattle.std.specs.Prelude.{◌≡◌, ◌≤◌, ◌<◌, ◌+◌, ◌-◌, ◌*◌, ◌/◌, ◌++◌, ℕ, Bool, true, false, List, Option, length, min}
+use Rattle.std.specs.Prelude.{◌≡◌, ◌⊎◌, ◌≤◌, ◌<◌, ◌+◌, ◌*◌, ◌/◌, ◌++◌, ℕ, Bool, true, false, List, Option, length}
 use Rattle.std.specs.Io.KnownBytes.{Consumes, IsAtEnd}
-use Rattle.px_bytes.specs.Lacking.{Taken}
 
 -- the reader returned some bytes, at most `room`, which follow the earlier ones; or it is at its end
 pub record GivesSome (old new : Option (List ℕ)) (had has : List ℕ) (room : ℕ) (some : Bool) : Type 0 where
@@ -12,12 +11,13 @@ pub record GivesSome (old new : Option (List ℕ)) (had has : List ℕ) (room : 
   pub is_some : some ≡ true → 0 < length bytes
   pub is_end : some ≡ false → IsAtEnd new
 
--- The bytes that count as requested for a vector of `len` bytes that were read: the bytes, and twice what it reserved, which is at
--- most an eighth more than them. The last reservation, up to `most`, may be shorter than a read.
-abbrev pub requested : ℕ → ℕ → ℕ → ℕ
-requested most len capacity = len + 2 * min capacity (len + len / 8) + 131072 * min 1 (capacity + 1 - most)
+-- the most that the allocator is asked for, for a vector of so many bytes that were read
+abbrev pub read_bytes : ℕ → ℕ
+read_bytes len = 10 * len + len / 8
 
--- a call that enlarged the vector from `len` to `len_now` keeps that bound
-abbrev pub StaysRequested : ℕ → (ℕ × ℕ) → (ℕ × ℕ) → Taken → Taken → Type 0
-StaysRequested most old new taken taken_now = (before : ℕ) → taken.asked ≤ before + requested most old.0 old.1
-    → taken_now.asked ≤ before + requested most new.0 new.1
+-- What the allocator was asked for since it had been asked for `before`, for a vector of `len` bytes that were read. It was asked for
+-- each capacity that the vector had, one after another. As long as they double, together they are at most twice the last one; where
+-- each is an eighth larger than the one before, nine times. The last one may be less, since none is larger than `most`.
+pub record HasRead (most before len capacity asked : ℕ) : Type 0 where
+  pub bytes : asked ≤ before + read_bytes len
+  pub capacities : (most ≤ capacity) ⊎ ((asked ≤ before + 2 * capacity) ⊎ ((1048576 ≤ capacity) × (asked ≤ before + 9 * capacity)))

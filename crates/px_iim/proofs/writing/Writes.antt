@@ -1,11 +1,12 @@
 -- Lengths of parts that are put one after another, and how they grow.
-use Rattle.std.proofs.Common.{◌≡◌, ℕ, zero, suc, ◌+◌, ◌<◌, ◌≤◌, ◌++◌, List, [], ◌∷◌, length, take, drop, get_or, slice_get, Option, Some}
+use Rattle.std.proofs.Common.{◌≡◌, ℕ, zero, suc, ◌+◌, ◌*◌, ◌<◌, ◌≤◌, ◌++◌, List, [], ◌∷◌, length, take, drop, get_or, slice_get, Option, Some}
 use Rattle.std.proofs.Common.{None, IfSome, Result, Ok, Err, refl, sym, ap, ◌∙◌, subst, inl, inr, map, option_map, unwrap_or, is_ok}
 use Rattle.std.proofs.Common.{if◌then◌else◌, nat_le, le-leb, arith, append_assoc, append-nil, length-append}
 use Rattle.std.specs.List.{flat_map, AllByRecursion}
 use Rattle.std.proofs.lemmas.Grind.{flat_map-append}
 use Rattle.std.proofs.lemmas.List.{take-take, take_at, take-append-drop}
 use Rattle.std.proofs.lemmas.Option.{slice_get-map, slice_get-get_or}
+use Rattle.px_bytes.specs.Lacking.{enlarged}
 use Rattle.px_bytes.specs.Parts.{limit}
 use Rattle.px_bytes.specs.Waiting.{Held}
 use Rattle.px_bytes.specs.lemmas.WaitingLaws.{HasPut, FailsPut, parts_more, put_both, fails_first, fails_second}
@@ -149,3 +150,17 @@ not_counted None n l e f h = elim (cases_lt most n) [
   | inr k ↦ let clash : ◌≡◌ {A = Option ℕ} None (Some n) = e ∙ sym (within_some n n refl k) in absurd (cc)
 ]
 not_counted (Some m) n l e f h = let s = some_within m n e in omega (arith, s.0)
+
+-- the length of a form that isn't too long
+pub within_number : (o : Option ℕ) (n l : ℕ) → o ≡ within_most n → l ≡ unwrap_or o 0 → n ≤ most → l ≡ n
+within_number None n l e f h = let clash : ◌≡◌ {A = Option ℕ} None (Some n) = e ∙ sym (within_some n n refl h) in absurd (cc)
+within_number (Some m) n l e f h = let s = some_within m n e in omega (arith, s.0)
+
+-- what a reservation for it asks for
+pub reserve_asks : {A B : Type 0} (len more n capacity asked asked_now : ℕ) → more ≡ n
+    → (len + more ≤ capacity → A × B × (asked_now ≡ asked)) → (capacity < len + more → asked_now ≡ asked + enlarged capacity (len + more) * 1)
+    → asked_now ≤ asked + enlarged capacity (len + n)
+reserve_asks len more n capacity asked asked_now is fits grows = elim (cases_lt capacity (len + more)) [
+  | inl l ↦ let now = grows l in omega (arith, is, now)
+  | inr l ↦ let now = (fits l).2 in omega (arith, is, now)
+]

@@ -4,6 +4,7 @@ use Rattle.std.proofs.KnownBytes.{Consumes-trans}
 use Rattle.std.specs.Io.KnownBytes.{Consumes}
 use Rattle.std.proofs.lemmas.Result.{err_from_is_err_and}
 use Rattle.px_bytes.specs.Lacking.{Taken}
+use Rattle.px_bytes.proofs.Growth.{made_once}
 use Rattle.px_bytes.proofs.Lost.{lost_after, returned_readable}
 use Rattle.px_bytes.proofs.whole.read_up_to_in.Goals as goal
 use Rattle.px_bytes.proofs.whole.read_up_to_in.Goals.{else-loop-all-test, then-loop-all-test+in_ok-append_some+then-not-branch}
@@ -20,10 +21,9 @@ returns-in_err-append_some-clause-asked g c =
     let few = returned_readable _ _ c.loop-all.all.items c.args.most c.loop-all.invariant.given
     (omega (arith, c.loop-all.invariant.in_range)) in
     let chunk = c.min.ensures in
-    let first = c.in_ok-resize.ensures.asked in
-    let before = c.loop-all.invariant.asked in
-    let last = c.in_err-append_some.ensures.lacking in
-    omega (arith, length-take {A = ℕ}, few, chunk, first, before, last)
+    let first = made_once _ _ _ _ c.in_ok-resize.ensures.fits c.in_ok-resize.ensures.asked in
+    let last = c.in_err-append_some.ensures.lacking _ c.loop-all.invariant.asked in
+    omega (arith, length-take {A = ℕ}, few, chunk, first, last)
 
 pub loop-all-preserved : goal.loop-all-preserved
 loop-all-preserved g c =
@@ -39,8 +39,7 @@ loop-all-preserved g c =
       buffer = search rules;
       count = search rules;
       memory = search rules;
-      asked = c.in_ok-append_some.ensures.asked (omega (arith, length-take {A = ℕ})) (omega (arith, length-take {A = ℕ}))
-          _ c.loop-all.invariant.asked;
+      asked = c.in_ok-append_some.ensures.asked _ c.loop-all.invariant.asked;
     }
 
 pub returns-clause-asked : goal.returns-clause-asked
@@ -49,12 +48,12 @@ returns-clause-asked g c =
     let few = returned_readable _ _ c.loop-all.all.items c.args.most c.loop-all.invariant.given
     (omega (arith, c.loop-all.invariant.in_range)) in
     let chunk = c.min.ensures in
-    let first = c.in_ok-resize.ensures.asked in
-    let before = c.loop-all.invariant.asked in
+    let first = made_once _ _ _ _ c.in_ok-resize.ensures.fits c.in_ok-resize.ensures.asked in
+    let before = c.loop-all.invariant.asked.bytes in
     elim c.loop-all-test.branch [
       | else-loop-all-test w ↦ let same = ap (λ (t : Taken). t.asked) w.memory-is in omega (arith, few, chunk, first, before, same)
       | then-loop-all-test+in_ok-append_some+then-not-branch w ↦
-          let last = w.append_some.ensures.lacking in
+          let last = w.append_some.ensures.lacking _ c.loop-all.invariant.asked in
           let same = ap (λ (t : Taken). t.asked) w.memory-is in
           omega (arith, length-take {A = ℕ}, few, chunk, first, before, last, same)
     ]

@@ -6,10 +6,10 @@ use Rattle.px_iim.specs.calls.View.{item_view}
 use Rattle.px_iim.proofs.writing.Writes.{item_read, all_at, grows_more, grows_stop, length_more, length_parts, no_item}
 use Rattle.px_iim.proofs.write.append_group.Goals as goal
 
-pub append_item-requires : goal.append_item-requires
-append_item-requires c =
+pub append_item-requires-clause-few : goal.append_item-requires-clause-few
+append_item-requires-clause-few c =
     all_at (normal_dataset 0) (map item_view c.args.items.now) c.loop-item.item-index _
-    (item_read c.args.items.now c.loop-item.item-index _ c.loop-item-test.true) (λ x. length x.1 ≤ limit) c.requires
+    (item_read c.args.items.now c.loop-item.item-index _ c.loop-item-test.true) (λ x. length x.1 ≤ limit) c.requires.short
 
 pub returns-in_err-append_item-clause-grown : goal.returns-in_err-append_item-clause-grown
 returns-in_err-append_item-clause-grown c =
@@ -17,24 +17,37 @@ returns-in_err-append_item-clause-grown c =
     rw p.1 (grows_stop c.args.out.now.items c.loop-item.out.items c.append_item.new.out.items _ c.loop-item.invariant.grown
     c.in_err-append_item.ensures.grown)
 
-pub returns-in_err-append_item-clause-asked : goal.returns-in_err-append_item-clause-asked
-returns-in_err-append_item-clause-asked c =
+pub append_item-requires-clause-room : goal.append_item-requires-clause-room
+append_item-requires-clause-room c =
     let f = normal_dataset c.args.rec in
     let xs = map item_view c.args.items.now in
     let i = c.loop-item.item-index in
     omega (
       arith,
-      c.loop-item.invariant.asked,
-      c.in_err-append_item.ensures.asked,
+      c.requires.room,
+      c.loop-item.invariant.room,
       length_more f xs i (item_view (get_or c.args.items.now i no_item)) (item_read c.args.items.now i no_item c.loop-item-test.true),
       length_parts f xs (i + 1),
     )
 
-pub returns-clause-asked : goal.returns-clause-asked
-returns-clause-asked c =
+pub returns-in_err-append_item-clause-room : goal.returns-in_err-append_item-clause-room
+returns-in_err-append_item-clause-room c =
+    let f = normal_dataset c.args.rec in
+    let xs = map item_view c.args.items.now in
+    let i = c.loop-item.item-index in
     omega (
       arith,
-      c.loop-item.invariant.asked,
+      c.loop-item.invariant.room,
+      c.in_err-append_item.ensures.room,
+      length_more f xs i (item_view (get_or c.args.items.now i no_item)) (item_read c.args.items.now i no_item c.loop-item-test.true),
+      length_parts f xs (i + 1),
+    )
+
+pub returns-clause-room : goal.returns-clause-room
+returns-clause-room c =
+    omega (
+      arith,
+      c.loop-item.invariant.room,
       length_parts (normal_dataset c.args.rec) (map item_view c.args.items.now) c.loop-item.item-index,
     )
 
@@ -44,10 +57,11 @@ loop-item-preserved c = record {
       (item_read c.args.items.now c.loop-item.item-index _ c.loop-item-test.true)
       c.args.out.now.items c.loop-item.out.items c.append_item.new.out.items c.loop-item.invariant.grown c.in_ok-append_item.ensures.grown;
   memory = c.in_ok-append_item.ensures.memory ∙ c.loop-item.invariant.memory;
-  asked = omega (
+  asked = c.in_ok-append_item.ensures.asked ∙ c.loop-item.invariant.asked;
+  room = omega (
     arith,
-    c.loop-item.invariant.asked,
-    c.in_ok-append_item.ensures.asked,
+    c.loop-item.invariant.room,
+    c.in_ok-append_item.ensures.room,
     length_more (normal_dataset c.args.rec) (map item_view c.args.items.now) c.loop-item.item-index
         (item_view (get_or c.args.items.now c.loop-item.item-index no_item))
         (item_read c.args.items.now c.loop-item.item-index no_item c.loop-item-test.true),

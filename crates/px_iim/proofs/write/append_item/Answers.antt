@@ -1,6 +1,11 @@
-use Rattle.std.proofs.Common.{take, ap, length, length-append, arith}
+use Rattle.std.proofs.Common.{◌≡◌, ◌≤◌, ◌+◌, ◌∙◌, ℕ, take, ap, length, length-append, arith, Result, Ok, Err, is_ok, if◌then◌else◌}
 use Rattle.px_iim.proofs.writing.Writes.{grows_item, head_and_data}
 use Rattle.px_iim.proofs.write.append_item.Goals as goal
+
+-- the length of a vector to which elements were appended, or not
+at_most : {A E : Type 0} (r : Result A E) (len more : ℕ) {now : ℕ} → now ≡ (if is_ok r then len + more else len) → now ≤ len + more
+at_most (Ok x) len more is = omega arith
+at_most (Err e) len more is = omega arith
 
 pub returns-clause-grown : goal.returns-clause-grown
 returns-clause-grown c =
@@ -16,11 +21,34 @@ returns-in_err-extend_from_slice-clause-asked c =
     let head = take c.head-len.result.1 c.head-len.result.0 in
     let octets = c.args.item.now.octets.now in
     let whole = ap length (head_and_data c.args.rec c.args.item.now.number octets head c.head-len.ensures.spelled) in
-    omega (arith, whole, length-append head octets, c.in_err-extend_from_slice.ensures.asked)
+    c.in_err-extend_from_slice.ensures.fits (omega (arith, c.requires.room, whole, length-append head octets))
+
+pub returns-in_err-extend_from_slice-clause-room : goal.returns-in_err-extend_from_slice-clause-room
+returns-in_err-extend_from_slice-clause-room c =
+    let head = take c.head-len.result.1 c.head-len.result.0 in
+    let octets = c.args.item.now.octets.now in
+    let whole = ap length (head_and_data c.args.rec c.args.item.now.number octets head c.head-len.ensures.spelled) in
+    let same = c.in_err-extend_from_slice.ensures.len in
+    let wider = c.in_err-extend_from_slice.ensures.capacity in
+    omega arith
 
 pub returns-clause-asked : goal.returns-clause-asked
 returns-clause-asked c =
     let head = take c.head-len.result.1 c.head-len.result.0 in
     let octets = c.args.item.now.octets.now in
     let whole = ap length (head_and_data c.args.rec c.args.item.now.number octets head c.head-len.ensures.spelled) in
-    omega (arith, whole, length-append head octets, c.in_ok-extend_from_slice.ensures.asked, c.extend_from_slice-2.ensures.asked)
+    let first = c.in_ok-extend_from_slice.ensures.fits (omega (arith, c.requires.room, whole, length-append head octets)) in
+    let len = c.in_ok-extend_from_slice.ensures.len in
+    let wider = c.in_ok-extend_from_slice.ensures.capacity in
+    c.extend_from_slice-2.ensures.fits (omega (arith, c.requires.room, whole, length-append head octets, len, wider)) ∙ first
+
+pub returns-clause-room : goal.returns-clause-room
+returns-clause-room c =
+    let head = take c.head-len.result.1 c.head-len.result.0 in
+    let octets = c.args.item.now.octets.now in
+    let whole = ap length (head_and_data c.args.rec c.args.item.now.number octets head c.head-len.ensures.spelled) in
+    let len = c.in_ok-extend_from_slice.ensures.len in
+    let wider = c.in_ok-extend_from_slice.ensures.capacity in
+    let last = at_most c.extend_from_slice-2.result _ _ c.extend_from_slice-2.ensures.len in
+    let wide = c.extend_from_slice-2.ensures.capacity in
+    omega (arith, whole, length-append head octets, len, wider, last, wide)

@@ -14,11 +14,21 @@ loop-rec-init c =
       whole = subst (AllByRecursion IsGroup) (sym all) c.iter-rec-items.ensures.whole.groups;
       grown = ([], sym (append-nil c.args.out.now.items), ap normal_iim all);
       memory = refl;
-      asked = omega (arith, ap (λ (i : Record). length (normal_iim i)) all);
+      asked = refl;
+      room = omega (arith, c.requires, ap (λ (i : Record). length (normal_iim i)) all);
     }
 
-pub append_group-requires : goal.append_group-requires
-append_group-requires c =
+pub append_group-requires-clause-room : goal.append_group-requires-clause-room
+append_group-requires-clause-room c =
+    let x = part_view (c.in-Some.rec, c.in-Some.field-0-1, c.in-Some.items) in
+    omega (
+      arith,
+      c.loop-rec.invariant.room,
+      length_next c.loop-rec.rec-iterator c.next.new.self x c.in-Some.ensures.steps [],
+    )
+
+pub append_group-requires-clause-short : goal.append_group-requires-clause-short
+append_group-requires-clause-short c =
     short_next c.loop-rec.rec-iterator c.next.new.self (part_view (c.in-Some.rec, c.in-Some.field-0-1, c.in-Some.items))
     c.in-Some.ensures.steps [] c.loop-rec.invariant.whole
 
@@ -27,16 +37,6 @@ returns-in_err-append_group-clause-grown c =
     let p = err_from_is_err_and c.from_residual.result c.from_residual.ensures.1 in
     let o = c.loop-rec.invariant.grown in
     rw p.1 (grows_stop c.args.out.now.items c.loop-rec.out.items c.append_group.new.out.items o.0 o.1 c.in_err-append_group.ensures.grown)
-
-pub returns-in_err-append_group-clause-asked : goal.returns-in_err-append_group-clause-asked
-returns-in_err-append_group-clause-asked c =
-    let x = part_view (c.in-Some.rec, c.in-Some.field-0-1, c.in-Some.items) in
-    omega (
-      arith,
-      c.loop-rec.invariant.asked,
-      c.in_err-append_group.ensures.asked,
-      length_next c.loop-rec.rec-iterator c.next.new.self x c.in-Some.ensures.steps [],
-    )
 
 pub loop-rec-preserved : goal.loop-rec-preserved
 loop-rec-preserved c =
@@ -47,10 +47,11 @@ loop-rec-preserved c =
       grown = grows_next c.loop-rec.rec-iterator c.next.new.self x c.in-Some.ensures.steps _ c.args.out.now.items c.loop-rec.out.items
           c.append_group.new.out.items o.0 o.1 o.2 c.in_ok-append_group.ensures.grown;
       memory = c.in_ok-append_group.ensures.memory ∙ c.loop-rec.invariant.memory;
-      asked = omega (
+      asked = c.in_ok-append_group.ensures.asked ∙ c.loop-rec.invariant.asked;
+      room = omega (
         arith,
-        c.loop-rec.invariant.asked,
-        c.in_ok-append_group.ensures.asked,
+        c.loop-rec.invariant.room,
+        c.in_ok-append_group.ensures.room,
         length_next c.loop-rec.rec-iterator c.next.new.self x c.in-Some.ensures.steps [],
       );
     }
@@ -59,6 +60,3 @@ pub returns-clause-grown : goal.returns-clause-grown
 returns-clause-grown c =
     let o = c.loop-rec.invariant.grown in
     o.1 ∙ ap (λ (l : List ℕ). c.args.out.now.items ++ l) (rest_none c.loop-rec.rec-iterator o.0 _ c.in-None.ensures.steps.0 o.2)
-
-pub returns-clause-asked : goal.returns-clause-asked
-returns-clause-asked c = omega (arith, c.loop-rec.invariant.asked)

@@ -1,4 +1,4 @@
-use Rattle.std.proofs.Common.{◌≡◌, ◌≤◌, ◌+◌, ◌++◌, ℕ, List, length}
+use Rattle.std.proofs.Common.{◌≡◌, ◌≤◌, ◌+◌, ◌++◌, ℕ, List, length, vec_len, vec_capacity}
 use Rattle.std.specs.List.{AllByRecursion}
 use Rattle.px_iim.specs.Group.{IsGroup}
 use Rattle.px_iim.specs.Record.{normal_iim}
@@ -10,5 +10,6 @@ invariant-loop-rec l = record {
   whole : AllByRecursion IsGroup l.rec-iterator;
   grown : (parts : List ℕ) × (l.out.items ≡ l.initial.out.items ++ parts) × (parts ++ normal_iim l.rec-iterator ≡ normal_iim l.iim);
   memory : l.memory.refusals ≡ l.initial.memory.refusals;
-  asked : l.memory.asked + length (normal_iim l.rec-iterator) ≤ l.initial.memory.asked + length (normal_iim l.iim);
+  asked : l.memory.asked ≡ l.initial.memory.asked;
+  room : vec_len l.out + length (normal_iim l.rec-iterator) ≤ vec_capacity l.out;
 }

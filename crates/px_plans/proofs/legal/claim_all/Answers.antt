@@ -17,20 +17,20 @@ returns-in_err-claim-clause-free c =
 pub returns-then-not-branch-clause-free : goal.returns-then-not-branch-clause-free
 returns-then-not-branch-clause-free c = λ taken a.
     left_stop (plan_of c.args.plan.now) c.args.chunks.now c.loop-i.i (get_or c.args.chunks.now c.loop-i.i (Table Main, 0)) (Table Main, 0)
-    c.loop-i.held c.claim.new.held (all_stand (plan_of c.args.plan.now) taken c.args.chunks.now) c.in_ok-claim.field-0
+    c.loop-i.held.ranges c.claim.new.held.ranges (all_stand (plan_of c.args.plan.now) taken c.args.chunks.now) c.in_ok-claim.field-0
     c.loop-i-test.true refl c.if-not-branch.true c.in_ok-claim.ensures.free (c.loop-i.invariant.left taken a)
 
 pub loop-i-preserved : goal.loop-i-preserved
 loop-i-preserved c = record {
   left = λ taken a.
       left_more (plan_of c.args.plan.now) c.args.chunks.now c.loop-i.i (get_or c.args.chunks.now c.loop-i.i (Table Main, 0)) (Table Main, 0)
-      c.loop-i.held c.claim.new.held (all_stand (plan_of c.args.plan.now) taken c.args.chunks.now) c.in_ok-claim.field-0
+      c.loop-i.held.ranges c.claim.new.held.ranges (all_stand (plan_of c.args.plan.now) taken c.args.chunks.now) c.in_ok-claim.field-0
       c.loop-i-test.true refl c.if-not-branch.false c.in_ok-claim.ensures.free (c.loop-i.invariant.left taken a);
   memory = c.in_ok-claim.ensures.memory ∙ c.loop-i.invariant.memory;
 }
 
 pub returns-clause-free : goal.returns-clause-free
 returns-clause-free c = λ taken a.
-    left_done (plan_of c.args.plan.now) c.args.chunks.now c.loop-i.i c.loop-i.held
+    left_done (plan_of c.args.plan.now) c.args.chunks.now c.loop-i.i c.loop-i.held.ranges
     (all_stand (plan_of c.args.plan.now) taken c.args.chunks.now)
     c.loop-i-test.false (c.loop-i.invariant.left taken a)

@@ -7,7 +7,7 @@ use Rattle.px_plans.proofs.legal.claim_all.Given as goal
 -- the chunks left are legal exactly if all are, and no allocation failed
 abbrev pub invariant-loop-i : goal.invariant-loop-i
 invariant-loop-i l = record {
-  left : (taken : List Range) → Agrees taken l.initial.held → (now : List Range) × Agrees now l.held ×
+  left : (taken : List Range) → Agrees taken l.initial.held.ranges → (now : List Range) × Agrees now l.held.ranges ×
       (all_stand (plan_of l.plan) now (drop l.i l.chunks) ≡ all_stand (plan_of l.plan) taken l.chunks);
   memory : l.memory.refusals ≡ l.initial.memory.refusals;
 }

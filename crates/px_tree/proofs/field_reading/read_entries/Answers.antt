@@ -23,17 +23,20 @@ loop-init c =
     let es = λ (k : ℕ). entries_from b o c.args.start k in
     record {
       place = omega arith;
-      rising = subst (λ (l : Fields). Rising (tags l)) (sym c.in_ok-fields.ensures.none) tt;
-      precede = λ t _. subst (λ (l : Fields). AllByRecursion (λ s. s < t) (tags l)) (sym c.in_ok-fields.ensures.none) tt;
-      fields = λ _. ap (λ (l : Fields). l ++ filter_map (field b o d) (es (c.args.count - 0))) c.in_ok-fields.ensures.none
+      rising = subst (λ (l : Fields). Rising (tags l)) (sym c.in_ok-list.ensures.none) tt;
+      precede = λ t _. subst (λ (l : Fields). AllByRecursion (λ s. s < t) (tags l)) (sym c.in_ok-list.ensures.none) tt;
+      fields = λ _. ap (λ (l : Fields). l ++ filter_map (field b o d) (es (c.args.count - 0))) c.in_ok-list.ensures.none
           ∙ ap (λ (k : ℕ). filter_map (field b o d) (es k)) n;
-      judged = λ taken a. subst (λ (k : ℕ). SoFar b o d taken (es c.args.count) c.args.start c.args.held.now c.args.start None k) (sym n)
-          (so_far_start b o d taken c.args.start c.args.count c.args.held.now a);
+      judged = λ taken a. subst (λ (k : ℕ). SoFar b o d taken (es c.args.count) c.args.start c.args.held.now.ranges c.args.start None k) (sym n)
+          (so_far_start b o d taken c.args.start c.args.count c.args.held.now.ranges a);
       uses = subst (λ (k : ℕ). UsesSoFar b o c.args.start c.args.count c.no_uses-uses.result c.args.start None k) (sym n)
           (uses_start b o c.args.start c.args.count c.no_uses-uses.result c.no_uses-uses.ensures);
       memory = refl;
+      len = omega (arith, c.in_ok-list.ensures.len);
+      room = c.in_ok-list.ensures.room;
       asked = omega arith;
       below = omega arith;
+      wide = omega arith;
     }
 
 pub returns-in_err-shape-clause-judged : goal.returns-in_err-shape-clause-judged
@@ -56,8 +59,11 @@ keep_field-requires-clause-held c =
       whole = c.in_ok-shape.ensures.inside;
     }
 
-pub keep_field-requires-clause-below : goal.keep_field-requires-clause-below
-keep_field-requires-clause-below c = c.loop.invariant.precede c.in_ok-shape.shape.head.tag c.in_ok-shape.ensures.follows
+pub keep_field-requires-clause-room : goal.keep_field-requires-clause-room
+keep_field-requires-clause-room c = λ keeps.
+    let room = c.loop.invariant.room keeps in
+    let len = c.loop.invariant.len in
+    omega arith
 
 pub loop-preserved : goal.loop-preserved
 loop-preserved c =
@@ -71,23 +77,22 @@ loop-preserved c =
     let e = entry o (part b c.loop.at 12) in
     let v = value_in b o e s.role s.form in
     let x = if_kept c.args.source.now.keeps_fields v in
-    let kept = c.in_ok-keep_field.ensures.kept in
+    let kept = c.keep_field.ensures.kept in
     let asked_before = c.loop.invariant.asked in
     let asked_shape = c.in_ok-shape.ensures.asked in
-    let asked_kept = c.in_ok-keep_field.ensures.asked in
     let below_before = c.loop.invariant.below in
     let below_shape = c.in_ok-shape.ensures.below in
     let below = c.loop.invariant.precede s.head.tag c.in_ok-shape.ensures.follows in
     record {
       place = omega arith;
-      rising = rising_kept c.loop.fields _ s.head.tag x kept c.loop.invariant.rising below;
-      precede = precede_kept c.loop.fields _ s.head.tag x kept below;
+      rising = rising_kept c.loop.list.items _ s.head.tag x kept c.loop.invariant.rising below;
+      precede = precede_kept c.loop.list.items _ s.head.tag x kept below;
       fields = λ keeps.
-          ap (λ (l : Fields). l ++ rest) (kept ∙ ap (λ (y : Option (ℕ × Value)). c.loop.fields ++ option_to_list y)
+          ap (λ (l : Fields). l ++ rest) (kept ∙ ap (λ (y : Option (ℕ × Value)). c.loop.list.items ++ option_to_list y)
           (ap (λ (k : Bool). option_map (λ (v : Value). (s.head.tag, v)) (if_kept k v)) keeps
           ∙ ap (λ (t : ℕ). option_map (λ (v : Value). (t, v)) v) shape.head.tag ∙ sym (field_is b o d s e shape)))
-          ∙ append_assoc c.loop.fields (option_to_list (field b o d e)) rest
-          ∙ ap (λ (l : Fields). c.loop.fields ++ l) (sym (fields_step b o d c.loop.at _ _ step))
+          ∙ append_assoc c.loop.list.items (option_to_list (field b o d e)) rest
+          ∙ ap (λ (l : Fields). c.loop.list.items ++ l) (sym (fields_step b o d c.loop.at _ _ step))
           ∙ c.loop.invariant.fields keeps;
       judged = λ taken a.
           let w = c.loop.invariant.judged taken a in
@@ -95,9 +100,12 @@ loop-preserved c =
           so_far_step b o d taken _ _ _ _ _ _ _ step w _ _ shape.head.tag k.0 k.1;
       uses = uses_step b o c.args.start c.args.count c.loop.at _ _ c.loop.before step (omega arith) s.head shape.head
           c.in_ok-shape.ensures.follows c.loop.uses _ c.loop.invariant.uses c.keep_use.ensures;
-      memory = c.in_ok-keep_field.ensures.memory ∙ c.in_ok-shape.ensures.memory ∙ c.loop.invariant.memory;
+      memory = c.in_ok-shape.ensures.memory ∙ c.loop.invariant.memory;
+      len = omega (arith, c.loop.invariant.len, c.keep_field.ensures.len);
+      room = λ keeps. let room = c.loop.invariant.room keeps in let same = c.keep_field.ensures.capacity in omega arith;
       asked = omega arith;
       below = omega arith;
+      wide = omega (arith, c.loop.invariant.wide, c.in_ok-shape.ensures.room);
     }
 
 pub returns-clause-judged : goal.returns-clause-judged
@@ -109,7 +117,7 @@ returns-clause-judged c = λ taken a.
     let end = so_far_end b o d taken _ _ _ _ _ _ none (c.loop.invariant.judged taken a) in (
       end.0,
       (
-        λ keeps. sym (append-nil c.loop.fields) ∙ ap (λ (k : ℕ). c.loop.fields ++ filter_map (field b o d) (entries_from b o c.loop.at k))
+        λ keeps. c.of_list-fields.ensures ∙ sym (append-nil c.loop.list.items) ∙ ap (λ (k : ℕ). c.loop.list.items ++ filter_map (field b o d) (entries_from b o c.loop.at k))
             (sym none) ∙ c.loop.invariant.fields keeps,
         end.1,
       ),
@@ -120,28 +128,17 @@ returns-clause-uses c =
     let none : c.args.count - c.loop.counter ≡ 0 = omega arith in
     uses_end c.args.source.now.block.now c.args.source.now.order c.args.start c.args.count c.loop.uses _ _ _ none c.loop.invariant.uses
 
-pub returns-in_err-fields-clause-asked : goal.returns-in_err-fields-clause-asked
-returns-in_err-fields-clause-asked c =
-    let p = err_from_is_err_and c.from_residual.result c.from_residual.ensures.1 in
-    let fields = c.in_err-fields.ensures.asked in
-    rw p.1 (omega arith)
+pub returns-in_err-list-clause-asked : goal.returns-in_err-list-clause-asked
+returns-in_err-list-clause-asked c =
+    let fields = c.in_err-list.ensures.asked in
+    omega arith
 
 pub returns-in_err-shape-clause-asked : goal.returns-in_err-shape-clause-asked
 returns-in_err-shape-clause-asked c =
-    let p = err_from_is_err_and c.from_residual-in_err-shape.result c.from_residual-in_err-shape.ensures.1 in
-    let fields = c.in_ok-fields.ensures.asked in
+    let fields = c.in_ok-list.ensures.asked in
     let before = c.loop.invariant.asked in
     let shape = c.in_err-shape.ensures.asked in
-    rw p.1 (omega arith)
-
-pub returns-in_err-keep_field-clause-asked : goal.returns-in_err-keep_field-clause-asked
-returns-in_err-keep_field-clause-asked c =
-    let p = err_from_is_err_and c.from_residual-in_err-keep_field.result c.from_residual-in_err-keep_field.ensures.1 in
-    let fields = c.in_ok-fields.ensures.asked in
-    let before = c.loop.invariant.asked in
-    let shape = c.in_ok-shape.ensures.asked in
-    let kept = c.in_err-keep_field.ensures.asked in
-    rw p.1 (omega arith)
+    omega arith
 
 pub returns-in_err-shape-clause-below : goal.returns-in_err-shape-clause-below
 returns-in_err-shape-clause-below c =
@@ -149,14 +146,8 @@ returns-in_err-shape-clause-below c =
     let shape = c.in_err-shape.ensures.below in
     omega arith
 
-pub returns-in_err-keep_field-clause-below : goal.returns-in_err-keep_field-clause-below
-returns-in_err-keep_field-clause-below c =
-    let before = c.loop.invariant.below in
-    let shape = c.in_ok-shape.ensures.below in
-    omega arith
-
 pub returns-clause-asked : goal.returns-clause-asked
 returns-clause-asked c =
-    let fields = c.in_ok-fields.ensures.asked in
+    let fields = c.in_ok-list.ensures.asked in
     let before = c.loop.invariant.asked in
     omega arith

@@ -1,8 +1,7 @@
-use Rattle.std.proofs.Common.{◌≡◌, ◌≤◌, ◌+◌, ◌-◌, ◌*◌, ◌++◌, List, filter_map, length, true}
+use Rattle.std.proofs.Common.{◌≡◌, ◌≤◌, ◌+◌, ◌-◌, ◌*◌, ◌++◌, List, filter_map, length, true, vec_len, vec_capacity}
 use Rattle.px_bytes.specs.Range.{Range, Agrees}
 use Rattle.px_meaning.specs.Entry.{field, Rising}
 use Rattle.px_meaning.specs.calls.Places.{tags}
-use Rattle.px_meaning.specs.Asking.{field_bytes}
 use Rattle.px_tree.specs.calls.Paying.{paid, StaysBelow}
 use Rattle.px_tree.specs.calls.Reading.{Precede, entries_from}
 use Rattle.px_tree.proofs.reading.KeptUses.{UsesSoFar}
@@ -12,18 +11,20 @@ use Rattle.px_tree.proofs.field_reading.read_entries.Given as goal
 abbrev pub invariant-loop : goal.invariant-loop
 invariant-loop l = record {
   place : l.at ≡ l.start + 12 * l.counter;
-  rising : Rising (tags l.fields);
-  precede : Precede l.before l.fields;
-  fields : l.source.keeps_fields ≡ true → l.fields ++ filter_map (field l.source.block.now l.source.order l.source.dir)
+  rising : Rising (tags l.list.items);
+  precede : Precede l.before l.list.items;
+  len : vec_len l.list ≤ l.counter;
+  room : l.source.keeps_fields ≡ true → l.count ≤ vec_capacity l.list;
+  fields : l.source.keeps_fields ≡ true → l.list.items ++ filter_map (field l.source.block.now l.source.order l.source.dir)
       (entries_from l.source.block.now l.source.order l.at (l.count - l.counter))
       ≡ filter_map (field l.source.block.now l.source.order l.source.dir)
       (entries_from l.source.block.now l.source.order l.start l.count);
-  judged : (taken : List Range) → Agrees taken l.initial.held
+  judged : (taken : List Range) → Agrees taken l.initial.held.ranges
       → SoFar l.source.block.now l.source.order l.source.dir taken
-      (entries_from l.source.block.now l.source.order l.start l.count) l.start l.held l.at l.before (l.count - l.counter);
+      (entries_from l.source.block.now l.source.order l.start l.count) l.start l.held.ranges l.at l.before (l.count - l.counter);
   uses : UsesSoFar l.source.block.now l.source.order l.start l.count l.uses l.at l.before (l.count - l.counter);
   memory : l.memory.refusals ≡ l.initial.memory.refusals;
-  asked : l.memory.asked + paid l.initial.held + (l.count - l.counter) * field_bytes
-      ≤ l.initial.memory.asked + paid l.held + l.count * field_bytes;
+  asked : l.memory.asked + paid l.initial.held ≤ l.initial.memory.asked + paid l.held;
   below : StaysBelow (length l.source.block.now) l.initial.held l.held;
+  wide : l.initial.held.room ≤ l.held.room;
 }

@@ -59,8 +59,8 @@ returns-in_err-thumb-clause-judged c =
 
 pub returns-in_err-main-clause-asked : goal.returns-in_err-main-clause-asked
 returns-in_err-main-clause-asked c =
-    let paid_first = paid_none _ c.in_ok-held.ensures.none in
-    let extent_first = extent_none _ c.in_ok-held.ensures.none in
+    let paid_first = paid_none c.in_ok-held.held c.in_ok-held.ensures.none in
+    let extent_first = extent_none c.in_ok-held.held c.in_ok-held.ensures.none in
     let marks = c.in_ok-held.ensures.asked in
     let asked = c.in_err-main.ensures.asked in
     let below = c.in_err-main.ensures.below in
@@ -69,8 +69,8 @@ returns-in_err-main-clause-asked c =
 
 pub returns-in_err-directories-clause-asked : goal.returns-in_err-directories-clause-asked
 returns-in_err-directories-clause-asked c =
-    let paid_first = paid_none _ c.in_ok-held.ensures.none in
-    let extent_first = extent_none _ c.in_ok-held.ensures.none in
+    let paid_first = paid_none c.in_ok-held.held c.in_ok-held.ensures.none in
+    let extent_first = extent_none c.in_ok-held.held c.in_ok-held.ensures.none in
     let marks = c.in_ok-held.ensures.asked in
     let asked0 = c.in_ok-main.ensures.asked in
     let below0 = c.in_ok-main.ensures.below in
@@ -81,8 +81,8 @@ returns-in_err-directories-clause-asked c =
 
 pub returns-in_err-thumb-clause-asked : goal.returns-in_err-thumb-clause-asked
 returns-in_err-thumb-clause-asked c =
-    let paid_first = paid_none _ c.in_ok-held.ensures.none in
-    let extent_first = extent_none _ c.in_ok-held.ensures.none in
+    let paid_first = paid_none c.in_ok-held.held c.in_ok-held.ensures.none in
+    let extent_first = extent_none c.in_ok-held.held c.in_ok-held.ensures.none in
     let marks = c.in_ok-held.ensures.asked in
     let asked0 = c.in_ok-main.ensures.asked in
     let below0 = c.in_ok-main.ensures.below in
@@ -105,8 +105,8 @@ returns-clause-judged c =
 
 pub returns-clause-asked : goal.returns-clause-asked
 returns-clause-asked c =
-    let paid_first = paid_none _ c.in_ok-held.ensures.none in
-    let extent_first = extent_none _ c.in_ok-held.ensures.none in
+    let paid_first = paid_none c.in_ok-held.held c.in_ok-held.ensures.none in
+    let extent_first = extent_none c.in_ok-held.held c.in_ok-held.ensures.none in
     let marks = c.in_ok-held.ensures.asked in
     let asked0 = c.in_ok-main.ensures.asked in
     let below0 = c.in_ok-main.ensures.below in
@@ -119,8 +119,8 @@ returns-clause-asked c =
 
 pub returns-then-is_alone-clause-asked : goal.returns-then-is_alone-clause-asked
 returns-then-is_alone-clause-asked c =
-    let paid_first = paid_none _ c.in_ok-held.ensures.none in
-    let extent_first = extent_none _ c.in_ok-held.ensures.none in
+    let paid_first = paid_none c.in_ok-held.held c.in_ok-held.ensures.none in
+    let extent_first = extent_none c.in_ok-held.held c.in_ok-held.ensures.none in
     let marks = c.in_ok-held.ensures.asked in
     let asked0 = c.in_ok-main.ensures.asked in
     let below0 = c.in_ok-main.ensures.below in

@@ -1,12 +1,10 @@
 use Rattle.std.proofs.Common.{arith}
-use Rattle.std.proofs.lemmas.Result.{err_from_is_err_and}
 use Rattle.px_tree.proofs.tables.open_table.Goals as goal
 
 pub returns-in_err-claim_range-clause-asked : goal.returns-in_err-claim_range-clause-asked
 returns-in_err-claim_range-clause-asked c =
-    let p = err_from_is_err_and c.from_residual.result c.from_residual.ensures.1 in
     let asked = c.in_err-claim_range.ensures.asked in
-    rw p.1 (omega arith)
+    omega arith
 
 pub returns-in_err-claim_range-clause-below : goal.returns-in_err-claim_range-clause-below
 returns-in_err-claim_range-clause-below c =

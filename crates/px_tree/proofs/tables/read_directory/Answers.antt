@@ -69,10 +69,9 @@ returns-clause-uses c =
 
 pub returns-in_err-entries-clause-asked : goal.returns-in_err-entries-clause-asked
 returns-in_err-entries-clause-asked c =
-    let p = err_from_is_err_and c.from_residual-in_err-entries.result c.from_residual-in_err-entries.ensures.1 in
     let table = c.in_ok-count.ensures.table in
     let asked = c.in_err-entries.ensures.asked in
-    rw p.1 (omega arith)
+    omega arith
 
 pub returns-clause-asked : goal.returns-clause-asked
 returns-clause-asked c =

@@ -40,14 +40,14 @@ loop-i-preserved c =
       memory = c.in_ok-claim.ensures.memory ∙ c.loop-i.invariant.memory;
       asked = omega arith;
       below = omega arith;
+      room = omega (arith, c.loop-i.invariant.room, c.in_ok-claim.ensures.room);
     }
 
 pub returns-in_err-claim-clause-asked : goal.returns-in_err-claim-clause-asked
 returns-in_err-claim-clause-asked c =
-    let p = err_from_is_err_and c.from_residual.result c.from_residual.ensures.1 in
     let before = c.loop-i.invariant.asked in
     let claimed = c.in_err-claim.ensures.asked in
-    rw p.1 (omega arith)
+    omega arith
 
 pub returns-in_err-claim-clause-below : goal.returns-in_err-claim-clause-below
 returns-in_err-claim-clause-below c =

@@ -9,8 +9,8 @@ use Rattle.px_tree.proofs.thumbnail.claim_each.Given as goal
 
 abbrev pub invariant-loop-i : goal.invariant-loop-i
 invariant-loop-i l = record {
-  judged : (taken : List Range) → Agrees taken l.initial.held
-      → RangesSoFar l.lists.block.now l.place taken (ranges_in l.lists) l.held
+  judged : (taken : List Range) → Agrees taken l.initial.held.ranges
+      → RangesSoFar l.lists.block.now l.place taken (ranges_in l.lists) l.held.ranges
       (ranges_of (drop l.i (map whole_number l.lists.starts.elements)) (drop l.i (map whole_number l.lists.sizes.elements)));
   inside : AllByRecursion (IsInside l.lists.block.now)
       (ranges_of (drop l.i (map whole_number l.lists.starts.elements)) (drop l.i (map whole_number l.lists.sizes.elements)))
@@ -18,4 +18,5 @@ invariant-loop-i l = record {
   memory : l.memory.refusals ≡ l.initial.memory.refusals;
   asked : l.memory.asked + paid l.initial.held ≤ l.initial.memory.asked + paid l.held;
   below : StaysBelow (length l.lists.block.now) l.initial.held l.held;
+  room : l.initial.held.room ≤ l.held.room;
 }

@@ -69,16 +69,14 @@ returns-clause-judged c = λ taken a.
 
 pub returns-in_err-jpeg-clause-asked : goal.returns-in_err-jpeg-clause-asked
 returns-in_err-jpeg-clause-asked c =
-    let p = err_from_is_err_and c.from_residual-in_err-jpeg.result c.from_residual-in_err-jpeg.ensures.1 in
     let jpeg = c.in_err-jpeg.ensures.asked in
-    rw p.1 (omega arith)
+    omega arith
 
 pub returns-in_err-strips-clause-asked : goal.returns-in_err-strips-clause-asked
 returns-in_err-strips-clause-asked c =
-    let p = err_from_is_err_and c.from_residual-in_err-strips.result c.from_residual-in_err-strips.ensures.1 in
     let jpeg = c.in_ok-jpeg.ensures.asked in
     let strips = c.in_err-strips.ensures.asked in
-    rw p.1 (omega arith)
+    omega arith
 
 pub returns-in_err-strips-clause-below : goal.returns-in_err-strips-clause-below
 returns-in_err-strips-clause-below c =

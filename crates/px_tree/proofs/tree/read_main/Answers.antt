@@ -10,7 +10,6 @@ use Rattle.px_meaning.specs.Footprint.{dir_ranges}
 use Rattle.px_tree.specs.declared.tables.Directory.{Directory}
 use Rattle.px_tree.specs.Checks.{dir_checks}
 use Rattle.px_bytes.specs.lemmas.CheckLaws.{Refuses_none}
-use Rattle.px_tree.proofs.reading.Paying.{pays_after}
 use Rattle.px_tree.proofs.saying.Started.{main_judged}
 use Rattle.px_tree.proofs.tree.read_main.Goals as goal
 
@@ -28,7 +27,7 @@ returns-clause-judged c =
     let keeps = c.args.source.now.keeps_fields in
     let l = c.link_to_main-link.result in
     let h = (c.in_ok-claim_range.ensures.judged [] (agrees_none _ c.requires.none)).1 in
-    let held = c.read_directory.new.held in
+    let held = c.read_directory.new.held.ranges in
     main_judged b o keeps l c.link_to_main-link.ensures c.read_directory.result held
     (subst (λ (d : Dir). Judges c.read_directory.result (dir_checks b o [] (range 0 8 ∷ []) l.place d l.at)
     (λ (t : Directory). (keeps ≡ true → t.fields ≡ fields b o d l.at) × Agrees (dir_ranges b o l.at ++ range 0 8 ∷ []) held))
@@ -36,10 +35,11 @@ returns-clause-judged c =
 
 pub returns-in_err-claim_range-clause-asked : goal.returns-in_err-claim_range-clause-asked
 returns-in_err-claim_range-clause-asked c =
-    let p = err_from_is_err_and c.from_residual.result c.from_residual.ensures.1 in
     let asked = c.in_err-claim_range.ensures.asked in
-    rw p.1 (omega arith)
+    omega arith
 
 pub returns-clause-asked : goal.returns-clause-asked
 returns-clause-asked c =
-    pays_after _ c.read_directory.result _ _ _ _ _ _ c.in_ok-claim_range.ensures.asked c.read_directory.ensures.asked
+    let header = c.in_ok-claim_range.ensures.asked in
+    let asked = c.read_directory.ensures.asked in
+    omega arith

@@ -53,7 +53,7 @@ returns-in_err-exif-clause-judged c = λ taken a.
     let lm = c.link_to_main-main_link.result in
     let nm = c.link_to_main-main_link.ensures in
     let me = c.requires.read.stands in
-    let s1 = dirs_start b o taken lm (main_is b o lm nm) c.args.held.now a in
+    let s1 = dirs_start b o taken lm (main_is b o lm nm) c.args.held.now.ranges a in
     rw (p.1, p.2) (dirs_refuse b o taken (Some lm ∷ []) Exif (Interop ∷ Gps ∷ Thumb ∷ []) _ s1 c.in_err-exif.field-0.0
     (c.in_err-exif.ensures.judged s1.now s1.agrees))
 
@@ -66,7 +66,7 @@ returns-in_err-interop-clause-judged c = λ taken a.
     let nm = c.link_to_main-main_link.ensures in
     let me = c.requires.read.stands in
     let ne = names_exif b o c.link_to_exif-exif_link.result _ me _ c.link_to_exif-exif_link.ensures c.requires.read.uses.exif in
-    let s1 = dirs_start b o taken lm (main_is b o lm nm) c.args.held.now a in
+    let s1 = dirs_start b o taken lm (main_is b o lm nm) c.args.held.now.ranges a in
     let j1 = c.in_ok-exif.ensures.judged s1.now s1.agrees in
     let s2 = dirs_step b o taken (Some lm ∷ []) Exif (Interop ∷ Gps ∷ Thumb ∷ []) _ s1 c.link_to_exif-exif_link.result _ ne j1.0 j1.1.1 in
     rw (p.1, p.2) (dirs_refuse b o taken (c.link_to_exif-exif_link.result ∷ Some lm ∷ []) Interop (Gps ∷ Thumb ∷ []) _ s2
@@ -82,7 +82,7 @@ returns-in_err-gps-clause-judged c = λ taken a.
     let me = c.requires.read.stands in
     let ne = names_exif b o c.link_to_exif-exif_link.result _ me _ c.link_to_exif-exif_link.ensures c.requires.read.uses.exif in
     let ni = names_interop b o c.link_to_interop-interop_link.result _ c.in_ok-exif.ensures.there c.link_to_interop-interop_link.ensures in
-    let s1 = dirs_start b o taken lm (main_is b o lm nm) c.args.held.now a in
+    let s1 = dirs_start b o taken lm (main_is b o lm nm) c.args.held.now.ranges a in
     let j1 = c.in_ok-exif.ensures.judged s1.now s1.agrees in
     let s2 = dirs_step b o taken (Some lm ∷ []) Exif (Interop ∷ Gps ∷ Thumb ∷ []) _ s1 c.link_to_exif-exif_link.result _ ne j1.0 j1.1.1 in
     let j2 = c.in_ok-interop.ensures.judged s2.now s2.agrees in
@@ -102,7 +102,7 @@ returns-in_err-thumb-clause-judged c = λ taken a.
     let ne = names_exif b o c.link_to_exif-exif_link.result _ me _ c.link_to_exif-exif_link.ensures c.requires.read.uses.exif in
     let ni = names_interop b o c.link_to_interop-interop_link.result _ c.in_ok-exif.ensures.there c.link_to_interop-interop_link.ensures in
     let ng = names_gps b o c.link_to_gps-gps_link.result _ me _ c.link_to_gps-gps_link.ensures c.requires.read.uses.gps in
-    let s1 = dirs_start b o taken lm (main_is b o lm nm) c.args.held.now a in
+    let s1 = dirs_start b o taken lm (main_is b o lm nm) c.args.held.now.ranges a in
     let j1 = c.in_ok-exif.ensures.judged s1.now s1.agrees in
     let s2 = dirs_step b o taken (Some lm ∷ []) Exif (Interop ∷ Gps ∷ Thumb ∷ []) _ s1 c.link_to_exif-exif_link.result _ ne j1.0 j1.1.1 in
     let j2 = c.in_ok-interop.ensures.judged s2.now s2.agrees in
@@ -127,7 +127,7 @@ returns-clause-judged c = λ taken a.
     let ng = names_gps b o c.link_to_gps-gps_link.result _ me _ c.link_to_gps-gps_link.ensures c.requires.read.uses.gps in
     let nt = names_thumb b o c.link_after-thumb_link.result _ me c.link_after-thumb_link.ensures.leads
     c.link_after-thumb_link.ensures.place in
-    let s1 = dirs_start b o taken lm (main_is b o lm nm) c.args.held.now a in
+    let s1 = dirs_start b o taken lm (main_is b o lm nm) c.args.held.now.ranges a in
     let j1 = c.in_ok-exif.ensures.judged s1.now s1.agrees in
     let s2 = dirs_step b o taken (Some lm ∷ []) Exif (Interop ∷ Gps ∷ Thumb ∷ []) _ s1 c.link_to_exif-exif_link.result _ ne j1.0 j1.1.1 in
     let j2 = c.in_ok-interop.ensures.judged s2.now s2.agrees in
@@ -158,9 +158,8 @@ returns-clause-judged c = λ taken a.
 
 pub returns-in_err-exif-clause-asked : goal.returns-in_err-exif-clause-asked
 returns-in_err-exif-clause-asked c =
-    let p = err_from_is_err_and c.from_residual.result c.from_residual.ensures.1 in
     let a1 = c.in_err-exif.ensures.asked in
-    rw p.1 (omega arith)
+    omega arith
 
 pub returns-in_err-exif-clause-below : goal.returns-in_err-exif-clause-below
 returns-in_err-exif-clause-below c =
@@ -169,10 +168,9 @@ returns-in_err-exif-clause-below c =
 
 pub returns-in_err-interop-clause-asked : goal.returns-in_err-interop-clause-asked
 returns-in_err-interop-clause-asked c =
-    let p = err_from_is_err_and c.from_residual-in_err-interop.result c.from_residual-in_err-interop.ensures.1 in
     let a1 = c.in_ok-exif.ensures.asked in
     let a2 = c.in_err-interop.ensures.asked in
-    rw p.1 (omega arith)
+    omega arith
 
 pub returns-in_err-interop-clause-below : goal.returns-in_err-interop-clause-below
 returns-in_err-interop-clause-below c =
@@ -182,11 +180,10 @@ returns-in_err-interop-clause-below c =
 
 pub returns-in_err-gps-clause-asked : goal.returns-in_err-gps-clause-asked
 returns-in_err-gps-clause-asked c =
-    let p = err_from_is_err_and c.from_residual-in_err-gps.result c.from_residual-in_err-gps.ensures.1 in
     let a1 = c.in_ok-exif.ensures.asked in
     let a2 = c.in_ok-interop.ensures.asked in
     let a3 = c.in_err-gps.ensures.asked in
-    rw p.1 (omega arith)
+    omega arith
 
 pub returns-in_err-gps-clause-below : goal.returns-in_err-gps-clause-below
 returns-in_err-gps-clause-below c =
@@ -197,12 +194,11 @@ returns-in_err-gps-clause-below c =
 
 pub returns-in_err-thumb-clause-asked : goal.returns-in_err-thumb-clause-asked
 returns-in_err-thumb-clause-asked c =
-    let p = err_from_is_err_and c.from_residual-in_err-thumb.result c.from_residual-in_err-thumb.ensures.1 in
     let a1 = c.in_ok-exif.ensures.asked in
     let a2 = c.in_ok-interop.ensures.asked in
     let a3 = c.in_ok-gps.ensures.asked in
     let a4 = c.in_err-thumb.ensures.asked in
-    rw p.1 (omega arith)
+    omega arith
 
 pub returns-in_err-thumb-clause-below : goal.returns-in_err-thumb-clause-below
 returns-in_err-thumb-clause-below c =

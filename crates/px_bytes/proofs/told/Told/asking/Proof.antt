@@ -23,7 +23,7 @@ use Rattle.px_bytes.proofs.told.Told.asking.Statement.{statement}
 use Rattle.px_bytes.proofs.told.Told.asking.Code as code
 
 abbrev stayed : Stays f.ended.signature.params f.ended.kept
-stayed = (stay_dropped _ yes, (stay_dropped _ yes, (stay_dropped _ yes, tt)))
+stayed = (stay_dropped _ yes, (stay_dropped _ yes, (stay_dropped _ yes, (stay_dropped _ yes, tt))))
 
 pub asking_spec : {M : Type 1} → statement M
 asking_spec 𝓤 𝓛 𝓜 𝓡 wired =
@@ -31,15 +31,15 @@ asking_spec 𝓤 𝓛 𝓜 𝓡 wired =
     let W = walk_of 𝓛 f.ended stayed c in
     let number = Goes-dropped 𝓛 1 (plain (λ _. usize)) yes (λ κs x w. refl) in
     proved 𝓛 f.ended stayed c 𝓜 𝓡
-    (Goes-dropped 𝓛 1 (RefOf (0 ∷ []) tt (plain (λ _. told.the_row)) (λ _. tt)) yes (λ κs x w. refl), (number, (number, tt)))
-    f.Key.name code.function (code.unfolded 𝓤 𝓛.H 𝓜 𝓡 wired) (λ κs. (shr_vals, (uint_vals w64, (uint_vals w64, tt))))
-    (λ κs. (shr_Tells (named 0) κs.0 told.the_row, (uint_Tells w64, (uint_Tells w64, tt)))) (λ κs qs bounds a _ are.
-    let y : W.Ghost = ((κs, qs, bounds, a, (shr_vals a.0, (uint_vals w64 a.1.0, (uint_vals w64 a.1.1.0, tt)))), tt) in
-    let made : (told.the_row).Denot = record { refusals = a.0.now.refusals; asked = a.0.now.asked + a.1.0 * a.1.1.0 } in
+    (Goes-dropped 𝓛 1 (RefOf (0 ∷ []) tt (plain (λ _. told.the_row)) (λ _. tt)) yes (λ κs x w. refl), (number, (number, (number, tt))))
+    f.Key.name code.function (code.unfolded 𝓤 𝓛.H 𝓜 𝓡 wired) (λ κs. (shr_vals, (uint_vals w64, (uint_vals w64, (uint_vals w64, tt)))))
+    (λ κs. (shr_Tells (named 0) κs.0 told.the_row, (uint_Tells w64, (uint_Tells w64, (uint_Tells w64, tt))))) (λ κs qs bounds a _ are.
+    let y : W.Ghost = ((κs, qs, bounds, a, (shr_vals a.0, (uint_vals w64 a.1.0, (uint_vals w64 a.1.1.0, (uint_vals w64 a.1.1.1.0, tt))))), tt) in
+    let made : (told.the_row).Denot = record { refusals = a.0.now.refusals; asked = a.0.now.asked + (a.1.0 + a.1.1.0) * a.1.1.1.0 } in
     qed 𝓛 ((raw (alive 𝓛 f.signature κs qs) ⊛ ‵ (owns (types_at f.signature.params κs) a y.0.4)) ∷ raw ((c κs a).requires tt) ∷ []) ∵
     keep ! (0 ∷ []) $ split ! $ keep ! (0 ∷ []) $ enter ! _ _ _ _ _ $
-    alloc_all ! (λ l. pass_all ! refl ((tt, tt), ((tt, record { fits = are.1.0.1 }), ((tt, record { fits = are.1.1.0.1 }), tt))) $
+    alloc_all ! (λ l. pass_all ! refl ((tt, tt), ((tt, record { fits = are.1.0.1 }), ((tt, record { fits = are.1.1.0.1 }), ((tt, record { fits = are.1.1.1.0.1 }), tt)))) $
     sets ! (agg ! (no_more !)) refl (tt, tt) $ returns ! (look_at ! 0 refl) $ free_all ! refl $
-    suffices ! _ (ends_at 𝓛 f.ended stayed c y (vstruct vnil) made (tt, (tt, (tt, tt))) (tt, (tt, (tt, tt)))) $ says ! (refl, refl) $
+    suffices ! _ (ends_at 𝓛 f.ended stayed c y (vstruct vnil) made (tt, (tt, (tt, (tt, tt)))) (tt, (tt, (tt, (tt, tt))))) $ says ! (refl, refl) $
     pure_i ! (told.the_row.own_val made (vstruct vnil ∷ [])) ((λ vss. (tt, tt)), tt) ((tt, (refl, tt)), tt) $
-    nothing ! $ nothing ! $ join ! $ nothing ! $ join ! $ nothing ! $ join ! $ move ! (2 ∷ 0 ∷ 1 ∷ []) $ done !))
+    nothing ! $ nothing ! $ join ! $ nothing ! $ join ! $ nothing ! $ join ! $ nothing ! $ join ! $ move ! (2 ∷ 0 ∷ 1 ∷ []) $ done !))

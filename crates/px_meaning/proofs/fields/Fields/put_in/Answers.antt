@@ -1,5 +1,6 @@
 use Rattle.std.proofs.Common.{sym, refl, ◌∙◌, arith}
 use Rattle.std.proofs.lemmas.Result.{err_from_is_err_and}
+use Rattle.px_meaning.proofs.Added.{one_more}
 use Rattle.px_meaning.proofs.writable.FieldLemmas.{at_tag_some, at_tag_gap, put_insert, in_order_insert}
 use Rattle.px_meaning.proofs.fields.Fields.put_in.Goals as goal
 
@@ -32,9 +33,11 @@ returns-in-Ok-clause-asked c =
 pub returns-in_ok-insert-in-Err-clause-asked : goal.returns-in_ok-insert-in-Err-clause-asked
 returns-in_ok-insert-in-Err-clause-asked c =
     let gap = rw c.as_slice.ensures.value at c.in-Err.ensures.absent in
-    rw (← c.self.view_is) (rw (at_tag_gap _ _ _ gap) c.in_ok-insert-in-Err.ensures.asked)
+    rw (← c.self.view_is) (rw (at_tag_gap _ _ _ gap) (one_more _ _ _ _ _ _ (omega (arith, c.self.inside.list.ok.0)) c.self.inside.list.ok.1
+    c.in_ok-insert-in-Err.ensures.fits c.in_ok-insert-in-Err.ensures.asked))
 
 pub returns-in_err-insert-in-Err-clause-asked : goal.returns-in_err-insert-in-Err-clause-asked
 returns-in_err-insert-in-Err-clause-asked c =
     let gap = rw c.as_slice.ensures.value at c.in-Err.ensures.absent in
-    rw (← c.self.view_is) (rw (at_tag_gap _ _ _ gap) c.in_err-insert-in-Err.ensures.asked)
+    rw (← c.self.view_is) (rw (at_tag_gap _ _ _ gap) (one_more _ _ _ _ _ _ (omega (arith, c.self.inside.list.ok.0)) c.self.inside.list.ok.1
+    c.in_err-insert-in-Err.ensures.fits c.in_err-insert-in-Err.ensures.asked))
