@@ -69,15 +69,18 @@ def other_times_and_modes(folder):
 
 @pytest.fixture(scope="session")
 def releases(session_folder):
-    """Two releases, from folders with other names, times, modes, masks, and a module that isn't in the repository."""
+    """Two releases, from folders with other names, times, modes, masks, time zones and locales, and a module that isn't in the repository.
+    The second one replaces that of an earlier version."""
     if not shutil.which("rt"):
         pytest.skip("there is no command rt, which the licences of the toolchain are found with")
     one, other = clone(session_folder / "one"), session_folder / "an other"
     shutil.copytree(one, other, symlinks=True)
     other_times_and_modes(other)
-    for folder, mask in ((one, 0o022), (other, 0o077)):
+    (other / "out/release").mkdir()
+    (other / "out/release/exifnorm_0.9-1_all.deb").touch()
+    for folder, mask, more in ((one, 0o022, {}), (other, 0o077, {"TZ": "Asia/Tokyo", "LC_ALL": "C.UTF-8"})):
         (folder / "python/exifnorm" / f"stray_{mask}.py").write_text('"""Not listed."""\n')
-        run("make", "release", cwd=folder, umask=mask, env=environment())
+        run("make", "release", cwd=folder, umask=mask, env=environment(**more))
     return [one / "out/release", other / "out/release"]
 
 
