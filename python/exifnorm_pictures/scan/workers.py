@@ -291,8 +291,8 @@ def _pool(how: How, processes: int) -> ProcessPoolExecutor:
     """Processes that have begun. A signal that comes meanwhile ends them. Raises `CannotStart`."""
     context = multiprocessing.get_context("fork")
     try:
-        _check_threads(processes)
         with signals.signals_held() as mask:
+            _check_threads(processes)  # a thread that was waited for may not have ended yet, and would take a signal
             pool = ProcessPoolExecutor(processes, mp_context=context, initializer=_begin, initargs=(how, os.getpid(), mask))
             pool.submit(os.getpid)  # the first task starts all of them
         return pool
