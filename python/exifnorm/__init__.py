@@ -1,8 +1,9 @@
 """The meaning of a picture's metadata block, its normal form, and whether two blocks mean the same.
 
 A block is an Exif block, perhaps after the six bytes ``Exif\\0\\0`` that precede it in a JPEG file, or a block of IPTC-NAA IIM
-DataSets. No picture file is opened. Two blocks have the same normal form, byte for byte, exactly if they mean the same. A block
-that breaks the rules raises `Refused`, with the first fault and its byte offset; it is never repaired.
+DataSets. `jpeg_blocks` takes the blocks out of a JPEG's bytes. No picture file is opened. Two blocks have the same normal form, byte
+for byte, exactly if they mean the same. A block that breaks the rules raises `Refused`, with the first fault and its byte offset; it
+is never repaired.
 
 A block is best given as bytes. A bytearray, a memoryview, an mmap, or any other object with contiguous bytes is copied first. Calls
 can run in several threads at once.
@@ -23,8 +24,9 @@ objects is tested, but not proved.
 
 from ._calls import Block, digest, kind, normal, same, show, version
 from ._captions import Caption, captions
-from ._errors import LIMIT, LibraryMissing, NormalTooLong, Refused
+from ._errors import LIMIT, HeadRefused, LibraryMissing, NormalTooLong, Refused, TooMany
 from ._fields import Field, Ratio, Values
+from ._jpeg import JpegBlock, JpegPart, Resource, jpeg_blocks, jpeg_parts, photoshop_resources
 from ._library import Status
 from ._reading import fields
 
@@ -34,18 +36,26 @@ __all__ = [
     "Block",
     "Caption",
     "Field",
+    "HeadRefused",
+    "JpegBlock",
+    "JpegPart",
     "LIMIT",
     "LibraryMissing",
     "NormalTooLong",
     "Ratio",
     "Refused",
+    "Resource",
     "Status",
+    "TooMany",
     "Values",
     "captions",
     "digest",
     "fields",
+    "jpeg_blocks",
+    "jpeg_parts",
     "kind",
     "normal",
+    "photoshop_resources",
     "same",
     "show",
     "version",

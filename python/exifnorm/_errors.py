@@ -2,7 +2,10 @@
 
 from __future__ import annotations
 
-from typing import Optional
+from typing import TYPE_CHECKING, Optional, Sequence
+
+if TYPE_CHECKING:
+    from ._jpeg import JpegPart
 
 LIMIT = 16_777_216
 """The greatest length in bytes of a block, and of a normal form."""
@@ -31,6 +34,42 @@ class Refused(ValueError):
     def __str__(self) -> str:
         where = f"{self.cause} at {self.place}"
         return where if self.side is None else f"{where} in block {self.side}"
+
+
+class HeadRefused(Refused):
+    """The bytes are no head of a JPEG: the first fault, and the parts before it.
+
+    >>> import exifnorm
+    >>> try:
+    ...     exifnorm.jpeg_parts(bytes.fromhex("ffd8 fffe0004 4142 ffe1"))
+    ... except exifnorm.HeadRefused as refusal:
+    ...     print(refusal, [hex(it.marker) for it in refusal.parts])
+    HeadCut at 8 ['0xfe']
+    """
+
+    def __init__(self, cause: str, place: int, parts: "Sequence[JpegPart]" = ()) -> None:
+        super().__init__(cause, place)
+        self.args = cause, place, parts  # by which it is pickled
+        self.parts = parts
+        """The parts before the fault. Each is whole."""
+
+
+class TooMany(ValueError):
+    """There are more parts or resources than the call was allowed to return.
+
+    >>> import exifnorm
+    >>> exifnorm.jpeg_parts(bytes.fromhex("ffd8 ff01 ff01 ffd9"), most=2)
+    Traceback (most recent call last):
+    exifnorm._errors.TooMany: more than 2
+    """
+
+    def __init__(self, most: int) -> None:
+        super().__init__(most)
+        self.most = most
+        """The number that was allowed."""
+
+    def __str__(self) -> str:
+        return f"more than {self.most}"
 
 
 class NormalTooLong(ValueError):

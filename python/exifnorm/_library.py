@@ -10,6 +10,10 @@ returns a `Failure` instead:
     (2, 17, 9)
     >>> library().cause_name(17)
     'NoMarker'
+
+The calls for JPEGs take a number too, the most rows that they may return, and return these as the bytes of the library's structs, of which
+`PART` and `RESOURCE` have the form. Their failure also has the rows before a fault; if there are too many rows, it has their number in
+place of the offset.
 """
 
 from __future__ import annotations
@@ -19,7 +23,8 @@ import enum
 import functools
 import importlib
 import os
-from typing import Any, Callable, Iterator, Tuple, Union
+from struct import Struct
+from typing import Any, Callable, Dict, Iterator, List, Tuple, Type, Union
 
 from ._errors import LIMIT, LibraryMissing
 
@@ -42,6 +47,7 @@ Failure = Tuple[int, int, int]
 
 Number = Union[int, Failure]
 Text = Union[bytes, Failure]
+Rows = Union[bytes, Tuple[int, int, int, bytes]]
 
 
 class Status(enum.IntEnum):
@@ -59,7 +65,7 @@ class Status(enum.IntEnum):
     SECOND_REFUSED = 6
 
 
-_DONE, _TOO_LITTLE_ROOM = int(Status.DONE), int(Status.TOO_LITTLE_ROOM)
+_DONE, _REFUSED, _TOO_LITTLE_ROOM = int(Status.DONE), int(Status.REFUSED), int(Status.TOO_LITTLE_ROOM)
 
 
 class Fault(ctypes.Structure):
@@ -68,28 +74,81 @@ class Fault(ctypes.Structure):
     _fields_ = [("cause", ctypes.c_uint32), ("place", ctypes.c_uint32)]
 
 
+class JpegFault(ctypes.Structure):
+    """Why bytes are no head of a JPEG: the number of the cause, and the byte offset."""
+
+    _fields_ = [("cause", ctypes.c_uint32), ("place", ctypes.c_size_t)]
+
+
+class Part(ctypes.Structure):
+    """A part of a JPEG's head."""
+
+    _fields_ = [
+        ("marker", ctypes.c_uint32),
+        ("kind", ctypes.c_uint32),
+        ("begins", ctypes.c_uint32),
+        ("start", ctypes.c_size_t),
+        ("size", ctypes.c_size_t),
+    ]
+
+
+class Resource(ctypes.Structure):
+    """One of Photoshop's image resources."""
+
+    _fields_ = [("number", ctypes.c_size_t), ("start", ctypes.c_size_t), ("size", ctypes.c_size_t)]
+
+
+PART, RESOURCE = Struct("IIINN"), Struct("NNN")
+_FEW = 64  # rows for which there is room at first: more than most pictures have
+
 _BLOCK = [ctypes.c_char_p, ctypes.c_size_t]
 _OUT = [ctypes.POINTER(ctypes.c_char), ctypes.c_size_t, ctypes.POINTER(ctypes.c_size_t)]
-_NUMBER, _FAULT = ctypes.POINTER(ctypes.c_uint32), ctypes.POINTER(Fault)
+_NUMBER, _FAULT, _JPEG_FAULT = ctypes.POINTER(ctypes.c_uint32), ctypes.POINTER(Fault), ctypes.POINTER(JpegFault)
+_ROOM = [ctypes.c_size_t, ctypes.POINTER(ctypes.c_size_t)]
 
-# The arguments of the calls (exifnorm.h). The calls for blocks come first, in the order in which the extension module takes them.
+# The arguments of the calls (exifnorm.h). Those that the extension module makes come first, in the order in which it takes them.
 ARGUMENTS = {
     "exifnorm_check": [*_BLOCK, _NUMBER, _FAULT],
     "exifnorm_normalise": [*_BLOCK, *_OUT, _FAULT],
     "exifnorm_compare": [*_BLOCK, *_BLOCK, _NUMBER, _FAULT],
     "exifnorm_show": [*_BLOCK, *_OUT, _FAULT],
     "exifnorm_captions": [*_BLOCK, *_OUT, _FAULT],
+    "exifnorm_jpeg_parts": [*_BLOCK, ctypes.POINTER(Part), *_ROOM, _JPEG_FAULT],
+    "exifnorm_photoshop_resources": [*_BLOCK, ctypes.POINTER(Resource), *_ROOM],
     "exifnorm_cause_name": [ctypes.c_uint32, *_OUT],
     "exifnorm_version": _OUT,
 }
-_OF_BLOCKS = list(ARGUMENTS)[:5]
+_OF_EXTENSION = list(ARGUMENTS)[:7]
+
+
+class Room:
+    """Room for so many rows of a call, and for what else it writes. To make it takes as long as a call."""
+
+    def __init__(self, kind: Type[ctypes.Structure], number: int) -> None:
+        self._count, self._fault, self._size = ctypes.c_size_t(), JpegFault(), ctypes.sizeof(kind)
+        self._octets = memoryview(bytearray(number * self._size))
+        self._first = kind.from_buffer(self._octets)
+        self._start = ctypes.byref(self._first)
+        self._outputs = (ctypes.byref(self._count), ctypes.byref(self._fault))[: 2 if kind is Part else 1]
+
+    def rows_of(self, call: Callable[..., int], octets: bytes, limit: int) -> Rows:
+        """The rows of a call, of which no more than so many fit."""
+        self._count.value = 0
+        status = call(octets, len(octets), self._start, limit, *self._outputs)
+        count = self._count.value
+        if status == _DONE:
+            return bytes(self._octets[: count * self._size])
+        if status == _REFUSED:
+            return status, self._fault.cause, self._fault.place, bytes(self._octets[: count * self._size])
+        return status, 0, count, b""
 
 
 class ByCtypes:
-    """The calls for blocks, by ctypes."""
+    """The calls for blocks and JPEGs, by ctypes."""
 
     def __init__(self, library: ctypes.CDLL) -> None:
         self._library = library
+        self._rooms: Dict[Type[ctypes.Structure], List[Room]] = {Part: [], Resource: []}  # those of which no call makes use now
 
     def check(self, block: bytes) -> Number:
         kind, fault = ctypes.c_uint32(), Fault()
@@ -112,6 +171,24 @@ class ByCtypes:
     def captions(self, block: bytes) -> Text:
         return self._text(self._library.exifnorm_captions, block, 2 * min(len(block), LIMIT) + 1024)
 
+    def jpeg_parts(self, picture: bytes, most: int) -> Rows:
+        return self._rows(self._library.exifnorm_jpeg_parts, picture, most, Part)
+
+    def photoshop_resources(self, octets: bytes, most: int) -> Rows:
+        return self._rows(self._library.exifnorm_photoshop_resources, octets, most, Resource)
+
+    def _rows(self, call: Callable[..., int], octets: bytes, most: int, kind: Type[ctypes.Structure]) -> Rows:
+        """The rows of a call, which is made again if they are more than a few, and not more than so many."""
+        try:
+            room = self._rooms[kind].pop()
+        except IndexError:
+            room = Room(kind, _FEW)
+        found = room.rows_of(call, octets, max(min(most, _FEW), 0))
+        self._rooms[kind].append(room)
+        if isinstance(found, tuple) and found[0] == _TOO_LITTLE_ROOM and _FEW < found[2] <= most:
+            found = Room(kind, found[2]).rows_of(call, octets, found[2])
+        return found
+
     @staticmethod
     def _text(call: Callable[..., int], block: bytes, capacity: int) -> Text:
         """The output of a call, which usually fits into so many bytes. Otherwise the call is made again, with as many as it asks for."""
@@ -128,22 +205,24 @@ class ByCtypes:
 
 
 class Library:
-    """A library: its calls for blocks, by the extension module if that is there, and its constant texts. Raises OSError with the reason
-    if the file can't be loaded."""
+    """A library: its calls for blocks and JPEGs, by the extension module if that is there, and its constant texts. Raises OSError with the
+    reason if the file can't be loaded."""
 
     check: Callable[[bytes], Number]
     normalise: Callable[[bytes], Text]
     compare: Callable[[bytes, bytes], Number]
     show: Callable[[bytes], Text]
     captions: Callable[[bytes], Text]
+    jpeg_parts: Callable[[bytes, int], Rows]
+    photoshop_resources: Callable[[bytes, int], Rows]
 
     def __init__(self, place: str) -> None:
         self._library = _opened(place)
         self.by_ctypes = it = ByCtypes(self._library)
-        functions = it.check, it.normalise, it.compare, it.show, it.captions
+        functions = it.check, it.normalise, it.compare, it.show, it.captions, it.jpeg_parts, it.photoshop_resources
         if _native:
-            functions = _native.functions(*(_address(getattr(self._library, name)) for name in _OF_BLOCKS))
-        self.check, self.normalise, self.compare, self.show, self.captions = functions
+            functions = _native.functions(*(_address(getattr(self._library, name)) for name in _OF_EXTENSION))
+        self.check, self.normalise, self.compare, self.show, self.captions, self.jpeg_parts, self.photoshop_resources = functions
 
     def cause_name(self, cause: int) -> str:
         """The name of a cause."""

@@ -1,4 +1,5 @@
-/* exifnorm._native: the library's calls for blocks, which take less time than by ctypes, and the function `normal` of the package.
+/* exifnorm._native: the library's calls for blocks and JPEGs, which take less time than by ctypes, and the function `normal` of the
+ * package.
  *
  * The module isn't linked with the library, which _library.py finds and loads: `functions` takes the addresses of its functions. Only the
  * limited API of CPython 3.9 is used, so one file serves this version and all later ones.
@@ -13,11 +14,14 @@
 #include "exifnorm.h"
 
 #define ROOM 16384 /* bytes of the longest output that is written to the stack */
+#define FEW 64     /* rows of a JPEG that are written to the stack: more than most pictures have */
 #define PREFIX "Exif\0\0"
 
 typedef uint32_t (*check_call)(const unsigned char *, size_t, uint32_t *, struct exifnorm_fault *);
 typedef uint32_t (*compare_call)(const unsigned char *, size_t, const unsigned char *, size_t, uint32_t *, struct exifnorm_fault *);
 typedef uint32_t (*text_call)(const unsigned char *, size_t, unsigned char *, size_t, size_t *, struct exifnorm_fault *);
+typedef uint32_t (*parts_call)(const unsigned char *, size_t, struct exifnorm_jpeg_part *, size_t, size_t *, struct exifnorm_jpeg_fault *);
+typedef uint32_t (*resources_call)(const unsigned char *, size_t, struct exifnorm_photoshop_resource *, size_t, size_t *);
 
 /* The module's state. */
 struct state {
@@ -31,6 +35,8 @@ struct calls {
     compare_call compare;
     text_call show;
     text_call captions;
+    parts_call jpeg_parts;
+    resources_call photoshop_resources;
 };
 
 /* The bytes of a bytes object. They can't change or move while a call reads them without Python's lock. */
@@ -205,12 +211,89 @@ static PyObject *captions(PyObject *capsule, PyObject *argument)
     return text(calls->captions, &block, 2 * length_of(&block) + 1024);
 }
 
+/* A call that returns rows, which takes them as bytes of any kind. */
+typedef uint32_t (*rows_call)(const struct calls *, const struct bytes *, void *, size_t, size_t *, struct exifnorm_jpeg_fault *);
+
+static uint32_t get_parts(const struct calls *calls, const struct bytes *bytes, void *rows, size_t room, size_t *count,
+                          struct exifnorm_jpeg_fault *fault)
+{
+    return calls->jpeg_parts(bytes->start, bytes->length, rows, room, count, fault);
+}
+
+static uint32_t get_resources(const struct calls *calls, const struct bytes *bytes, void *rows, size_t room, size_t *count,
+                              struct exifnorm_jpeg_fault *fault)
+{
+    (void)fault;
+    return calls->photoshop_resources(bytes->start, bytes->length, rows, room, count);
+}
+
+/* The rows as bytes, or in their place the status, the cause, the offset, and the rows before the fault; or the number of too many rows. */
+static PyObject *rows_or_failure(uint32_t status, const struct exifnorm_jpeg_fault *fault, const void *rows, size_t count, size_t size)
+{
+    if (status == EXIFNORM_DONE) {
+        return PyBytes_FromStringAndSize(rows, (Py_ssize_t)(count * size));
+    }
+    return Py_BuildValue("(IIny#)", (unsigned int)status, (unsigned int)fault->cause,
+                         (Py_ssize_t)(status == EXIFNORM_TOO_LITTLE_ROOM ? count : fault->place), (const char *)rows,
+                         (Py_ssize_t)(status == EXIFNORM_REFUSED ? count * size : 0));
+}
+
+/* The result of a call whose rows have so many bytes each. It is made again if they are more than a few, and not more than were asked for. */
+static PyObject *rows_of(PyObject *capsule, PyObject *arguments, rows_call call, size_t size)
+{
+    const struct calls *calls = PyCapsule_GetPointer(capsule, NULL);
+    struct exifnorm_jpeg_fault fault = {0, 0};
+    struct exifnorm_jpeg_part few[FEW] = {{0, 0, 0, 0, 0}}; /* no other row has more bytes */
+    void *rows = few;
+    struct bytes bytes;
+    PyObject *object, *made;
+    Py_ssize_t most;
+    size_t room, count = 0;
+    uint32_t status;
+
+    if (calls == NULL || !PyArg_ParseTuple(arguments, "Sn", &object, &most) || get_bytes(object, &bytes) < 0) {
+        return NULL;
+    }
+    most = most < 0 ? 0 : most;
+    for (room = most < FEW ? (size_t)most : FEW;; room = count) {
+        if (room > FEW) {
+            rows = PyMem_Calloc(room, size);
+            if (rows == NULL) {
+                return PyErr_NoMemory();
+            }
+        }
+        Py_BEGIN_ALLOW_THREADS
+        status = call(calls, &bytes, rows, room, &count, &fault);
+        Py_END_ALLOW_THREADS
+        if (rows != few || status != EXIFNORM_TOO_LITTLE_ROOM || count <= FEW || count > (size_t)most) {
+            break;
+        }
+    }
+    made = rows_or_failure(status, &fault, rows, count, size);
+    if (rows != few) {
+        PyMem_Free(rows);
+    }
+    return made;
+}
+
+static PyObject *jpeg_parts(PyObject *capsule, PyObject *arguments)
+{
+    return rows_of(capsule, arguments, get_parts, sizeof(struct exifnorm_jpeg_part));
+}
+
+static PyObject *photoshop_resources(PyObject *capsule, PyObject *arguments)
+{
+    return rows_of(capsule, arguments, get_resources, sizeof(struct exifnorm_photoshop_resource));
+}
+
 static PyMethodDef of_library[] = {
     {"check", check, METH_O, "The number of a block's kind."},
     {"normalise", normalise, METH_O, "The normal form of a block."},
     {"compare", compare, METH_VARARGS, "1 if two blocks mean the same, else 0."},
     {"show", show, METH_O, "The listing of a block."},
     {"captions", captions, METH_O, "The text with the captions of a block."},
+    {"jpeg_parts", jpeg_parts, METH_VARARGS, "The parts of a JPEG's head, at most so many."},
+    {"photoshop_resources", photoshop_resources, METH_VARARGS, "Photoshop's image resources, at most so many."},
 };
 #define COUNT ((Py_ssize_t)(sizeof of_library / sizeof of_library[0]))
 
@@ -233,6 +316,8 @@ static PyObject *capsule_of(const Py_ssize_t *at)
     calls->compare = (compare_call)at[2];
     calls->show = (text_call)at[3];
     calls->captions = (text_call)at[4];
+    calls->jpeg_parts = (parts_call)at[5];
+    calls->photoshop_resources = (resources_call)at[6];
     capsule = PyCapsule_New(calls, NULL, free_calls);
     if (capsule == NULL) {
         PyMem_Free(calls);
@@ -261,7 +346,7 @@ static PyObject *functions(PyObject *module, PyObject *arguments)
     Py_ssize_t at[COUNT];
     PyObject *capsule, *made;
 
-    if (!PyArg_ParseTuple(arguments, "nnnnn:functions", &at[0], &at[1], &at[2], &at[3], &at[4])) {
+    if (!PyArg_ParseTuple(arguments, "nnnnnnn:functions", &at[0], &at[1], &at[2], &at[3], &at[4], &at[5], &at[6])) {
         return NULL;
     }
     for (Py_ssize_t i = 0; i < COUNT; i++) {
@@ -309,8 +394,9 @@ static PyObject *normal(PyObject *module, PyObject *arguments, PyObject *named)
 
 static PyMethodDef methods[] = {
     {"functions", functions, METH_VARARGS,
-     "The functions check, normalise, compare, show and captions that call the library's functions at these five addresses. Each takes "
-     "bytes, and returns its result, or a tuple of the status, the number of the cause and the offset."},
+     "The functions check, normalise, compare, show, captions, jpeg_parts and photoshop_resources that call the library's functions at "
+     "these seven addresses. Each takes bytes, the last two also the most rows, and returns its result, or a tuple of the status, the "
+     "number of the cause and the offset, with jpeg_parts also the rows before the fault."},
     {"normal", (PyCFunction)(void (*)(void))normal, METH_VARARGS | METH_KEYWORDS,
      "normal($module, /, block)\n"
      "--\n\n"
@@ -325,7 +411,7 @@ static PyMethodDef methods[] = {
 static PyModuleDef_Slot slots[] = {{0, NULL}};
 
 static struct PyModuleDef definition = {
-    PyModuleDef_HEAD_INIT, "exifnorm._native", "The library's calls for blocks, without ctypes.", sizeof(struct state), methods, slots,
+    PyModuleDef_HEAD_INIT, "exifnorm._native", "The library's calls for blocks and JPEGs, without ctypes.", sizeof(struct state), methods, slots,
     NULL, NULL, NULL,
 };
 
@@ -337,5 +423,7 @@ PyMODINIT_FUNC PyInit__native(void)
     (void)sizeof(1 ? ((struct calls *)0)->compare : exifnorm_compare);
     (void)sizeof(1 ? ((struct calls *)0)->show : exifnorm_show);
     (void)sizeof(1 ? ((struct calls *)0)->captions : exifnorm_captions);
+    (void)sizeof(1 ? ((struct calls *)0)->jpeg_parts : exifnorm_jpeg_parts);
+    (void)sizeof(1 ? ((struct calls *)0)->photoshop_resources : exifnorm_photoshop_resources);
     return PyModuleDef_Init(&definition);
 }

@@ -77,7 +77,7 @@ def watched_library(session_folder):
 class Watch:
     """The counts of watched.c."""
 
-    CALLS = ("check", "normalise", "compare", "show", "captions", "cause_name", "version")
+    CALLS = ("check", "normalise", "compare", "show", "captions", "cause_name", "version", "jpeg_parts", "photoshop_resources")
 
     def __init__(self, path):
         self.library = ctypes.CDLL(str(path))

@@ -20,6 +20,7 @@ from meanings import ASCII, SHORT, Exif, Layout, Record, Value, laid
 from small_blocks import CAPTION, LOOP, ONE, long_form, outcome
 
 OF_ONE_BLOCK = ("check", "normalise", "show", "captions")
+OF_JPEGS = ("jpeg_parts", "photoshop_resources")
 
 
 def of_text(length):
@@ -40,6 +41,18 @@ BLOCKS = {
     **{f"a text in {length:,} bytes": of_text(length) for length in (8191, 8192, 8193, 69_999, 70_000)},
     "a form with six bytes before it": b"Exif\0\0" + of_text(70_000),
     "a record of an odd number of bytes": Record([(2, 120, bytes(20_000))]).spelled() + b"\x1c\x02\x05\0\0",
+}
+
+
+PARTS, RESOURCE = b"\xff\x01", b"8BIM\x04\x04\0\0\0\0\0\x03abc\0"
+JPEGS = {
+    "a head": b"\xff\xd8" + PARTS + b"\xff\xd9",
+    "a head that is refused": b"\xff\xd8" + PARTS + b"x",
+    "a long head": b"\xff\xd8" + 1000 * PARTS + b"\xff\xd9",
+    "a long head that is refused": b"\xff\xd8" + 1000 * PARTS + b"x",
+    "resources": RESOURCE,
+    "many resources": 1000 * RESOURCE,
+    "no bytes": b"",
 }
 
 
@@ -85,6 +98,19 @@ def test_results_are_those_of_ctypes(loaded, block):
         assert loaded.compare(*pair) == loaded.by_ctypes.compare(*pair)
 
 
+def unpacked(name, found):
+    """The rows that a call returns, without the bytes between their numbers, and its failure."""
+    *failure, rows = found if isinstance(found, tuple) else (found,)
+    return failure, [*(_library.PART if name == "jpeg_parts" else _library.RESOURCE).iter_unpack(rows)]
+
+
+@pytest.mark.parametrize("most", [-(1 << 63), -1, 0, 1, 2, 63, 64, 65, 999, 1000, 1001, (1 << 63) - 1])
+@pytest.mark.parametrize("octets", JPEGS.values(), ids=JPEGS)
+def test_rows_are_those_of_ctypes(loaded, octets, most):
+    for name in OF_JPEGS:
+        assert unpacked(name, getattr(loaded, name)(octets, most)) == unpacked(name, getattr(loaded.by_ctypes, name)(octets, most)), name
+
+
 @pytest.mark.parametrize("wrong", [None, 5, "MM", bytearray(ONE), memoryview(ONE)], ids=lambda it: type(it).__name__)
 def test_arguments_of_calls(loaded, wrong):
     for name in OF_ONE_BLOCK:
@@ -92,17 +118,21 @@ def test_arguments_of_calls(loaded, wrong):
         assert outcome(getattr(loaded, name))[0] == "TypeError"
     for wrong_pair in ((wrong, ONE), (ONE, wrong), (ONE,), (ONE, ONE, ONE)):
         assert outcome(loaded.compare, *wrong_pair)[0] == "TypeError"
+    for name in OF_JPEGS:
+        for words in ((wrong, 1), (ONE, "1"), (ONE, 1.5), (ONE,), (ONE, 1, 1)):
+            assert outcome(getattr(loaded, name), *words)[0] == "TypeError"
+        assert outcome(getattr(loaded, name), ONE, 1 << 63)[0] == "OverflowError"
 
 
 @pytest.mark.parametrize(
     "wrong, error",
     [
-        ((0, 1, 1, 1, 1), "ValueError"),
-        ((1, 1, 1, 1, 0), "ValueError"),
-        ((1, 1, 1, 1), "TypeError"),
-        ((1, 1, 1, 1, None), "TypeError"),
-        ((1, 1, 1, 1, 1.5), "TypeError"),
-        ((1, 1, 1, 1, 1 << 70), "OverflowError"),
+        ((0, 1, 1, 1, 1, 1, 1), "ValueError"),
+        ((1, 1, 1, 1, 1, 1, 0), "ValueError"),
+        ((1, 1, 1, 1, 1, 1), "TypeError"),
+        ((1, 1, 1, 1, 1, 1, None), "TypeError"),
+        ((1, 1, 1, 1, 1, 1, 1.5), "TypeError"),
+        ((1, 1, 1, 1, 1, 1, 1 << 70), "OverflowError"),
     ],
 )
 def test_addresses(native, wrong, error):
@@ -125,10 +155,13 @@ for name in sys.argv[3:]:
     for call in (calls.check, calls.normalise, calls.show, calls.captions):
         call(block)
     calls.compare(block, block)
+    for call in (calls.jpeg_parts, calls.photoshop_resources):
+        for most in (1, 64, 100_000):
+            call(block, most)
 print("all")
 """
     files = []
-    for at, block in enumerate(BLOCKS.values()):
+    for at, block in enumerate([*BLOCKS.values(), *JPEGS.values()]):
         files.append(folder / str(at))
         files[-1].write_bytes(block)
     words = [sys.executable, "-B", "-c", code, TOP / "python", extension, *files]
@@ -157,9 +190,22 @@ def test_memory_after_many_calls(call_of, name):
         assert max(abs(it - was) for it, was in zip(now, counts)) < 100
 
 
+@pytest.mark.parametrize("name", OF_JPEGS)
+@pytest.mark.parametrize("octets", JPEGS.values(), ids=JPEGS)
+def test_memory_after_many_calls_for_jpegs(loaded, name, octets):
+    call, times = getattr(loaded, name), 20_000 if len(octets) < 1000 else 2000
+    for most in (1, 100_000):
+        for _ in range(times // 50):
+            call(octets, most)
+        before, count = resident(), sys.getrefcount(octets)
+        for _ in range(times):
+            call(octets, most)
+        assert resident() - before < 1_000_000 and abs(sys.getrefcount(octets) - count) < 100
+
+
 def addresses(loaded):
     """Those of the library's functions, as the extension module takes them."""
-    names = ("check", "normalise", "compare", "show", "captions")
+    names = ("check", "normalise", "compare", "show", "captions", *OF_JPEGS)
     return [ctypes.cast(getattr(loaded._library, f"exifnorm_{it}"), ctypes.c_void_p).value for it in names]
 
 
@@ -230,6 +276,14 @@ def test_allocations_of_a_comparison_that_fail(loaded, refusing):
         assert failed == [("MemoryError",)] * len(failed) and last == loaded.compare(ONE, second)
 
 
+@pytest.mark.parametrize("name", OF_JPEGS)
+@pytest.mark.parametrize("octets", JPEGS.values(), ids=JPEGS)
+def test_allocations_for_jpegs_that_fail(loaded, refusing, name, octets):
+    call = getattr(loaded, name)
+    *failed, last = outcomes(refusing, lambda it: call(it, 100_000), octets)
+    assert failed == [("MemoryError",)] * len(failed) and unpacked(name, last) == unpacked(name, call(octets, 100_000))
+
+
 def test_allocations_of_functions_that_fail(loaded, native, refusing):
     where = addresses(loaded)
     *failed, made = outcomes(refusing, lambda of: native.functions(*of), where)
@@ -243,7 +297,7 @@ def test_allocations_of_functions_that_fail(loaded, native, refusing):
 # The part of the stable ABI that it uses, with what CPython 3.9 has of it: "Contents of Limited API" in Python's documentation.
 STABLE = """PyArg_UnpackTuple PyBytes_AsString PyBytes_AsStringAndSize PyBytes_FromStringAndSize PyBytes_Type PyCMethod_New
     PyCapsule_GetPointer PyCapsule_New PyErr_NoMemory PyErr_SetString PyEval_RestoreThread PyEval_SaveThread PyExc_ValueError
-    PyLong_FromUnsignedLong PyMem_Free PyMem_Malloc PyModuleDef_Init PyModule_GetState PyTuple_GetItem PyTuple_New
+    PyLong_FromUnsignedLong PyMem_Calloc PyMem_Free PyMem_Malloc PyModuleDef_Init PyModule_GetState PyTuple_GetItem PyTuple_New
     PyTuple_SetItem PyTuple_Size Py_DecRef Py_IncRef _PyArg_ParseTupleAndKeywords_SizeT _PyArg_ParseTuple_SizeT
     _PyObject_CallMethod_SizeT _Py_BuildValue_SizeT _Py_Dealloc""".split()
 

@@ -9,7 +9,7 @@ import pytest
 
 import exifnorm
 from compiling import HEADERS, HERE, STRICT, need, run, text_of
-from exifnorm import _library
+from exifnorm import _jpeg, _library
 from judged import NAMES
 from meanings import LIMIT
 
@@ -126,6 +126,22 @@ def test_python_has_the_same_statuses_causes_and_version(way):
     assert (exifnorm.LIMIT, exifnorm.version(), exifnorm.__version__) == (LIMIT, VERSION, VERSION)
 
 
+def test_python_has_the_same_numbers_and_structs_of_jpegs():
+    kinds = {it.upper().replace(" ", "_") or "OTHER": number for number, it in enumerate(_jpeg.KINDS)}
+    assert {**kinds, **{in_capitals(it): number for number, it in _jpeg.CAUSES.items()}} == numbers_of_jpegs()
+    structs = {
+        "jpeg_part": _library.Part,
+        "photoshop_resource": _library.Resource,
+        "jpeg_fault": _library.JpegFault,
+        "fault": _library.Fault,
+    }
+    found = {
+        f"exifnorm_{name}": [ctypes.sizeof(it), *(getattr(it, field).offset for field, _ in it._fields_)] for name, it in structs.items()
+    }
+    assert found == dict(structs_of_the_sources())
+    assert (_library.PART.size, _library.RESOURCE.size) == (ctypes.sizeof(_library.Part), ctypes.sizeof(_library.Resource))
+
+
 # The names that ctypes has for the types of the header on this machine.
 IN_PYTHON = {
     "const unsigned char *": "c_char_p",
@@ -136,17 +152,13 @@ IN_PYTHON = {
     "uint32_t": "c_uint",
     "uint32_t *": "LP_c_uint",
     "struct exifnorm_fault *": "LP_Fault",
+    "struct exifnorm_jpeg_part *": "LP_Part",
+    "struct exifnorm_jpeg_fault *": "LP_JpegFault",
+    "struct exifnorm_photoshop_resource *": "LP_Resource",
 }
 
 
-NOT_IN_PYTHON = {"exifnorm_jpeg_parts", "exifnorm_photoshop_resources"}  # calls that the package does not make
-
-
-def test_python_declares_each_other_call():
-    assert {*prototypes(HEADER)} - {*_library.ARGUMENTS} == NOT_IN_PYTHON
-
-
-@pytest.mark.parametrize("name", [it for it in prototypes(HEADER) if it not in NOT_IN_PYTHON])
+@pytest.mark.parametrize("name", [*prototypes(HEADER)])
 def test_python_declares_the_prototype(name):
     kind, parameters = prototypes(HEADER)[name]
     call = getattr(_library.library()._library, name)

@@ -14,8 +14,8 @@
 #include <string.h>
 #include <time.h>
 
-/* How often each call was made: check, normalise, compare, show, captions, cause_name, version. */
-unsigned long watched_calls[7];
+/* How often each call was made: check, normalise, compare, show, captions, cause_name, version, jpeg_parts, photoshop_resources. */
+unsigned long watched_calls[9];
 /* The length of the output of the calls for texts: of the last one, and of all together. */
 unsigned long watched_room, watched_rooms;
 /* The most threads that were inside such a call at once. */
@@ -33,7 +33,7 @@ __attribute__((constructor)) static void open_right(void) {
         abort();
 }
 
-static void count(int call) {
+static void count_call(int call) {
     __atomic_add_fetch(&watched_calls[call], 1, __ATOMIC_RELAXED);
 }
 
@@ -70,7 +70,7 @@ static void meet(void) {
 uint32_t exifnorm_check(const unsigned char *block, size_t length, uint32_t *kind, struct exifnorm_fault *fault) {
     uint32_t (*call)(const unsigned char *, size_t, uint32_t *, struct exifnorm_fault *);
     uint32_t status;
-    count(0);
+    count_call(0);
     need(block, kind, fault, fault);
     meet();
     *(void **)&call = dlsym(right, "exifnorm_check");
@@ -81,7 +81,7 @@ uint32_t exifnorm_compare(const unsigned char *first, size_t first_length, const
                           uint32_t *same, struct exifnorm_fault *fault) {
     uint32_t (*call)(const unsigned char *, size_t, const unsigned char *, size_t, uint32_t *, struct exifnorm_fault *);
     uint32_t status;
-    count(2);
+    count_call(2);
     need(first, second, same, fault);
     meet();
     *(void **)&call = dlsym(right, "exifnorm_compare");
@@ -93,7 +93,7 @@ uint32_t exifnorm_compare(const unsigned char *first, size_t first_length, const
                   struct exifnorm_fault *fault) { \
         uint32_t (*call)(const unsigned char *, size_t, unsigned char *, size_t, size_t *, struct exifnorm_fault *); \
         uint32_t status; \
-        count(number); \
+        count_call(number); \
         need(block, out, written, fault); \
         meet(); \
         watched_room = room; \
@@ -106,9 +106,29 @@ TEXT(exifnorm_normalise, 1)
 TEXT(exifnorm_show, 3)
 TEXT(exifnorm_captions, 4)
 
+uint32_t exifnorm_jpeg_parts(const unsigned char *bytes, size_t length, struct exifnorm_jpeg_part *parts, size_t room, size_t *count,
+                             struct exifnorm_jpeg_fault *fault) {
+    uint32_t (*call)(const unsigned char *, size_t, struct exifnorm_jpeg_part *, size_t, size_t *, struct exifnorm_jpeg_fault *);
+    uint32_t status;
+    count_call(7);
+    need(bytes, parts, count, fault);
+    *(void **)&call = dlsym(right, "exifnorm_jpeg_parts");
+    return has_status(&status) ? status : call(bytes, length, parts, room, count, fault);
+}
+
+uint32_t exifnorm_photoshop_resources(const unsigned char *bytes, size_t length, struct exifnorm_photoshop_resource *resources, size_t room,
+                                      size_t *count) {
+    uint32_t (*call)(const unsigned char *, size_t, struct exifnorm_photoshop_resource *, size_t, size_t *);
+    uint32_t status;
+    count_call(8);
+    need(bytes, resources, count, count);
+    *(void **)&call = dlsym(right, "exifnorm_photoshop_resources");
+    return has_status(&status) ? status : call(bytes, length, resources, room, count);
+}
+
 uint32_t exifnorm_cause_name(uint32_t cause, char *out, size_t room, size_t *written) {
     uint32_t (*call)(uint32_t, char *, size_t, size_t *);
-    count(5);
+    count_call(5);
     *(void **)&call = dlsym(right, "exifnorm_cause_name");
     return call(cause, out, room, written);
 }
@@ -116,7 +136,7 @@ uint32_t exifnorm_cause_name(uint32_t cause, char *out, size_t room, size_t *wri
 uint32_t exifnorm_version(char *out, size_t room, size_t *written) {
     const char *version = getenv("VERSION");
     uint32_t (*call)(char *, size_t, size_t *);
-    count(6);
+    count_call(6);
     *(void **)&call = dlsym(right, "exifnorm_version");
     if (!version)
         return call(out, room, written);

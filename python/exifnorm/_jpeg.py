@@ -1,0 +1,153 @@
+"""The head of a JPEG, which is all before its first scan: its parts, and the blocks in them."""
+
+from __future__ import annotations
+
+from typing import Any, Dict, Iterator, List, NamedTuple, NoReturn, Optional, Tuple
+
+from ._calls import Block
+from ._errors import HeadRefused, TooMany
+from ._library import PART, RESOURCE, Status, library
+
+KINDS = ("", "exif", "photoshop", "xmp", "extended xmp")  # by the library's numbers
+Row = Tuple[int, int, int, int, int]
+_IPTC = 0x0404  # the number of the resource
+CAUSES: Dict[int, str] = {101: "NoStart", 102: "NoMarker", 103: "LengthForm", 104: "HeadCut"}
+
+
+class JpegPart(NamedTuple):
+    """A part of a JPEG's head: a marker, and where the data of its segment are."""
+
+    marker: int
+    """The second byte of the marker, such as 0xE1 for APP1."""
+    kind: str
+    """"exif", "photoshop", "xmp" or "extended xmp", by the mark with which the data begin; "" for all others."""
+    begins: bool
+    """Whether a block begins here. Otherwise it continues the one in the part before."""
+    start: int
+    """The offset of the data behind that mark; of a marker without a segment, the offset behind it."""
+    size: int
+    """The number of these bytes."""
+
+
+class Resource(NamedTuple):
+    """One of Photoshop's image resources."""
+
+    number: int
+    start: int
+    """The offset of its data."""
+    size: int
+    """The number of bytes of its data."""
+
+
+class JpegBlock(NamedTuple):
+    """A block of a JPEG."""
+
+    kind: str
+    """"exif" or "iim"."""
+    data: bytes
+
+
+def _bytes_of(octets: Block) -> bytes:
+    """The bytes of an object of any type."""
+    if type(octets) is bytes:
+        return octets
+    with memoryview(octets) as view:
+        if not view.c_contiguous:
+            raise BufferError("the bytes must be contiguous")
+        return view.tobytes()
+
+
+def _parts(rows: bytes) -> List[JpegPart]:
+    new = tuple.__new__
+    return [new(JpegPart, (marker, KINDS[kind], begins == 1, start, size)) for marker, kind, begins, start, size in PART.iter_unpack(rows)]
+
+
+def _raise(failure: Tuple[int, int, int, bytes], most: int) -> NoReturn:
+    """Raises the exception for a status."""
+    status, cause, place, rows = failure
+    if status == Status.REFUSED:
+        raise HeadRefused(CAUSES[cause], place, _parts(rows))
+    if status == Status.TOO_LITTLE_ROOM and place > most:
+        raise TooMany(most)
+    raise AssertionError(f"libexifnorm answered the status {status}")
+
+
+def jpeg_parts(picture: Block, most: Optional[int] = None) -> List[JpegPart]:
+    """The parts of a JPEG's head in their order. The last one is the header of the first scan, or the end of the picture.
+
+    The bytes may be a whole file or only its first bytes: what follows the head isn't looked at. Raises HeadRefused, with the first fault
+    and the parts before it, if they aren't a head, and TooMany for more than `most` parts. If the cause is HeadCut, the bytes end before
+    the head does; more of the file change nothing in these parts.
+
+    >>> for part in jpeg_parts(bytes.fromhex("ffd8 ffe1000c 457869660000 4d4d002a ffd9")):
+    ...     print(part)
+    JpegPart(marker=225, kind='exif', begins=True, start=12, size=4)
+    JpegPart(marker=217, kind='', begins=False, start=18, size=0)
+    """
+    octets = _bytes_of(picture)
+    return _parts(_rows_of_parts(octets, len(octets) if most is None else most))
+
+
+def _rows_of_parts(octets: bytes, most: int) -> bytes:
+    rows = library().jpeg_parts(octets, most)
+    if isinstance(rows, tuple):
+        _raise(rows, most)
+    return rows
+
+
+def part_rows(octets: bytes, most: int) -> List[Row]:
+    """The parts as the library has them, with the numbers of their kinds, where the time for objects matters.
+
+    >>> part_rows(bytes.fromhex("ffd8 ffe1000c 457869660000 4d4d002a ffd9"), 2)
+    [(225, 1, 1, 12, 4), (217, 0, 0, 18, 0)]
+    """
+    rows: Iterator[Any] = PART.iter_unpack(_rows_of_parts(octets, most))
+    return list(rows)
+
+
+def photoshop_resources(octets: Block, most: Optional[int] = None) -> List[Resource]:
+    """Photoshop's image resources at the start of some bytes, in their order: up to where no resource is. Raises TooMany for more
+    than `most`.
+
+    >>> photoshop_resources(b"8BIM" + bytes.fromhex("0404 0000 00000003") + b"abc")
+    [Resource(number=1028, start=12, size=3)]
+    """
+    octets = _bytes_of(octets)
+    limit = len(octets) if most is None else most
+    rows = library().photoshop_resources(octets, limit)
+    if isinstance(rows, tuple):
+        _raise(rows, limit)
+    return list(map(Resource._make, RESOURCE.iter_unpack(rows)))
+
+
+def jpeg_blocks(picture: Block) -> List[JpegBlock]:
+    """The Exif and IPTC blocks of a JPEG in their order, each as one. Exif is in segments APP1, IPTC in Photoshop's resources of number
+    0404 in segments APP13; such a resource without bytes is no block. Other programs may also have put Exif into resource 0422, which
+    isn't returned. XMP isn't either: `jpeg_parts` shows where it is.
+
+    The bytes may be a whole file or only its first bytes. Raises HeadRefused, with the first fault, if they don't begin with the whole
+    head of a JPEG, and LibraryMissing.
+
+    >>> import exifnorm
+    >>> exif = b"Exif\\0\\0" + bytes.fromhex("4d4d002a00000008 0001 0112 0003 00000001 00060000 00000000")
+    >>> picture = bytes.fromhex("ffd8 ffe1") + (2 + len(exif)).to_bytes(2, "big") + exif + bytes.fromhex("ffd9")
+    >>> for kind, block in jpeg_blocks(picture):
+    ...     print(kind, exifnorm.fields(block))
+    exif [Field(directory='main', tag=274, type='SHORT', values=(6,))]
+    """
+    octets = _bytes_of(picture)
+    whole: List[Tuple[str, List[bytes]]] = []  # the pieces of each block of Exif, and of Photoshop's resources
+    for _, kind, begins, start, size in jpeg_parts(octets):
+        if kind in ("exif", "photoshop"):
+            if begins:
+                whole.append((kind, []))
+            whole[-1][1].append(octets[start : start + size])
+    found: List[JpegBlock] = []
+    for kind, pieces in whole:
+        data = b"".join(pieces)
+        if kind == "exif":
+            found.append(JpegBlock(kind, data))
+        else:
+            rows = photoshop_resources(data)
+            found += [JpegBlock("iim", data[start : start + size]) for number, start, size in rows if number == _IPTC and size]
+    return found

@@ -1,0 +1,233 @@
+"""The package's calls for JPEGs, by ctypes and by the extension module, beside a walk in Python over segments and resources."""
+
+import array
+import mmap
+import pickle
+from concurrent.futures import ThreadPoolExecutor
+
+import pytest
+from hypothesis import HealthCheck, given, settings
+from hypothesis import strategies as st
+
+import exifnorm
+import jpegs
+from exifnorm import HeadRefused, JpegBlock, JpegPart, Resource, TooMany, _library
+from small_blocks import CAPTION, ONE, outcome
+
+pytestmark = pytest.mark.usefixtures("way")
+
+LITTLE = bytes.fromhex("49492a0008000000 0100 1201 0300 01000000 06000000 00000000")
+START, END = b"\xff\xd8", b"\xff\xd9"
+
+
+def segment(marker, data):
+    return bytes((0xFF, marker)) + (len(data) + 2).to_bytes(2, "big") + data
+
+
+def resource(number, data):
+    return b"8BIM" + number.to_bytes(2, "big") + b"\0\0" + len(data).to_bytes(4, "big") + data + bytes(len(data) % 2)
+
+
+def exif(data):
+    return segment(0xE1, b"Exif\0\0" + data)
+
+
+def photoshop(data):
+    return segment(0xED, b"Photoshop 3.0\0" + data)
+
+
+COMMENT = segment(0xFE, b"comment")
+PICTURE = b"".join([START, exif(ONE), COMMENT, photoshop(resource(0x0404, CAPTION)), segment(0xDA, b"scan"), b"data", END])
+
+
+def found_in(octets, most=None):
+    """The parts and the fault, in the form of `jpegs.parts`."""
+    try:
+        return [tuple(it) for it in exifnorm.jpeg_parts(octets, most)], None
+    except HeadRefused as why:
+        return [tuple(it) for it in why.parts], (why.cause, why.place)
+
+
+SEGMENTS = st.one_of(
+    st.builds(segment, st.sampled_from([0xE1, 0xED, 0xE0, 0xC0, 0xDA, 0xFE]), st.binary(max_size=12)),
+    st.builds(
+        lambda mark, more: segment(mark[0], mark[1] + more),
+        st.sampled_from(jpegs.MARKS),
+        st.sampled_from([b"", ONE, LITTLE, b"MM\0+", b"II"]),
+    ),
+    st.builds(lambda marker: bytes((0xFF, marker)), st.integers(0, 255)),
+    st.sampled_from([b"\xff", b"\0", exif(b"goes on"), photoshop(b"goes on")]),
+)
+HEADS = st.builds(
+    lambda start, them, end: start + b"".join(them) + end, st.just(START), st.lists(SEGMENTS, max_size=8), st.sampled_from([b"", END])
+)
+ONE_WAY = settings(suppress_health_check=[HealthCheck.function_scoped_fixture])  # the way of calling is the same for all examples
+
+
+@ONE_WAY
+@given(HEADS)
+def test_parts(octets):
+    """Those of the walk, for the whole head and for its first bytes."""
+    for length in range(len(octets) + 1):
+        assert found_in(octets[:length]) == jpegs.parts(octets[:length])
+
+
+@ONE_WAY
+@given(HEADS, st.binary(max_size=50))
+def test_more_bytes_change_nothing(octets, more):
+    """A head, and a fault that is no missing end, stay as they are; parts before a missing end stay, but the last may get more bytes FF."""
+    parts, fault = found_in(octets)
+    longer, other = found_in(octets + more)
+    if fault and fault[0] == "HeadCut":
+        assert longer[: len(parts)] == parts
+    else:
+        assert (longer, other) == (parts, fault)
+
+
+@ONE_WAY
+@given(
+    st.lists(st.one_of(st.builds(resource, st.integers(0, 0xFFFF), st.binary(max_size=9)), st.binary(max_size=9)), max_size=6),
+    st.integers(0, 9),
+)
+def test_resources(them, less):
+    octets = b"".join(them)
+    octets = octets[: max(len(octets) - less, 0)]
+    found = exifnorm.photoshop_resources(octets)
+    expected, rest = jpegs.resources(octets)
+    assert [(number, octets[start : start + size]) for number, start, size in found] == expected
+    end = found[-1].start + found[-1].size + found[-1].size % 2 if found else 0
+    assert octets[end:] == rest
+
+
+def test_types_of_results():
+    (part, *_) = exifnorm.jpeg_parts(PICTURE)
+    assert (type(part), type(part.begins), part) == (JpegPart, bool, JpegPart(0xE1, "exif", True, 12, len(ONE)))
+    (one,) = exifnorm.photoshop_resources(resource(0x0404, CAPTION))
+    assert (type(one), one) == (Resource, Resource(0x0404, 12, len(CAPTION)))
+    block = exifnorm.jpeg_blocks(PICTURE)[0]
+    assert (type(block), type(block.data), block) == (JpegBlock, bytes, JpegBlock("exif", ONE))
+
+
+@pytest.mark.parametrize(
+    "pieces, blocks",
+    [
+        ([], []),
+        ([exif(ONE), photoshop(resource(0x0404, CAPTION))], [("exif", ONE), ("iim", CAPTION)]),
+        ([photoshop(resource(0x0404, CAPTION)), exif(ONE)], [("iim", CAPTION), ("exif", ONE)]),
+        ([exif(ONE[:9]), exif(ONE[9:20]), exif(ONE[20:])], [("exif", ONE)]),
+        ([exif(ONE), exif(LITTLE)], [("exif", ONE), ("exif", LITTLE)]),
+        ([exif(ONE), COMMENT, exif(b"apart")], [("exif", ONE), ("exif", b"apart")]),
+        ([exif(b"")], [("exif", b"")]),
+        ([photoshop(resource(0x0404, CAPTION)[:13]), photoshop(resource(0x0404, CAPTION)[13:])], [("iim", CAPTION)]),
+        ([photoshop(resource(0x0404, b"") + resource(0x0404, CAPTION) + resource(0x0404, b"\x1c"))], [("iim", CAPTION), ("iim", b"\x1c")]),
+        ([photoshop(resource(0x0422, ONE) + resource(0x0424, b"<x/>"))], []),
+        ([photoshop(resource(0x0404, CAPTION) + b"rest" + resource(0x0404, CAPTION))], [("iim", CAPTION)]),
+        ([segment(0xE1, b"http://ns.adobe.com/xap/1.0/\0<x/>"), segment(0xE1, b"EXIF\0\0" + ONE)], []),
+    ],
+)
+def test_blocks(pieces, blocks):
+    assert exifnorm.jpeg_blocks(START + b"".join(pieces) + END) == blocks
+    assert (
+        exifnorm.jpeg_blocks(START + b"".join(pieces) + segment(0xDA, b"scan") + exif(ONE)) == blocks
+    ), "what is behind the head is not read"
+
+
+@pytest.mark.parametrize(
+    "octets, cause, place, before",
+    [
+        (b"", "NoStart", 0, 0),
+        (b"\xff", "NoStart", 0, 0),
+        (b"\x89PNG", "NoStart", 0, 0),
+        (START, "HeadCut", 2, 0),
+        (START + COMMENT, "HeadCut", 2 + len(COMMENT), 1),
+        (START + exif(ONE)[:-1], "HeadCut", 2, 0),
+        (START + exif(ONE) + b"\xff\xe1", "HeadCut", 2 + len(exif(ONE)), 1),
+        (START + exif(ONE) + b"\xff\xff\xff", "HeadCut", 2 + len(exif(ONE)), 1),
+        (START + exif(ONE) + b"\xff\xe1\0\1", "LengthForm", 2 + len(exif(ONE)), 1),
+        (START + exif(ONE) + b"x", "NoMarker", 2 + len(exif(ONE)), 1),
+        (START + exif(ONE) + b"\xff\xff\0", "NoMarker", 2 + len(exif(ONE)), 1),
+    ],
+)
+def test_heads_that_are_refused(octets, cause, place, before):
+    for call in (exifnorm.jpeg_parts, exifnorm.jpeg_blocks):
+        with pytest.raises(exifnorm.Refused) as raised:
+            call(octets)
+        why = raised.value
+        assert (type(why), why.cause, why.place, why.side, len(why.parts)) == (HeadRefused, cause, place, None, before)
+        assert str(why) == f"{cause} at {place}"
+        again = pickle.loads(pickle.dumps(why))
+        assert (again.args, again.cause, again.place, again.side, again.parts) == (why.args, cause, place, None, why.parts), "pickled"
+
+
+def test_numbers_of_parts_and_resources():
+    """More than fit into the first buffer, and no more than are allowed."""
+    for count in (0, 1, 63, 64, 65, 1000):
+        head, them = START + b"\xff\x01" * count + END, resource(0x0404, b"abc") * count
+        assert len(exifnorm.jpeg_parts(head)) == len(exifnorm.jpeg_parts(head, count + 1)) == count + 1
+        assert len(exifnorm.jpeg_parts(head, most=1 << 62)) == count + 1
+        assert len(exifnorm.photoshop_resources(them)) == len(exifnorm.photoshop_resources(them, count)) == count
+        for call, octets, least in ((exifnorm.jpeg_parts, head, count + 1), (exifnorm.photoshop_resources, them, count)):
+            for most in {least - 1, 0, -1} if least else ():
+                assert outcome(call, octets, most) == ("TooMany", most), (call, most)
+    with pytest.raises(HeadRefused) as raised:  # a fault after many parts, and one after too many
+        exifnorm.jpeg_parts(START + COMMENT * 1000 + b"x")
+    assert len(raised.value.parts) == 1000
+    assert outcome(exifnorm.jpeg_parts, START + COMMENT * 1000 + b"x", 999) == ("TooMany", 999)
+    assert str(pickle.loads(pickle.dumps(TooMany(7)))) == "more than 7"
+
+
+WAYS = {
+    "bytearray": bytearray,
+    "memoryview": lambda octets: memoryview(b"xx" + octets + b"yy")[2:-2],
+    "array": lambda octets: array.array("B", octets),
+    "mmap": lambda octets: mapped(octets),
+}
+
+
+def mapped(octets):
+    it = mmap.mmap(-1, len(octets))
+    it[:] = octets
+    return it
+
+
+@pytest.mark.parametrize("given_as", WAYS.values(), ids=WAYS)
+def test_ways_to_give_bytes(given_as):
+    """A picture may be longer than any block."""
+    for octets in (PICTURE, START + b"x", PICTURE + bytes(17_000_000)):
+        for call in (exifnorm.jpeg_parts, exifnorm.jpeg_blocks):
+            assert repr(outcome(call, given_as(octets))) == repr(outcome(call, octets))
+    them = resource(0x0404, CAPTION)
+    assert exifnorm.photoshop_resources(given_as(them)) == exifnorm.photoshop_resources(them)
+
+
+@pytest.mark.parametrize("wrong", [None, 5, "MM", [77]], ids=repr)
+def test_what_are_no_bytes(wrong):
+    for call in (exifnorm.jpeg_parts, exifnorm.jpeg_blocks, exifnorm.photoshop_resources):
+        assert outcome(call, wrong)[0] == "TypeError"
+        assert outcome(call, memoryview(PICTURE)[::2])[0] == "BufferError"
+
+
+def test_calls_of_the_library(watch):
+    """Each call is one of the library, and one more for each block of resources, or for more than a few parts."""
+    assert watch.of(exifnorm.jpeg_parts, PICTURE) == {"jpeg_parts": 1}
+    assert watch.of(exifnorm.jpeg_blocks, PICTURE) == {"jpeg_parts": 1, "photoshop_resources": 1}
+    assert watch.of(exifnorm.jpeg_blocks, START + exif(ONE) + END) == {"jpeg_parts": 1}
+    assert watch.of(exifnorm.jpeg_blocks, START + b"x") == {"jpeg_parts": 1}
+    assert watch.of(exifnorm.jpeg_parts, START + COMMENT * 1000 + END) == {"jpeg_parts": 2}
+    assert watch.of(exifnorm.jpeg_parts, START + COMMENT * 1000 + END, 999) == {"jpeg_parts": 1}
+    assert watch.of(exifnorm.photoshop_resources, b"") == {"photoshop_resources": 1}
+
+
+def test_many_threads(way):
+    """Each call has room of its own, also one that begins while another is made."""
+    heads = [START + b"\xff\x01" * count + (END if count % 2 else b"x") for count in range(16)]
+    expected = [found_in(it) for it in heads]
+    with ThreadPoolExecutor(8) as pool:
+        assert [*pool.map(found_in, heads * 500)] == expected * 500
+
+
+def test_a_library_that_answers_otherwise(monkeypatch):
+    """A status, a cause or a number that it can't have is no result."""
+    for failure in ((7, 0, 0, b""), (5, 0, 3, b""), (4, 0, 0, b"")):
+        monkeypatch.setattr(_library.library(), "jpeg_parts", lambda *_, it=failure: it)
+        assert outcome(exifnorm.jpeg_parts, PICTURE, 3)[0] == "AssertionError"
