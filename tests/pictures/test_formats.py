@@ -74,24 +74,36 @@ class Found(unittest.TestCase):
             (b"\xff\xd9", []),
             (b"\xff\xd9trailer", ["trailer of 7 bytes"]),
             (segment(0xFE, b"c"), []),
-            (b"\xff", ["trailer of 1 byte"]),
         ):
             found = found_in(head + rest)
             self.assertEqual((named(found), [it.what for it in found.not_read]), ([("exif", "Exif", A)], unread), rest)
-        for rest in (b"\xff\xe0", b"\xff\xe0\x01", b"\xff\xe0\0\x01", b"\xff\0", b"no marker"):
+        at, cut = len(head), "the file ends inside the segment"
+        for rest, why in (
+            (b"\xff", cut),
+            (b"\xff\xff", cut),
+            (b"\xff\xe1", cut),
+            (b"\xff\xe0\x01", cut),
+            (b"\xff\xe0\0\x01", "no segment"),
+            (b"\xff\0", "no marker"),
+            (b"\0", "no marker"),
+            (b"x", "no marker"),
+            (b"no marker", "no marker"),
+            *((bytes((0xFF, it, 0, 9)) + b"JFIF\0", cut) for it in (0xC0, 0xC4, 0xDA, 0xDB, 0xE0, 0xE2, 0xE4, 0xFE)),
+        ):
             found = found_in(head + rest)  # the blocks before the damage count, and the file is never wholly read
             self.assertEqual(named(found), [("exif", "Exif", A)], rest)
-            self.assertIn("the rest of a damaged file", found.not_read[0].what)
+            where = at + len(rest) - 1 if rest.strip(b"\xff") == b"" else at
+            self.assertEqual([it.what for it in found.not_read], [f"the rest of a damaged file ({why} at {where})"], rest)
             self.assertEqual(found.not_read[0].digest, hashlib.sha256(head + rest).hexdigest())
             with self.assertRaises(Broken, msg=rest):
                 found_in(b"\xff\xd8" + segment(0xFE, b"c") + rest)
 
-    def test_where_a_piece_of_the_file_ends(self):
-        """The file is read in pieces of 8,192 bytes: wherever one ends, the segments are the same, and so is what is too short."""
-        for before in range(8192 - 60, 8192 + 8):
-            filled = jpeg(segment(0xFE, bytes(before - 6)), app1(A), app1_xmp(T))
+    def test_where_the_first_bytes_of_the_file_end(self):
+        """65,536 bytes are read at first: wherever they end, the segments are the same, and so is what is too short."""
+        for before in range(65_536 - 60, 65_536 + 8):
+            filled = jpeg(segment(0xFE, bytes(30_000)), segment(0xFE, bytes(before - 2 - 4 - 30_000 - 4)), app1(A), app1_xmp(T))
             self.assertEqual(sorted(named(found_in(filled))), [("exif", "Exif", A), ("xmp", "XMP", T)], before)
-            for length in (before + 2, before + 3, before + 20):
+            for length in (before - 1, before + 1, before + 2, before + 3, before + 20):
                 with self.assertRaises(Broken, msg=(before, length)):
                     found_in(filled[:length])
             self.assertEqual(named(found_in(filled[:before])), [])
@@ -528,8 +540,11 @@ class Harm(unittest.TestCase):
 
     def test_many_markers(self):
         self.too_much(b"\xff\xd8" + b"\xff\xfe\0\2" * 100_001, budgets.SEGMENTS)
-        self.too_much(b"\xff\xd8" + b"\xff\xe1\0\2" * 100_001, budgets.NOT_READ)
-        self.too_much(b"\xff\xd8" + b"\xff" * 200_000, budgets.SEGMENTS)
+        self.too_much(b"\xff\xd8" + b"\xff\x01" * 100_001, budgets.SEGMENTS)
+        self.too_much(b"\xff\xd8" + b"\xff\xe1\0\2" * 20_000 + b"\xff\xd9", budgets.NOT_READ)
+        self.broken(b"\xff\xd8" + b"\xff" * 200_000)
+        with mock.patch.dict(budgets.LIMITS, {budgets.SEGMENT_BYTES: 100_000}):
+            self.too_much(b"\xff\xd8" + b"\xff" * 200_000, budgets.SEGMENT_BYTES)
         many = SMALL_JPEG[:-2] + b"\xff\xc0\0\2" * 200_000
         stream = Counting(many)
         self.assertEqual(reader_of(many)(stream, True).found, [])
@@ -619,7 +634,7 @@ class Kept(unittest.TestCase):
         long = SMALL_JPEG[:-2] + b"\x11" * 4_000_000 + SMALL_JPEG[-2:]
         stream = Counting(jpeg(app1(A), base=long))
         self.assertEqual(len(reader_of(long)(stream, False).found), 1)
-        self.assertLess(stream.octets, 80_000)
+        self.assertLess(stream.octets, 2 * 65_536 + 4096)
         whole = Counting(jpeg(app1(A), base=long))
         reader_of(long)(whole, True)
         self.assertGreater(whole.octets, 4_000_000)

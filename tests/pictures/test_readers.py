@@ -216,12 +216,13 @@ class Readers(unittest.TestCase):
             with mock.patch.dict(budgets.LIMITS, {budgets.SEGMENTS: 5}):
                 self.assertEqual(found_in(b"\xff\xd8" + it * 4 + b"\xff\xd9").not_read, [])
                 self.too_much(b"\xff\xd8" + it * 6 + b"\xff\xd9", "more than 5 segments")
-        with mock.patch.dict(budgets.LIMITS, {budgets.SEGMENT_BYTES: 2 * (6 + len(A))}):
-            self.assertEqual(len(found_in(jpeg(app1(A), app1(B))).found), 2)
-            self.too_much(jpeg(app1(A), app1(B), segment(0xE1, b"1")), f"more than {2 * (6 + len(A))} bytes of segments")
-        with mock.patch.dict(budgets.LIMITS, {budgets.SEGMENTS: 12}):  # the pictures of an index have one budget
+        whole = b"\xff\xd8" + app1(A) + app1(B)
+        with mock.patch.dict(budgets.LIMITS, {budgets.SEGMENT_BYTES: len(whole) + 2}):
+            self.assertEqual(len(found_in(whole + b"\xff\xd9").found), 2)
+            self.too_much(whole + segment(0xFE, b"") + b"\xff\xd9", f"more than {len(whole) + 2:,} bytes of segments")
+        with mock.patch.dict(budgets.LIMITS, {budgets.SEGMENTS: 13}):  # the pictures of an index have one budget
             self.assertEqual(len(found_in(mpf(app1(A), MIN, MIN)).not_read), 0)
-            self.too_much(mpf(app1(A), *[MIN] * 8), "more than 12 segments")
+            self.too_much(mpf(app1(A), *[MIN] * 8), "more than 13 segments")
 
     def test_limits_of_all_formats(self):
         """Blocks, resources, and parts that are not read: the first eight of a file take no time to count."""

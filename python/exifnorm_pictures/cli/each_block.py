@@ -5,7 +5,7 @@ from __future__ import annotations
 import argparse
 from typing import Callable, Iterator, List, NamedTuple, Tuple
 
-from exifnorm import LIMIT
+from exifnorm import LIMIT, LibraryMissing
 
 from ..catalogue.records import WORDS, Block
 from ..compare.verdicts import ACCEPTED
@@ -33,7 +33,7 @@ def blocks_of(name: bytes, whole: bool = False, is_block: bool = False) -> Block
             return Blocks(problem="TooSlow" if isinstance(error, programs.TooSlow) else "ToolFailed", detail=str(error))
         except programs.Missing as error:
             return Blocks(problem="NeedsExifTool", detail=str(error))
-        except MemoryError:
+        except (LibraryMissing, MemoryError):
             raise
         except Exception as error:  # an error of a reader affects only this file
             return extraction.failed_here(error)

@@ -15,10 +15,10 @@ import hashlib
 from typing import Dict, Iterator, List, Optional, Tuple
 
 from ..files import opening
-from .budgets import CHUNKS, SEGMENTS, STRIPS, Budget, TooMuch
+from .budgets import CHUNKS, STRIPS, Budget, TooMuch
 from .formats import bigtiff, jpeg, png, tiff, webp
 from .formats.found import Broken
-from .formats.jpeg_segments import EOI, SOI, SOS
+from .formats.jpeg_segments import EOI, SOI, SOS, read_head
 from .formats.jpeg_tail import Markers
 from .formats.streams import File, Stream, pieces, read_at, size_of
 from .formats.tiff_directories import Directories, Directory, Entry
@@ -68,24 +68,15 @@ _ALONE = frozenset((0x01, *range(0xD0, 0xD8)))  # markers without a segment
 
 
 def _jpeg(stream: Stream, found: "hashlib.blake2b", budget: Budget) -> None:
-    at = 2
-    while True:
-        budget.spend(SEGMENTS)
-        mark, marker, *length = read_at(stream, at, 4)
-        if mark != 0xFF or marker in (0, SOI, EOI):
-            raise Broken(f"no segment at {at}")
-        if marker == 0xFF:
-            at += 1
-        elif marker in _ALONE:
-            at += 2
-        elif marker == SOS:
-            _scans(stream, found, at, budget)
-            return
-        else:
-            end = at + 2 + int.from_bytes(bytes(length), "big")
-            if marker not in _METADATA:
-                _add(stream, found, at, end)
-            at = end
+    head = read_head(stream, 0, budget)
+    if head.fault or not head.parts or head.parts[-1][0] != SOS:
+        raise Broken(head.fault or f"no scan before {head.end}")
+    for marker, _, _, start, size in head.parts[:-1]:
+        if marker == SOI:
+            raise Broken(f"no segment at {start - 2}")
+        if marker not in _METADATA and marker not in _ALONE:
+            found.update(head.octets[start - 4 : start + size])
+    _scans(stream, found, head.parts[-1][3] - 4, budget)
 
 
 def _scans(stream: Stream, found: "hashlib.blake2b", at: int, budget: Budget) -> None:

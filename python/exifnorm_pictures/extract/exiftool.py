@@ -21,14 +21,12 @@ from typing import Dict, List, Optional, Sequence
 
 from ..files import tempdir
 from . import programs
-from .budgets import WHOLE_FILE, Budget, budget_of
-from .formats.found import EXIF, EXIFTOOL, EXIV2, IPTC, PROBLEMS, UNREAD_TRAILER, XMP, Blocks, Broken, NotRead
-from .formats.jpeg_segments import APP1, segments
+from .budgets import OUTPUT, WHOLE_FILE, budget_of
+from .formats.found import EXIF, EXIFTOOL, EXIV2, IPTC, PROBLEMS, UNREAD_TRAILER, XMP, Blocks, NotRead
 from .formats.streams import Stream, digest_of, size_of
 from .programs import Failed
 
 _WORDS = ("-EXIF:Exif", "-IPTC:IPTC", "-XMP:XMP", "-FileType#", "-MIMEType#", "-Error#")
-_SIX = b"Exif\0\0"
 _TAGS = {"EXIF": EXIF, "IPTC": IPTC, "XMP": XMP}
 _SEVERAL = ("CR3", "CRX", "CRM")  # Canon's, by ExifTool's names
 
@@ -246,10 +244,11 @@ def _add_by_exiv2(blocks: Blocks, path: bytes) -> None:
 
 def _exif_of_exiv2(path: str) -> bytes:
     """The Exif block of a file in exiv2's own form: two bytes, five letters, and segments as in a JPEG. No bytes if it has none."""
-    with open(path, "rb") as file, contextlib.suppress(Broken):
-        for marker, _, _, data, _ in segments(file, 5, Budget()):
-            if marker == APP1 and data.startswith(_SIX):
-                return data[len(_SIX) :]
+    import exifnorm  # which takes long, and few pictures are raw
+
+    with open(path, "rb") as file, contextlib.suppress(exifnorm.HeadRefused):
+        head = b"\xff\xd8" + file.read(OUTPUT)[7:]
+        return next((it.data for it in exifnorm.jpeg_blocks(head) if it.kind == EXIF), b"")
     return b""
 
 

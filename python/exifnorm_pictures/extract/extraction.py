@@ -5,6 +5,8 @@ from __future__ import annotations
 import errno
 import os
 
+from exifnorm import LibraryMissing
+
 from ..cli import signals
 from ..cli.output import described
 from ..files import opening
@@ -19,7 +21,8 @@ def blocks_of(path: bytes, whole: bool = False) -> Blocks:
     """All blocks of one file, unchanged, and the parts that were not read. A file that can't be read has a problem and no blocks.
 
     Of a JPEG the head, the tail and the pictures of its MPF index are read; with `whole` also everything between. ExifTool reads
-    the files that the readers here don't. Raises `programs.Missing` if it is needed and not installed, and `programs.Failed`.
+    the files that the readers here don't. Raises `programs.Missing` if it is needed and not installed, `programs.Failed`, and
+    `LibraryMissing`.
     """
     budget = Budget(whole)
     try:
@@ -34,6 +37,8 @@ def blocks_of(path: bytes, whole: bool = False) -> Blocks:
             file.close()
     except TooMuch as why:
         return too_much(why)
+    except LibraryMissing:  # an OSError too, but not of this file
+        raise
     except FileNotFoundError:
         problem = "LinkToNothing" if os.path.islink(path) else "NoFile"
         return Blocks(problem=problem, detail=PROBLEMS[problem])

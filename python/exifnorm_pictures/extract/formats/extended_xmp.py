@@ -9,7 +9,7 @@ from .found import XMP, Blocks, FoundBlock, ordinal
 
 HEAD = b"http://ns.adobe.com/xmp/extension/\0"
 _DIGEST = 32  # characters of the digest in the main packet, after the head
-_BEFORE = len(HEAD) + _DIGEST + 8  # the total length and the offset of the piece follow, four bytes each
+_BEFORE = _DIGEST + 8  # the total length and the offset of the piece follow, four bytes each
 NAME = "extended XMP"
 
 
@@ -21,11 +21,11 @@ class Pieces:
         self._places: Dict[bytes, str] = {}
 
     def add(self, data: bytes, place: str) -> bool:
-        """Adds a piece; whether it fits the others of its packet."""
+        """Adds a piece, which is all behind the head; whether it fits the others of its packet."""
         if len(data) < _BEFORE:
             return False
-        digest = data[len(HEAD) : len(HEAD) + _DIGEST]
-        total, offset = struct.unpack_from(">II", data, len(HEAD) + _DIGEST)
+        digest = data[:_DIGEST]
+        total, offset = struct.unpack_from(">II", data, _DIGEST)
         known = self._found.setdefault(digest, (total, {}))
         self._places.setdefault(digest, place)
         if known[0] != total or offset in known[1]:

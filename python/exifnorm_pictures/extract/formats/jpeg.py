@@ -15,15 +15,15 @@ from . import mpf, photoshop
 from .extended_xmp import Pieces
 from .extended_xmp import HEAD as EXTENDED
 from .found import EXIF, XMP, Blocks, Broken, NotRead, length_of
-from .jpeg_segments import APP1, APP2, APP3, APP13, SOS, is_not_compared, segments
-from .jpeg_tail import WINDOW, Tail, tail
+from .jpeg_segments import APP0, APP1, APP2, APP3, APP13, APP15, SOS, EXIF_PIECE, PHOTOSHOP_PIECE, XMP_PACKET, XMP_PIECE
+from .jpeg_segments import is_not_compared, read_head
+from .jpeg_tail import WINDOW, Tail, is_scan, tail
 from .streams import Stream, digest_of_rest, digest_of, read_at, size_of
 from .trailers import known_trailer
 
 START = b"\xff\xd8\xff"
 _SIX = b"Exif\0\0"
 _XMP = b"http://ns.adobe.com/xap/1.0/\0"
-_TIFF = (b"II*\0", b"MM\0*")
 # Some writers put up to four bytes before the word, or write it in another way; ExifTool reads these as well.
 _EXIF_LIKE = re.compile(rb".{0,4}?Exif\0.", re.I | re.S)
 _META = (b"Meta\0\0", b"META\0\0", b"Exif\0\0")  # Kodak's APP3, which has the structure of an Exif block
@@ -37,8 +37,7 @@ def read(stream: Stream, whole: bool = False) -> Blocks:
     head = _Head(blocks)
     try:
         head.read(stream, 0, budget)
-    except Broken as why:
-        head._put_together()
+    except Broken as why:  # a lenient form: what a damaged file has before its fault
         if not blocks.found:
             raise
         blocks.not_read.append(NotRead(f"the rest of a damaged file ({why})", digest_of(stream, 0, end)))
@@ -67,74 +66,82 @@ class _Head:
         self._exif: List[Tuple[str, List[bytes]]] = []  # the position of each block, and its pieces
         self._runs: List[Tuple[str, List[bytes]]] = []  # Photoshop resources, the same way
         self._pieces = Pieces()
-        self._last = b""  # the kind of the last segment
+        self._octets, self._start = b"", 0  # what was read of the file, and where that begins
 
     def read(self, stream: Stream, start: int, budget: Budget) -> None:
-        """Reads the picture that begins at `start`."""
-        for marker, at, end, data, follows in segments(stream, start, budget):
-            if not follows:
-                self._last = b""
-            if marker == APP1:
-                self._last = self._app1(at, data)
-            elif marker == APP13:
-                self._last = self._app13(at, data)
-            else:
-                self._last = b""
-                self._other(marker, at, data)
-        self.end, self.has_scan = end, marker == SOS
+        """Reads the picture that begins at `start`. Raises `Broken` once the blocks before the fault are added."""
+        head = read_head(stream, start, budget)
+        self._octets, self._start = head.octets, start
+        for marker, kind, begins, at, size in head.parts:
+            if kind or APP0 <= marker <= APP15:
+                self._segment(marker, kind, begins, at, head.octets[at : at + size])
         self._put_together()
+        if head.fault:
+            raise Broken(head.fault)
+        self.end, self.has_scan = head.end, bool(head.parts) and head.parts[-1][0] == SOS
+
+    def ends_at(self, end: int) -> bool:
+        """Whether the bytes that were read show that the picture has one plain scan, and ends at `end`."""
+        return self.has_scan and is_scan(self._octets, self.end - self._start, end - self._start)
+
+    def _segment(self, marker: int, kind: int, begins: int, at: int, data: bytes) -> None:
+        """Adds what a segment has. Of a known kind these are the data behind its mark."""
+        start = self._start + at - 4
+        if kind == EXIF_PIECE:
+            _add_piece(self._exif, begins, f"APP1 segment at {start - len(_SIX)}", data)
+        elif kind == PHOTOSHOP_PIECE:
+            _add_piece(self._runs, begins, f"APP13 segment at {start - len(photoshop.HEAD)}", data)
+        elif kind == XMP_PACKET:
+            self.blocks.add(XMP, data, f"APP1 segment at {start - len(_XMP)}", self.part)
+        elif kind == XMP_PIECE:
+            if not self._pieces.add(data, f"APP1 segment at {start - len(EXTENDED)}"):
+                self._leave("piece of extended XMP that does not fit the others", EXTENDED + data)
+        elif marker == APP1:
+            self._app1(f"APP1 segment at {start}", data)
+        elif marker == APP13:
+            self._app13(f"APP13 segment at {start}", data)
+        else:
+            self._other(marker, start, data)
 
     def _leave(self, what: str, data: bytes) -> None:
         self.blocks.leave(what + self.of, data)
 
-    def _other(self, marker: int, at: int, data: bytes) -> None:
-        if marker == APP2 and data.startswith(mpf.HEAD):
-            self.indexes.append((at + 8, data[4:]))
-        elif marker == APP3 and data.startswith(_META):
-            self._leave("APP3 segment Meta", data)
-        elif 0xE0 <= marker <= 0xEF and not is_not_compared(marker, data):
-            word = bytes(it for it in data.split(b"\0")[0][:12] if 32 < it < 127).decode("ascii")
-            self._leave(f"APP{marker - 0xE0} segment {word}".rstrip(), data)
-
-    def _app1(self, at: int, data: bytes) -> bytes:
-        place = f"APP1 segment at {at}"
-        if data.startswith(_SIX):
-            # A block that is too long for one segment continues in the next, after the same six bytes and without a header.
-            if self._last == _SIX and data[6:10] not in _TIFF:
-                self._exif[-1][1].append(data[6:])
-            else:
-                self._exif.append((place, [data[6:]]))
-            return _SIX
-        if data.startswith(_XMP):
-            self.blocks.add(XMP, data[len(_XMP) :], place, self.part)
-        elif data.startswith(EXTENDED):
-            if not self._pieces.add(data, place):
-                self._leave("piece of extended XMP that does not fit the others", data)
-        elif like := _EXIF_LIKE.match(data):
+    def _app1(self, place: str, data: bytes) -> None:
+        """A lenient form: Exif by a mark that is written in another way."""
+        if like := _EXIF_LIKE.match(data):
             self._exif.append((place, [data[like.end() :]]))
         else:
             self._leave("APP1 segment of an unknown kind", data)
-        return b""
 
-    def _app13(self, at: int, data: bytes) -> bytes:
-        place = f"APP13 segment at {at}"
-        if data.startswith(photoshop.HEAD):
-            if self._last == photoshop.HEAD:
-                self._runs[-1][1].append(data[len(photoshop.HEAD) :])
-            else:
-                self._runs.append((place, [data[len(photoshop.HEAD) :]]))
-            return photoshop.HEAD
+    def _app13(self, place: str, data: bytes) -> None:
+        """A lenient form: resources after the mark of an older Photoshop."""
         if data.startswith(photoshop.OLD_HEAD):
             self._runs.append((place, [data[photoshop.OLD_HEAD_LENGTH :]]))
         elif not is_not_compared(APP13, data):
             self._leave("APP13 segment of an unknown kind", data)
-        return b""
+
+    def _other(self, marker: int, at: int, data: bytes) -> None:
+        if marker == APP2 and data.startswith(mpf.HEAD):
+            self.indexes.append((at + 4 + len(mpf.HEAD), data[len(mpf.HEAD) :]))
+        elif marker == APP3 and data.startswith(_META):
+            self._leave("APP3 segment Meta", data)
+        elif not is_not_compared(marker, data):
+            word = bytes(it for it in data.split(b"\0")[0][:12] if 32 < it < 127).decode("ascii")
+            self._leave(f"APP{marker - APP0} segment {word}".rstrip(), data)
 
     def _put_together(self) -> None:
         for place, data in self._exif:
             self.blocks.add(EXIF, b"".join(data), place, self.part)
         photoshop.add_resources(self.blocks, [(place, b"".join(data)) for place, data in self._runs], self.part)
         self._pieces.put_together(self.blocks, self.part)
+
+
+def _add_piece(blocks: List[Tuple[str, List[bytes]]], begins: int, place: str, data: bytes) -> None:
+    """Adds a piece to the block that it continues, or a block that begins with it."""
+    if begins:
+        blocks.append((place, [data]))
+    else:
+        blocks[-1][1].append(data)
 
 
 def _further(stream: Stream, head: _Head, end: int) -> List[int]:
@@ -155,6 +162,8 @@ def _further(stream: Stream, head: _Head, end: int) -> List[int]:
 
 def _read_after(stream: Stream, head: _Head, end: int, whole: bool) -> None:
     """Reads the part after a picture's first scan, up to the next picture or the end of the file."""
+    if head.ends_at(end):
+        return
     found = tail(stream, head.end, end, whole) if head.has_scan else Tail([], min(head.end, end), True)
     for at, length in found.segments:
         what = f"metadata segment behind the first scan{head.of}"

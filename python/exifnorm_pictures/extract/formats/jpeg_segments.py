@@ -1,18 +1,17 @@
-"""The segments of a JPEG picture before its first scan (ITU T.81, Annex B; CIPA DC-008 4.7)."""
+"""The head of a JPEG picture, which is all before its first scan (ITU T.81, Annex B; CIPA DC-008 4.7), as `exifnorm.jpeg_parts` reads it."""
 
 from __future__ import annotations
 
-from struct import Struct
-from typing import Iterator, Tuple
+from typing import List, NamedTuple, Tuple
+
+import exifnorm
+from exifnorm._jpeg import KINDS, Row, part_rows
 
 from ..budgets import SEGMENT_BYTES, SEGMENTS, Budget
-from .found import Broken
-from .streams import PIECE, Stream
+from .streams import HEAD, Stream
 
 SOI, EOI, SOS = 0xD8, 0xD9, 0xDA
-APP0, APP1, APP2, APP3, APP13 = 0xE0, 0xE1, 0xE2, 0xE3, 0xED
-_JFIF = b"JFIF\0"  # which most files begin with, and which isn't compared
-END_OF_FILE = 0  # no marker has this number
+APP0, APP1, APP2, APP3, APP13, APP15 = 0xE0, 0xE1, 0xE2, 0xE3, 0xED, 0xEF
 
 # The segments of applications that contain no Exif, IPTC or XMP, and are neither compared nor named: the marker, how the segment begins,
 # and its name in docs/RECIPES.md, whose list is made of this table.
@@ -35,91 +34,54 @@ def is_not_compared(marker: int, data: bytes) -> bool:
     return any(marker == number and data.startswith(head) for number, head, _ in NOT_COMPARED)
 
 
-# What follows a marker: nothing since it is none, a segment that is skipped, one that is kept, none, another FF, or the picture's data
-_NONE, _SKIPPED, _KEPT, _ALONE, _FILL, _LAST = range(6)
-_KINDS = bytearray([_SKIPPED]) * 256
-_KINDS[0], _KINDS[0xFF] = _NONE, _FILL
-for _marker in (0x01, *range(0xD0, EOI)):
-    _KINDS[_marker] = _ALONE
-for _marker in range(0xE0, 0xF0):  # the segments of applications: each is compared, named, or in `NOT_COMPARED`
-    _KINDS[_marker] = _KEPT
-_KINDS[SOS] = _KINDS[EOI] = _LAST
-
-_HEAD = Struct(">BBH").unpack_from
+EXIF_PIECE, PHOTOSHOP_PIECE, XMP_PACKET, XMP_PIECE = (KINDS.index(it) for it in ("exif", "photoshop", "xmp", "extended xmp"))
 
 
-# A segment: its marker, its offset, the offset after it, its data if its kind is kept, and whether no other segment is between it and
-# the one that was returned before.
-Segment = Tuple[int, int, int, bytes, bool]
+class Head(NamedTuple):
+    """The head of a picture, or what is there of one that is damaged."""
+
+    octets: bytes  # of the file from the picture's start on; they have all parts, and may have more
+    parts: List[Row]  # each with its marker, the number of its kind, whether a block begins with it, its offset and its size
+    end: int  # in the file, after the last part
+    fault: str = ""  # why the head isn't whole
 
 
-def segments(stream: Stream, start: int, budget: Budget) -> Iterator[Segment]:
-    """Each segment of a kind that is kept, and the last one, SOS or EOI, of the picture that begins at `start`.
+def read_head(stream: Stream, start: int, budget: Budget) -> Head:
+    """The head of the picture that begins at `start`. The pictures of an index can overlap, so all share a budget.
 
-    A file may end after a whole segment; the last one is then END_OF_FILE. The pictures of an index can overlap, so all share a budget.
-    Raises `Broken`, and `TooMuch`.
+    The first bytes of a file are read, and twice as many while the head isn't whole: what was found in them doesn't change. A file may end
+    after a whole segment, which is no fault here. Raises `TooMuch`.
     """
-    at = base = start + 2
-    piece = b""  # of the file, from `base`; reading a segment at a time would take two calls of the system for each
-    follows, passed, kept = False, 0, 0  # `passed` counts segments and fill bytes, `kept` the bytes that were returned
-    most, most_kept = budget.left[SEGMENTS], budget.left[SEGMENT_BYTES]
+    octets = _read(stream, start, HEAD)
+    while True:
+        parts, cause, place = _parts(octets, budget)
+        more = _read(stream, start + len(octets), len(octets)) if cause == "HeadCut" else b""
+        if not more:
+            break
+        if len(octets) > budget.left[SEGMENT_BYTES]:
+            budget.spend(SEGMENT_BYTES, len(octets))
+        octets += more
+    end = sum(parts[-1][3:]) if parts else 2
+    budget.spend(SEGMENTS, len(parts))
+    budget.spend(SEGMENT_BYTES, end)
+    if not cause or (cause == "HeadCut" and place == len(octets)):
+        return Head(octets, parts, start + end)
+    marker = start + max(len(octets) - len(octets[place:].lstrip(b"\xff")) - 1, place)  # after bytes FF that fill
+    return Head(octets, parts, start + end, f"{_FAULTS[cause]} at {marker}")
+
+
+_FAULTS = {"HeadCut": "the file ends inside the segment", "NoMarker": "no marker", "LengthForm": "no segment", "NoStart": "no JPEG"}
+
+
+def _parts(octets: bytes, budget: Budget) -> Tuple[List[Row], str, int]:
+    """The parts of a head, and the cause and the offset of its fault, if it has one. Raises `TooMuch`."""
     try:
-        while passed <= most and kept <= most_kept:
-            first = at - base
-            if first + 4 > len(piece):
-                base, piece, first = at, _piece(stream, at), 0
-                if not piece:
-                    yield END_OF_FILE, at, at, b"", follows
-                    return
-            mark, marker, length = _HEAD(piece, first)
-            kind = _KINDS[marker] if mark == 0xFF else _NONE
-            passed += 1
-            if marker == APP0 and kind == _KEPT and piece.startswith(_JFIF, first + 4):
-                kind = _SKIPPED
-            if kind == _SKIPPED and length > 1:
-                at, follows = at + 2 + length, False
-            elif kind == _FILL:
-                at += 1
-            else:
-                end = _end(at, marker, kind, length)
-                if kind != _ALONE:
-                    data = _data(stream, piece[first + 4 : end - base], at, length) if kind == _KEPT else b""
-                    kept += len(data)
-                    yield marker, at, end, data, follows
-                if kind == _LAST:
-                    return
-                at, follows = end, kind == _KEPT
-    finally:
-        budget.left[SEGMENTS], budget.left[SEGMENT_BYTES] = most - passed, most_kept - kept
-    budget.spend(SEGMENTS, 0)
-    budget.spend(SEGMENT_BYTES, 0)
-
-
-def _piece(stream: Stream, at: int) -> bytes:
-    """A piece of the file: at least a marker with a length, which is 0 if the file ends before it; nothing at the end of the file."""
-    piece = _read(stream, at, PIECE)
-    if len(piece) >= 4:
-        return piece
-    return piece[:2] + b"\0\0" if len(piece) >= 2 else b""
-
-
-def _end(at: int, marker: int, kind: int, length: int) -> int:
-    """The offset after a marker and its segment. Raises `Broken` if it is no marker, or has no segment although it must."""
-    if kind == _NONE:
-        raise Broken(f"no marker at {at}")
-    if kind == _ALONE or marker == EOI:
-        return at + 2
-    if length < 2:
-        raise Broken(f"no segment at {at}")
-    return at + 2 + length
-
-
-def _data(stream: Stream, known: bytes, at: int, length: int) -> bytes:
-    """The data of the segment at `at`, of which the first bytes may be known. Raises `Broken` if the file ends inside."""
-    data = known if len(known) == length - 2 else _read(stream, at + 4, length - 2)
-    if len(data) < length - 2:
-        raise Broken(f"the file ends inside the segment at {at}")
-    return data
+        return part_rows(octets, budget.left[SEGMENTS]), "", 0
+    except exifnorm.HeadRefused as why:
+        return [(marker, KINDS.index(kind), begins, start, size) for marker, kind, begins, start, size in why.parts], why.cause, why.place
+    except exifnorm.TooMany as many:
+        budget.spend(SEGMENTS, many.most + 1)  # which raises
+        raise
 
 
 def _read(stream: Stream, at: int, length: int) -> bytes:

@@ -6,7 +6,9 @@ an even length (Adobe Photoshop File Formats Specification, "Image Resource Bloc
 
 from __future__ import annotations
 
-from typing import List, NamedTuple, Sequence, Tuple
+from typing import List, Sequence, Tuple
+
+import exifnorm
 
 from ..budgets import LIMITS, RESOURCES, TooMuch
 from .found import EXIF, FEW, IPTC, XMP, Blocks
@@ -22,31 +24,18 @@ KEPT = (*_KINDS, _MORE_EXIF)  # the resources that are looked at
 _SIX = b"Exif\0\0"
 
 
-class Resource(NamedTuple):
-    """One resource."""
-
-    number: int
-    data: bytes
-
-
-def resources(data: bytes, most: int = LIMITS[RESOURCES]) -> Tuple[List[Resource], bytes]:
+def resources(data: bytes, most: int = LIMITS[RESOURCES]) -> Tuple[List[exifnorm.Resource], bytes]:
     """The resources, and the bytes after the last whole one, without zeros. Raises `TooMuch` for more than `most`.
 
     >>> resources(b"8BIM" + b"\\x04\\x04" + b"\\0\\0" + b"\\0\\0\\0\\x03" + b"abc\\0")
-    ([Resource(number=1028, data=b'abc')], b'')
+    ([Resource(number=1028, start=12, size=3)], b'')
     """
-    found: List[Resource] = []
-    at = 0
-    while data[at : at + 4] in SIGNATURES and at + 12 <= len(data):
-        start = at + 6 + (data[at + 6] + 2) // 2 * 2
-        length = int.from_bytes(data[start : start + 4], "big")
-        if start + 4 + length > len(data):
-            break
-        found.append(Resource(int.from_bytes(data[at + 4 : at + 6], "big"), data[start + 4 : start + 4 + length]))
-        if len(found) > most:
-            raise TooMuch(f"more than {most:,} {RESOURCES}")
-        at = start + 4 + length + length % 2
-    rest = data[at:]
+    try:
+        found = exifnorm.photoshop_resources(data, most)
+    except exifnorm.TooMany:
+        raise TooMuch(f"more than {most:,} {RESOURCES}") from None
+    end = found[-1].start + found[-1].size + found[-1].size % 2 if found else 0
+    rest = data[end:]
     return found, rest if rest.strip(b"\0") else b""
 
 
@@ -60,18 +49,18 @@ def add_resources(blocks: Blocks, runs: Sequence[Tuple[str, bytes]], part: str =
         found, rest = resources(data, most)
         if len(found) > FEW:
             blocks.budget.spend(RESOURCES, len(found))
-        for it in found:
-            add_one(blocks, it, where, part)
+        for number, start, size in found:
+            if number in KEPT:
+                add_one(blocks, number, data[start : start + size], where, part)
         if rest:
             blocks.leave(f"bytes behind the Photoshop resources in the {where}", rest)
 
 
-def add_one(blocks: Blocks, it: Resource, where: str, part: str = "") -> None:
-    """Adds the block of a resource, or names it. Other resources are passed over."""
-    place = f"Photoshop resource {it.number:04x} in the {where}"
-    kind = _KINDS.get(it.number)
-    if kind is not None:
-        data = it.data[len(_SIX) :] if kind == EXIF and it.data.startswith(_SIX) else it.data
-        blocks.add(kind, data, place, part)
-    elif it.number == _MORE_EXIF:
-        blocks.leave(place, it.data)
+def add_one(blocks: Blocks, number: int, data: bytes, where: str, part: str = "") -> None:
+    """Adds the block of a resource that is kept, or names it."""
+    place = f"Photoshop resource {number:04x} in the {where}"
+    kind = _KINDS.get(number)
+    if kind is None:
+        blocks.leave(place, data)
+    else:
+        blocks.add(kind, data[len(_SIX) :] if kind == EXIF and data.startswith(_SIX) else data, place, part)

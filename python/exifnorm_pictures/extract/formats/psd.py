@@ -69,7 +69,7 @@ def _add_resources(blocks: Blocks, stream: Stream, at: int, end: int) -> None:
         number = int.from_bytes(head[4:6], "big")
         if number in photoshop.KEPT:
             blocks.budget.spend(RESOURCE_BYTES, length)
-            photoshop.add_one(blocks, photoshop.Resource(number, read_at(stream, start, length)), "image resources")
+            photoshop.add_one(blocks, number, read_at(stream, start, length), "image resources")
         at = start + length + length % 2
     leave(blocks, "bytes behind the Photoshop resources in the image resources", stream, at, end)
 

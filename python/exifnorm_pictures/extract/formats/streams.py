@@ -13,7 +13,7 @@ from .found import Blocks, Broken, NotRead, length_of
 
 CHUNK = 1 << 18
 PIECE = 1 << 13  # bytes that are read at once where the parts are small
-HEAD = 1 << 15  # bytes of a file that are read at first
+HEAD = 1 << 16  # bytes of a file that are read at first: the head of nearly every picture
 
 
 class Stream(Protocol):
