@@ -72,8 +72,6 @@ def body_of(entry: Any, number: int) -> Body:
 def read_table(path: Path) -> Table:
     """The groups of a table: first the bodies of functions beside the named ones, and then those of changed functions."""
     table = json.loads(path.read_text(encoding="utf-8"))
-    if isinstance(table, list):
-        return [[], *([Body(**it) for it in group] for group in table)]
     if set(table) != {"beside", "in place"} or not table["beside"] or not all(table["in place"]):
         raise Misspelled(f"{path.name} is empty, or a group of it is")
     beside = [body_of(it, number) for number, it in enumerate(table["beside"], 1)]
@@ -95,10 +93,10 @@ class Verdict:
     proved: set[str]
 
     @classmethod
-    def read(cls, text: str, with_nameless: bool = False) -> Verdict:
-        """Reads what the compiler printed. Errors of names count only for the tables whose entries have no controls yet."""
+    def read(cls, text: str) -> Verdict:
+        """Reads what the compiler printed. An error of a name says nothing of a goal."""
         refused, waiting, proved = {}, set(), set()
-        errors = [(path, goal) for path, goal, why in REFUSED.findall(text) if with_nameless or not NAMELESS.search(why)]
+        errors = [(path, goal) for path, goal, why in REFUSED.findall(text) if not NAMELESS.search(why)]
         for name, outcome in FUNCTION.findall(text):
             if outcome == "proved":
                 proved.add(name)

@@ -57,8 +57,8 @@ class Prover:
         return text
 
     def first(self, crate: str, beside: Sequence[Body]) -> tuple[str, Path]:
-        """What the compiler prints about a crate with the bodies that stand beside its functions, and the folder of what it has kept. Without
-        such bodies the whole crate is checked. It is checked once in a run; other processes wait for it."""
+        """What the compiler prints about a crate with the bodies that stand beside its functions, and the folder of what it has kept. It is
+        checked once in a run; other processes wait for it."""
         kept, note = self.folder / crate, self.folder / f"{crate}.said"
         with open(self.folder / f"{crate}.lock", "w", encoding="ascii") as lock:
             fcntl.flock(lock, fcntl.LOCK_EX)
@@ -77,7 +77,7 @@ class Prover:
         with tempfile.TemporaryDirectory(dir=self.folder) as folder:
             kept = Path(folder) / "kept"
             link(first, kept)
-            return Verdict.read(self.check(crate, planted(table[number], controls), kept), with_nameless=not table[0])
+            return Verdict.read(self.check(crate, planted(table[number], controls), kept))
 
     def try_group(self, crate: str, table: Table, number: int, controls: bool, again: bool) -> Verdict | None:
         """The verdict on a group or on its controls; None if it has passed with the same sum."""

@@ -167,7 +167,7 @@ def test_a_wrong_row_of_a_table(tmp_path, change, why):
 @pytest.mark.parametrize("path", sorted(HERE.glob("px_*.json")), ids=lambda it: it.stem)
 def test_a_body_of_a_function_with_a_proof_by_hand_has_a_control(path):
     table = read_table(path)
-    assert not table[0] or without_control(table, HERE.parent.parent / "crates" / path.stem / "proofs") == []
+    assert without_control(table, HERE.parent.parent / "crates" / path.stem / "proofs") == []
 
 
 def test_examples_of_planting():
