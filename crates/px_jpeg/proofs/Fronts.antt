@@ -14,7 +14,7 @@ use Rattle.px_jpeg.specs.Reading.{is_part, part, size, starts, head_of, front_of
 use Rattle.px_jpeg.proofs.OnePart.{Reads, part_begins}
 use Rattle.px_jpeg.proofs.ManyParts.{size_ge, first_reads, first_left}
 use Rattle.px_jpeg.proofs.HeadLaws.{start_holds, start_off, fault_no_part, computed_said}
-use Rattle.px_jpeg.proofs.Walking.{part_end, reads, end_is, after, start_long}
+use Rattle.px_jpeg.proofs.Walking.{part_end, part_read, end_is, rest_after, start_long}
 
 -- ---- how far a walk has to go makes no difference
 
@@ -126,14 +126,14 @@ fault_front b HeadCut p (qs, rest, r, f) =
 
 module _ (b : List ℕ) (at : ℕ) (y : List ℕ) (q : Part) (e : y ≡ drop at b) (h : is_part y ≡ true) (v : q ≡ part at y) where
   pub last_front : is_last q.code ≡ true → front_left at (drop at b) ≡ q ∷ []
-  last_front l = ap (front_left at) (sym e) ∙ front_is_last at q (size y) y (reads b at y q e h v) l
+  last_front l = ap (front_left at) (sym e) ∙ front_is_last at q (size y) y (part_read b at y q e h v) l
 
   pub more_front : is_last q.code ≡ false
       → front_left at (drop at b) ≡ q ∷ front_left (q.start + q.size) (drop (q.start + q.size) b)
   more_front l =
-      ap (front_left at) (sym e) ∙ front_goes_on at q (size y) y (reads b at y q e h v) l
+      ap (front_left at) (sym e) ∙ front_goes_on at q (size y) y (part_read b at y q e h v) l
       ∙ ap (λ (n : ℕ). q ∷ front_left n (drop (size y) y)) (sym (end_is b at y q e h v))
-      ∙ ap (λ (z : List ℕ). q ∷ front_left (q.start + q.size) z) (after b at y q e h v)
+      ∙ ap (λ (z : List ℕ). q ∷ front_left (q.start + q.size) z) (rest_after b at y q e h v)
 
 -- ---- a head that was read
 

@@ -25,8 +25,8 @@ module _ (b : List ℕ) (at : ℕ) (y : List ℕ) (q : Part) (e : y ≡ drop at 
   begun : Begins at q (size y) y
   begun = subst (λ (s : Part). Begins at s (size y) y) (sym v) (part_begins at y h)
 
-  pub reads : Reads at q (size y) y
-  reads = record { there = h; value = sym v; sized = refl }
+  pub part_read : Reads at q (size y) y
+  part_read = record { there = h; value = sym v; sized = refl }
 
   pub end_is : q.start + q.size ≡ at + size y
   end_is = part_end at q begun.front begun.is ∙ ap (λ (n : ℕ). at + n) begun.long
@@ -38,14 +38,14 @@ module _ (b : List ℕ) (at : ℕ) (y : List ℕ) (q : Part) (e : y ≡ drop at 
   part_inside n =
       omega (arith, end_is, begun.long, ap length begun.whole, length-append begun.front (drop (size y) y), ap length e, length-drop at b)
 
-  pub after : drop (size y) y ≡ drop (q.start + q.size) b
-  after = ap (drop (size y)) e ∙ drop-drop (size y) at b ∙ ap (λ (n : ℕ). drop n b) (sym end_is)
+  pub rest_after : drop (size y) y ≡ drop (q.start + q.size) b
+  rest_after = ap (drop (size y)) e ∙ drop-drop (size y) at b ∙ ap (λ (n : ℕ). drop n b) (sym end_is)
 
   module _ (ps : List Part) (r : Behind b ps (drop at b) at) where
     whole_is : b ≡ 255 ∷ 216 ∷ ((r.front ++ begun.front) ++ drop (q.start + q.size) b)
     whole_is =
         r.whole
-        ∙ ap (λ (z : List ℕ). 255 ∷ 216 ∷ (r.front ++ z)) (sym e ∙ begun.whole ∙ ap (λ (z : List ℕ). begun.front ++ z) after)
+        ∙ ap (λ (z : List ℕ). 255 ∷ 216 ∷ (r.front ++ z)) (sym e ∙ begun.whole ∙ ap (λ (z : List ℕ). begun.front ++ z) rest_after)
         ∙ ap (λ (z : List ℕ). 255 ∷ 216 ∷ z) (sym (append_assoc r.front begun.front (drop (q.start + q.size) b)))
 
     pub next_behind : is_last q.code ≡ false → Behind b (ps ++ q ∷ []) (drop (q.start + q.size) b) (q.start + q.size)
