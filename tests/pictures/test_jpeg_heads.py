@@ -1,6 +1,7 @@
 """The head of a JPEG, which the library reads, beside a walk in Python over its segments: on made heads of every kind, and on damaged ones;
 what a picture costs, and a library that fails."""
 
+import hashlib
 import io
 import os
 import random
@@ -160,6 +161,17 @@ def test_further_pictures():
         there = Walk(octets, start, "MPF picture 2").blocks
         found = jpeg_.read(io.BytesIO(octets))
         assert found.found[1:] == there.found and found.not_read == there.not_read, pieces
+
+
+def test_what_ends_as_a_picture_does():
+    """A marker at the end of a file that isn't the end mark, an end mark behind a picture without a scan, and bytes after odd resources."""
+    for octets, what in (
+        (SMALL_JPEG[:-2] + b"\xff\xe1", "metadata segment behind the first scan"),
+        (b"\xff\xd8" + app1(A) + b"\xff\xd9" + b"trailer\xff\xd9", "trailer of 9 bytes"),
+    ):
+        assert [it.what for it in jpeg_.read(io.BytesIO(octets)).not_read] == [what]
+    octets = jpeg(app13(resource(0x0404, b"odd") + b"rest"))
+    assert jpeg_.read(io.BytesIO(octets)).not_read[0].digest == hashlib.sha256(b"rest").hexdigest()
 
 
 def test_segments_of_a_coded_picture():
