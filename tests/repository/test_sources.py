@@ -263,8 +263,8 @@ def test_functions_are_short_and_take_few_parameters():
 
 
 def test_lines_are_short():
-    """Except attributes, which `rt fmt` keeps on one line."""
-    paths = [it for pattern in ("src/*.rt", "specs/**/*.antt", "proofs/**/*.antt") for it in sorted(TOP.glob(f"crates/*/{pattern}"))]
+    """Except attributes, which `rt fmt` keeps on one line. Proofs have long terms, which nobody reads to know what is promised."""
+    paths = [it for pattern in ("src/*.rt", "specs/**/*.antt") for it in sorted(TOP.glob(f"crates/*/{pattern}"))]
     lines = [(path, number, line) for path in paths for number, line in enumerate(path.read_text(encoding="utf-8").splitlines(), 1)]
     assert [f"{path}:{number}" for path, number, line in lines if len(line) > COLUMNS and "#[tactic(" not in line] == []
 

@@ -42,7 +42,7 @@ use statuses::{DONE, NO_MEMORY, REFUSED, SECOND_REFUSED, TOO_LITTLE_ROOM, TOO_LO
 use std::alloc::Global;
 
 /// Stores the kind of the block in a file in `kind`: 1 for Exif, 2 for IIM. It keeps nothing of the block.
-/// Allocates a bit for each byte of an Exif block, and the entries of its thumbnail directory.
+/// Allocates a bit for each byte of an Exif block, and the fields of its thumbnail directory.
 ///
 /// `REFUSED`: the file has no meaning, and `fault` is its block's first fault. `NO_MEMORY`: an allocation
 /// failed. Only success changes `kind`, and only a refusal changes `fault`.

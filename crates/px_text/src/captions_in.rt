@@ -46,9 +46,11 @@ fn push_item<'a>(
     ensures list { OnOk result (map caption_view list.new.items ≡ map caption_view list.old.items ++ filter_map labelled
         (item_view item.entry ∷ [])) }
     ensures memory { Lacks result memory.old memory.new }
-    ensures asked { memory.new.asked ≤ spent memory.old (vec_len list.old) (vec_capacity list.old) + caption_bytes * length (filter_map labelled (item_view item.entry ∷ [])) }
+    ensures asked { memory.new.asked ≤ spent memory.old (vec_len list.old) (vec_capacity list.old)
+        + caption_bytes * length (filter_map labelled (item_view item.entry ∷ [])) }
     ensures paid { OnOk result (spent memory.new (vec_len list.new) (vec_capacity list.new)
-        ≤ spent memory.old (vec_len list.old) (vec_capacity list.old) + caption_bytes * length (filter_map labelled (item_view item.entry ∷ []))) }
+        ≤ spent memory.old (vec_len list.old) (vec_capacity list.old)
+        + caption_bytes * length (filter_map labelled (item_view item.entry ∷ []))) }
 {
     match label_of(item.number) {
         Some(label) => {
@@ -74,9 +76,11 @@ fn push_group<'a>(
     ensures list { OnOk result (map caption_view list.new.items ≡ map caption_view list.old.items ++ filter_map labelled
         (map item_view items.now)) }
     ensures memory { Lacks result memory.old memory.new }
-    ensures asked { memory.new.asked ≤ spent memory.old (vec_len list.old) (vec_capacity list.old) + caption_bytes * length (filter_map labelled (map item_view items.now)) }
+    ensures asked { memory.new.asked ≤ spent memory.old (vec_len list.old) (vec_capacity list.old)
+        + caption_bytes * length (filter_map labelled (map item_view items.now)) }
     ensures paid { OnOk result (spent memory.new (vec_len list.new) (vec_capacity list.new)
-        ≤ spent memory.old (vec_len list.old) (vec_capacity list.old) + caption_bytes * length (filter_map labelled (map item_view items.now))) }
+        ≤ spent memory.old (vec_len list.old) (vec_capacity list.old)
+        + caption_bytes * length (filter_map labelled (map item_view items.now))) }
 {
     for item in items {
         push_item(memory, *item, list)?;
@@ -93,7 +97,8 @@ fn push_record<'a>(
 ) -> Result<(), Refused>
     ensures list { OnOk result (map caption_view list.new.items ≡ map caption_view list.old.items ++ iim_captions iim.now) }
     ensures memory { Lacks result memory.old memory.new }
-    ensures asked { memory.new.asked ≤ spent memory.old (vec_len list.old) (vec_capacity list.old) + caption_bytes * length (iim_captions iim.now) }
+    ensures asked { memory.new.asked ≤ spent memory.old (vec_len list.old) (vec_capacity list.old)
+        + caption_bytes * length (iim_captions iim.now) }
     ensures paid { OnOk result (spent memory.new (vec_len list.new) (vec_capacity list.new)
         ≤ spent memory.old (vec_len list.old) (vec_capacity list.old) + caption_bytes * length (iim_captions iim.now)) }
 {
@@ -152,9 +157,11 @@ fn push_text<'a>(
     ensures list { OnOk result (map caption_view list.new.items ≡ map caption_view list.old.items ++ text_captions label
         (at_tag tag fields.now)) }
     ensures memory { Lacks result memory.old memory.new }
-    ensures asked { memory.new.asked ≤ spent memory.old (vec_len list.old) (vec_capacity list.old) + caption_bytes * length (text_captions label (at_tag tag fields.now)) }
+    ensures asked { memory.new.asked ≤ spent memory.old (vec_len list.old) (vec_capacity list.old)
+        + caption_bytes * length (text_captions label (at_tag tag fields.now)) }
     ensures paid { OnOk result (spent memory.new (vec_len list.new) (vec_capacity list.new)
-        ≤ spent memory.old (vec_len list.old) (vec_capacity list.old) + caption_bytes * length (text_captions label (at_tag tag fields.now))) }
+        ≤ spent memory.old (vec_len list.old) (vec_capacity list.old)
+        + caption_bytes * length (text_captions label (at_tag tag fields.now))) }
 {
     let Some(value) = fields.get(tag) else {
         return Ok(());
@@ -174,7 +181,8 @@ fn push_texts<'a>(
 ) -> Result<(), Refused>
     ensures list { OnOk result (map caption_view list.new.items ≡ map caption_view list.old.items ++ exif_captions fields.now) }
     ensures memory { Lacks result memory.old memory.new }
-    ensures asked { memory.new.asked ≤ spent memory.old (vec_len list.old) (vec_capacity list.old) + caption_bytes * length (exif_captions fields.now) }
+    ensures asked { memory.new.asked ≤ spent memory.old (vec_len list.old) (vec_capacity list.old)
+        + caption_bytes * length (exif_captions fields.now) }
     ensures paid { OnOk result (spent memory.new (vec_len list.new) (vec_capacity list.new)
         ≤ spent memory.old (vec_len list.old) (vec_capacity list.old) + caption_bytes * length (exif_captions fields.now)) }
 {

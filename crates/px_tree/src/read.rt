@@ -138,8 +138,9 @@ pub fn read_block<'a>(alloc: Global, block: Block<'a>) -> Result<Meaning<'a>, Re
 /// directory, of type BYTE or UNDEFINED, are a record if they can be read as one, and otherwise a field.
 ///
 /// The values, the JPEG and the strips borrow the block's bytes. Allocates the fields, the record, and the
-/// claimed ranges while it reads. It asks for at most eight bytes for each byte of the block, and 262,152. The cost is linear in the block's length. `Content`: the cause and byte offset (at most
-/// `LIMIT`) of the block's first fault; it has no meaning. `OutOfMemory`: an allocation failed.
+/// claimed ranges while it reads. It asks for at most eight bytes for each byte of the block, and 262,152.
+/// The cost is linear in the block's length. `Content`: the cause and byte offset (at most `LIMIT`) of the
+/// block's first fault; it has no meaning. `OutOfMemory`: an allocation failed.
 pub fn read_block_in<'a>(memory: &mut Memory, block: Block<'a>) -> Result<Meaning<'a>, Refusal>
     ensures says { IfOk result (λ m. SaysExif block.entry (meaning_of m)) }
     ensures fits { IfOk result (λ m. Fits (meaning_of m)) }
