@@ -104,6 +104,45 @@ def test_a_program_that_rt_ci_has_proved_is_taken(gate, line):
     assert "out/proved-since" in call(gate).stdout.splitlines()
 
 
+def build(gate):
+    """What a build and earlier runs leave in out/."""
+    (gate / "out" / "proved").mkdir(parents=True)
+    (gate / "out" / "proved" / "lib.rt").write_text("of an earlier build", encoding="ascii")
+    (gate / "out" / "exifnorm").symlink_to("proved/px_cli")
+
+
+REFUSES = "[ -z \"$(find . -name .git -prune -o -name '*.rt' -print -o -type l -print)\" ] || exit 2\n"  # as `rt ci` does
+
+
+@pytest.mark.parametrize("has_git", [True, False])
+@pytest.mark.parametrize("script, status", [(COMMANDS["rt"], 0), ("exit 1", 1)], ids=["proved", "not proved"])
+def test_rt_ci_does_not_see_what_a_build_has_left(gate, has_git, script, status):
+    """And it is there again afterwards."""
+    if has_git:
+        subprocess.run(["git", "init", "-q", gate], check=True)
+    build(gate)
+    put(gate, rt=REFUSES + script)
+    assert call(gate).returncode == status
+    assert (gate / "out" / "proved" / "lib.rt").exists()
+    assert not os.path.exists(f"{gate}.out")
+
+
+def test_after_a_run_that_was_killed(gate):
+    """What a build has left is there again after the next run."""
+    subprocess.run(["git", "init", "-q", gate], check=True)
+    build(gate)
+    put(gate, rt='echo $$ >"$PWD/started"; exec sleep 600')
+    started = subprocess.Popen(["setsid", "./test"], cwd=gate, env=environment(gate), stdin=subprocess.DEVNULL, stdout=subprocess.DEVNULL)
+    while not (gate / "started").exists():
+        time.sleep(0.05)
+    os.killpg(os.getpgid(int((gate / "started").read_text(encoding="ascii"))), signal.SIGKILL)
+    started.wait(timeout=60)
+    assert not (gate / "out" / "proved").exists(), "it was put back though the run was killed, so this test shows nothing"
+    put(gate, rt=REFUSES + COMMANDS["rt"])
+    assert call(gate).returncode == 0
+    assert (gate / "out" / "proved" / "lib.rt").exists()
+
+
 def test_a_choice_proves_nothing(gate):
     put(gate, rt="echo proving", make="echo building")
     ran = call(gate, "tests/pictures", "--only", "a text, [with] brackets")
