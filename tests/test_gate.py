@@ -114,6 +114,14 @@ def build(gate):
 REFUSES = "[ -z \"$(find . -name .git -prune -o -name '*.rt' -print -o -type l -print)\" ] || exit 2\n"  # as `rt ci` does
 
 
+def test_the_build_takes_what_rt_ci_has_just_proved(gate):
+    """`rt ci` puts libraries of earlier runs back in place of its own, and the build takes its own only."""
+    library = gate / "crates" / "px_c" / "out" / "rlib"
+    library.mkdir(parents=True)
+    put(gate, rt="[ ! -e crates/px_c/out/rlib ] || exit 1\n" + COMMANDS["rt"])
+    assert call(gate).returncode == 0
+
+
 @pytest.mark.parametrize("has_git", [True, False])
 @pytest.mark.parametrize("script, status", [(COMMANDS["rt"], 0), ("exit 1", 1)], ids=["proved", "not proved"])
 def test_rt_ci_does_not_see_what_a_build_has_left(gate, has_git, script, status):
