@@ -273,6 +273,7 @@ def test_instructions_for_each_part(costs, call, one, most):
     """However many there are, and with no allocation."""
     ends = (b"\xff\xd8", b"\xff\xd9") if call == "jpeg_parts" else (b"", b"")
     few, many = (ends[0] + one * count + ends[1] for count in (100, 1100))
-    assert costs.counts(call, many) == (0, 0, 0)
+    counts = costs.counts(call, many)
+    assert (counts.peak, counts.allocations, counts.asked) == (0, 0, 0)
     each = (costs.instructions(call, many) - costs.instructions(call, few)) / 1000
     assert most / 2 <= each <= most, f"{each:.1f} instructions for each"

@@ -7,11 +7,13 @@ is run. A block of `text` that follows is the end of what was printed.
 
 from __future__ import annotations
 
+import math
 import os
 import re
 import shutil
 import subprocess
 import sys
+from fractions import Fraction
 from pathlib import Path
 from typing import Iterator, NamedTuple
 
@@ -19,6 +21,7 @@ import exifnorm
 import header
 import pytest
 from made_blocks import BLOCKS, with_exif
+from proved import bounds
 
 TOP = Path(__file__).resolve().parent.parent.parent
 DOCUMENTS = sorted([*TOP.glob("*.md"), *TOP.glob("docs/*.md"), *TOP.glob("*/README.md"), *TOP.glob("crates/*/*.md")])
@@ -26,6 +29,7 @@ WHOLE = ("README.md", "docs/TUTORIAL.md", "docs/CATALOGUE.md", "docs/JSON.md")  
 BY_SECTION = ("docs/RECIPES.md", "docs/REFUSALS.md")
 HEADER = "crates/px_c/include/exifnorm.h"
 TOOLS = ("exiftool", "exiv2", "convert", "parallel", "sqlite3", "perl")
+PERIOD = 64 * 5 * 8  # a number of bytes for which each division in a bound is exact
 STRICT = ("-std=c99", "-Wall", "-Wextra", "-pedantic", "-Werror")
 COMPARES = re.compile(r"\bexifnorm(?:-pictures)? (?:changed|compare)\b[^|&]*\Z")  # a last command that may end with status 1
 
@@ -260,21 +264,13 @@ def test_the_limit_is_the_same_everywhere() -> None:
 
 
 def test_the_promised_memory_is_that_of_the_definitions() -> None:
-    """Bytes for each byte of a block, and of a file that is read. A mark is a bit, and marks are requested twice; a DataSet has at least five
-    bytes."""
-
-    def defined(crate: str, pattern: str, file: str = "Asking") -> list[int]:
-        return [int(it) for it in re.search(rf"(?m)^{pattern}$", text_of(f"crates/{crate}/specs/{file}.antt")).groups()]
-
-    (fields,) = defined("px_tree", r"fields_request n = (\d+) \* n")
-    (marks,) = defined("px_tree", r"exif_request n = fields_request n \+ (\d+) \* mark_bytes n \+ iim_request n")
-    mark, most, part = defined("px_bytes", r"mark_bytes end = (\d+) \* \(\(end \+ (\d+)\) / (\d+)\)", "Held")
-    (item,), (counters,) = defined("px_iim", r"item_bytes = (\d+)"), defined("px_iim", r"counter_bytes = (\d+)")
-    (least,) = defined("px_iim", r"iim_request n = item_bytes \* \(n / (\d+)\) \+ counter_bytes")
-    each, more = defined("px_engine", r"file_request n = (\d+) \* n \+ (\d+) \+ block_request n")
-    block, rest = fields + marks * mark / part + item / least, counters + marks * mark * most // part + 1
-    promised = [(f"{block:.2f}", f"{rest:,}"), (f"{block + each:.2f}", f"{rest + more:,}")]
-    pattern = r"requests at most ([\d.]+) bytes for each .*? and ([\d,]+) more"
+    """Bytes for each byte of a block, and of a file that is read, and the most that there are more: a mark is a bit, in whole words."""
+    promised = []
+    for request in (bounds().block_request, bounds().file_request):
+        each = Fraction(request(PERIOD) - request(0), PERIOD)
+        more = max(math.ceil(request(n) - each * n) for n in range(1000))
+        promised.append((f"{math.ceil(100 * each) / 100:.2f}", f"{more:,}"))
+    pattern = r"at most (\d+\.\d+) bytes [^|]*?\beach [^|]*?\band ([\d,]+) more"
     found = {name: re.findall(pattern, text_of(name)) for name in ("docs/PROOFS.md", "SECURITY.md")}
     assert (set(found["docs/PROOFS.md"]), found["SECURITY.md"]) == (set(promised), [promised[1]])
 
