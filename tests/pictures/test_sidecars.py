@@ -172,7 +172,7 @@ class TestChanged:
             write(self.folder / side / "y.jpg", b"<html>")
         assert results(called_lines, "b", "a", "--sidecars") == (0, {})
         write(self.folder / "a" / "y.xmp", OTHER)
-        assert results(called_lines, "b", "a", "--sidecars") == (1, {"y.jpg": "not read, different bytes"})
+        assert results(called_lines, "b", "a", "--sidecars") == (1, {"y.jpg": "no picture, different bytes"})
 
 
 class TestCatalogue:
