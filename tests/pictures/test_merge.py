@@ -83,6 +83,10 @@ class Merge(InFolder):
                 self.assertEqual(len(self.complaint.splitlines()), 1)
                 self.assertEqual(self.contents("all"), before, "nothing was added")
 
+    def test_a_mistyped_name_makes_no_catalogue(self):
+        self.asked("merge", "one.c", "missing", "--catalogue", "all", status=4)
+        self.assertFalse(os.path.exists(self.path("all")), "it would seem to be a catalogue of no pictures")
+
     def test_a_full_disk(self):
         self.asked("merge", "one.c", "--catalogue", "all")
         before = self.contents("all")
