@@ -60,6 +60,13 @@ def test_a_file_of_which_nothing_is_left(asked, folder, octets, words):
     assert asked("index", "p", "--catalogue", "c")[0] == f"{folder}/p/b.jpg: NoPicture: {words}"
 
 
+@pytest.mark.parametrize("names", [("p", "q"), ("q", "p")])
+def test_a_mistyped_name_for_changed(called, folder, names):
+    (folder / "p").mkdir()
+    status, _, message = called("changed", *names)
+    assert status == 4 and "no folder or catalogue q" in message
+
+
 def test_a_mistyped_folder_makes_no_catalogue(asked, folder):
     asked("index", "q", "r", "--catalogue", "c", "--quiet", status=3)
     assert not (folder / "c").exists()

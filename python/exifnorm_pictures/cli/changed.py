@@ -39,6 +39,7 @@ class NotRead(Failure):
 
 def run(arguments: argparse.Namespace) -> int:
     """Prints the differences between two states."""
+    _refuse_missing(arguments.before, arguments.after)
     refuse_pictures(arguments.before, arguments.after)
     _refuse_for_catalogues(arguments)
     names = from_list(arguments)
@@ -94,6 +95,17 @@ def status_of(counts: "Counter[str]") -> int:
     if any(counts[it] for it in changes.OPEN):
         return UNKNOWN
     return DIFFERENCE if any(counts[it] for it in changes.DIFFERENCES) else SUCCESS
+
+
+def _refuse_missing(*names: str) -> None:
+    """Raises `NoCatalogue` if nothing has one of these names."""
+    for it in names:
+        try:
+            os.stat(it)
+        except FileNotFoundError:
+            raise NoCatalogue(f"there is no folder or catalogue {it}") from None
+        except OSError:  # it may be there
+            pass
 
 
 def _refuse_for_catalogues(arguments: argparse.Namespace) -> None:
