@@ -227,9 +227,9 @@ class Words(WithPictures):
             ((), "are required: COMMAND"),
             (("nothing",), "COMMAND: invalid choice: 'nothing'"),
             (("index",), "are required: --catalogue"),
-            (("show",), ": show: "),
-            (("report", "--catalogue", "c"), ": report: "),
-            (("mend", "a"), ": mend: "),
+            (("show",), " show: "),
+            (("report", "--catalogue", "c"), " report: "),
+            (("mend", "a"), " mend: "),
         ):
             with self.subTest(words):
                 self.asked(*words, status=3)

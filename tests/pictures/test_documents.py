@@ -92,14 +92,14 @@ class Documents(WithPictures):
     def test_options_of_the_manual_page(self):
         """It has each command and option, and no other one."""
         page = read(os.path.join(TOP, "docs", "exifnorm-pictures.1")).decode().partition(".SH EXAMPLES")[0].replace("\\-", "-")
-        commands = parser.parser()._subparsers._group_actions[0].choices
+        commands = parser.parsers()[1]
         options = {word for it in commands.values() for one in it._actions for word in one.option_strings} | {"--version"}
         self.assertEqual(set(re.findall(r"(?<![\w-])--[a-z][a-z-]*[a-z]", page)), {it for it in options if it.startswith("--")})
         self.assertEqual(re.findall(r'(?m)^\.TP\n\.BI "(\w+) ', page), [*commands])
 
     def test_statuses_of_the_manual_page(self):
         """It and --help name the same commands at each."""
-        whole = parser.parser()
+        whole = parser.parsers()[0]
         names = whole._subparsers._group_actions[0].choices
         page = read(os.path.join(TOP, "docs", "exifnorm-pictures.1")).decode().partition(".SH EXIT STATUS\n")[2].partition(".SH ")[0]
         parts = re.split(r"(?m)^\.TP\n\.B (\d+)\n", page)

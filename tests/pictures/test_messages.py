@@ -32,8 +32,7 @@ class CommandLine(unittest.TestCase):
     def test_help(self):
         """All arguments with their texts, in golden/help.txt."""
         with mock.patch.dict(os.environ, COLUMNS="120"):
-            whole = parser.parser()
-            commands = whole._subparsers._group_actions[0].choices
+            whole, commands = parser.parsers()
             end = whole.format_help().partition("\n\nStatuses:")[2]
             texts = [it.format_help() for it in commands.values()]
         self.assertEqual({it.partition("\n\nStatuses:")[2] for it in texts}, {end})
@@ -47,12 +46,12 @@ class CommandLine(unittest.TestCase):
         self.assertEqual(self.parsed("mend a b --limit 999999").limit, 999999.0)
 
     def parsed(self, text):
-        return parser.parser().parse_args(text.split())
+        return parser.parsed(text.split())
 
     def refused(self, *words):
         """What is printed about refused arguments, and the status."""
         with contextlib.redirect_stderr(io.StringIO()) as printed, self.assertRaises(SystemExit) as ended:
-            parser.parser().parse_args(words)
+            parser.parsed(words)
         usage, last = re.fullmatch(r"(?s)usage: (exifnorm-pictures[ \w]*).*\n(.*)\n", printed.getvalue()).groups()
         self.assertEqual((ended.exception.code, last.partition(":")[0]), (3, usage.strip()))
         return last.partition(": ")[2]
@@ -79,6 +78,35 @@ class CommandLine(unittest.TestCase):
             (("merge", "a", "--catalogue", ""), "argument --catalogue: a name is empty"),
         ):
             self.assertEqual(self.refused(*words), message, words)
+
+    def test_an_option_between_names(self):
+        for words, names_ in (
+            ("show a --json b", ["a", "b"]),
+            ("show a --limit 3 b --json c", ["a", "b", "c"]),
+            ("show -- -a --json", ["-a", "--json"]),
+            ("show a --json -- -b", ["a", "-b"]),
+            ("mend a --json b", ["a", "b"]),
+            ("index a --catalogue c b", ["a", "b"]),
+        ):
+            found = vars(parser.parsed(words.split()))
+            self.assertEqual(next(found[it] for it in ("pictures", "names", "folders") if it in found), names_, words)
+            self.assertEqual(found["command"], words.split()[0])
+
+    def test_a_wrong_argument_shows_the_usage_of_its_command(self):
+        for words, message in (
+            ("show a --nonsense", "unrecognized arguments: --nonsense"),
+            ("show a --json b --nonsense", "unrecognized arguments: --nonsense"),
+            ("compare a --json b c", "unrecognized arguments: c"),
+            ("show a --csv b --json", "argument --json: not allowed with argument --csv"),
+            ("--nonsense show a", "unrecognized arguments: --nonsense"),
+        ):
+            self.assertEqual(self.refused(*words.split()), message, words)
+
+    def test_help_fits_into_a_terminal(self):
+        with mock.patch.dict(os.environ, COLUMNS="80"):
+            whole, commands = parser.parsers()
+            texts = [it.format_help() for it in (whole, *commands.values())]
+        self.assertEqual([line for text in texts for line in text.splitlines() if len(line) > 80], [])
 
 
 class Stream(io.StringIO):
@@ -233,14 +261,14 @@ class Messages(WithPictures):
         self.assertEqual(self.raised(walk.BadList, names.named, asked, ["a\0b"]), "a name contains a NUL")
         with contextlib.redirect_stderr(io.StringIO()) as printed, self.assertRaises(SystemExit) as ended:
             names.named(asked, [])
-        self.assertEqual((printed.getvalue().splitlines()[-1], ended.exception.code), ("exifnorm-pictures: show: no name was given", 3))
+        self.assertEqual((printed.getvalue().splitlines()[-1], ended.exception.code), ("exifnorm-pictures show: no name was given", 3))
         asked = argparse.Namespace(files_from=self.path("list"), null=True)
         self.assertEqual(names.named(asked, ["x", "y"]), [b"x", b"y", b"a", b"b"])
         self.assertEqual(names.chosen_paths(asked), {os.path.abspath(b"a"), os.path.abspath(b"b")})
         with contextlib.redirect_stderr(io.StringIO()) as printed, self.assertRaises(SystemExit) as ended:
             report.run(argparse.Namespace(html=None, json=False))
         self.assertEqual(
-            (printed.getvalue().splitlines()[-1], ended.exception.code), ("exifnorm-pictures: report: give --html PAGE, --json, or both", 3)
+            (printed.getvalue().splitlines()[-1], ended.exception.code), ("exifnorm-pictures report: give --html PAGE, --json, or both", 3)
         )
 
     def test_of_files_that_are_not_replaced(self):

@@ -53,7 +53,7 @@ def archive(folder, called):
 @pytest.mark.parametrize("command", [name for name, *_ in parser._COMMANDS])
 def test_each_option_is_looked_at(command, archive, capsys):
     """An option that no statement looks at would be accepted and have no effect. `main` itself looks at --debug."""
-    arguments = parser.parser().parse_args([command, *COMMANDS[command]], Recorded())
+    arguments = parser.parsers()[0].parse_args([command, *COMMANDS[command]], Recorded())
     accepted = set(vars(arguments)) - {"read", "command", "version", "debug"}
     arguments.read.clear()
     importlib.import_module(f"exifnorm_pictures.cli.{command}").run(arguments)

@@ -281,14 +281,14 @@ class Lines(WithPictures):
             [(b"x/a.jpg", out + b"/x/a.jpg"), (b"/y/b.jpg", out + b"/y/b.jpg")],
         )
         for names, files_from, message in (
-            (["a"], None, "mend: give PICTURE and OUT"),
-            (["a", "b", "c"], None, "mend: give PICTURE and OUT"),
-            (["a", "b"], "-", "mend: with --files-from give the folder OUT alone, which must be there"),
-            ([self.path("file")], "-", "mend: with --files-from give the folder OUT alone, which must be there"),
+            (["a"], None, "give PICTURE and OUT"),
+            (["a", "b", "c"], None, "give PICTURE and OUT"),
+            (["a", "b"], "-", "with --files-from give the folder OUT alone, which must be there"),
+            ([self.path("file")], "-", "with --files-from give the folder OUT alone, which must be there"),
         ):
             with contextlib.redirect_stderr(io.StringIO()) as lines, self.assertRaises(SystemExit) as ended:
                 self.pairs(names, files_from, [b"x"])
-            self.assertEqual((lines.getvalue().splitlines()[-1], ended.exception.code), (f"exifnorm-pictures: {message}", 3))
+            self.assertEqual((lines.getvalue().splitlines()[-1], ended.exception.code), (f"exifnorm-pictures mend: {message}", 3))
 
 
 class Problems(unittest.TestCase):

@@ -14,7 +14,7 @@ from typing import Optional, Sequence
 from . import signals
 from .exit_codes import FAILURE, STOPPED
 from .output import described, reason, shown_path
-from .parser import parser
+from .parser import parsed
 
 COLLECTED = 50_000  # objects after which Python looks for rings of objects: what a picture needs makes none, so mostly it looks in vain
 
@@ -43,7 +43,7 @@ def main(words: Optional[Sequence[str]] = None) -> int:
 def _run(words: Optional[Sequence[str]]) -> int:
     try:
         signals.set_debug(False)
-        arguments = parser().parse_args(words)
+        arguments = parsed(words)
         signals.set_debug(arguments.debug)
         # importing the modules of all commands would take longer than most commands do
         command = importlib.import_module(f".{arguments.command}", __package__)

@@ -13,7 +13,7 @@ from ..refusals import mend, steps
 from .exit_codes import DIFFERENCE, FAILURE, SUCCESS, UNKNOWN
 from .names import from_list
 from .output import Members, output, path_members, shown_path
-from .parser import parser
+from .parser import refuse
 
 
 def run(arguments: argparse.Namespace) -> int:
@@ -48,11 +48,11 @@ def _pairs(arguments: argparse.Namespace) -> Iterator[Tuple[bytes, bytes]]:
     names = [os.fsencode(it) for it in arguments.names]
     if arguments.files_from:
         if len(names) != 1 or not os.path.isdir(names[0]):
-            parser().error("mend: with --files-from give the folder OUT alone, which must be there")
+            refuse("mend", "with --files-from give the folder OUT alone, which must be there")
         for it in from_list(arguments) or []:
             yield it, os.path.join(names[0], _below(it))
     elif len(names) != 2:
-        parser().error("mend: give PICTURE and OUT")
+        refuse("mend", "give PICTURE and OUT")
     else:
         yield names[0], names[1]
 

@@ -10,14 +10,14 @@ from ..files.opening import reading
 from ..scan.walk import BadList, listed
 from .exit_codes import USAGE
 from .output import shown_path
-from .parser import parser
+from .parser import refuse
 from .signals import Failure
 
 
 def from_list(arguments: argparse.Namespace) -> Optional[List[bytes]]:
     """The names of --files-from."""
     if arguments.null and not arguments.files_from:
-        parser().error(f"{arguments.command}: -0 is for the names of --files-from")
+        refuse(arguments.command, "-0 is for the names of --files-from")
     return listed(arguments.files_from, arguments.null) if arguments.files_from else None
 
 
@@ -31,7 +31,7 @@ def named(arguments: argparse.Namespace, names: Sequence[str]) -> List[bytes]:
     """The names of the arguments and of the list together; at least one."""
     found = [os.fsencode(it) for it in names] + (from_list(arguments) or [])
     if not found and not arguments.files_from:
-        parser().error(f"{arguments.command}: no name was given")
+        refuse(arguments.command, "no name was given")
     if any(b"\0" in it for it in found):
         raise BadList("a name contains a NUL")
     return found

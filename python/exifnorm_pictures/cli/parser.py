@@ -4,7 +4,7 @@ from __future__ import annotations
 
 import argparse
 import sys
-from typing import IO, Callable, NoReturn, Optional, Tuple
+from typing import IO, Callable, Dict, NoReturn, Optional, Sequence, Tuple
 
 from ..catalogue.records import KIND_OF
 from .exit_codes import USAGE
@@ -14,24 +14,36 @@ PIXELS = "pixels"  # the kind of groups with the same coded picture
 SECONDS = 60.0  # that a program may take for one file
 
 _STATUSES = """Statuses:
-  0    done, or the same (index: also if pictures are refused, which the catalogue records)
-  1    different (changed, compare: something differs, also after repair, was moved or is missing; same: MakerNotes of a
-       group differ in bytes; conflicts: a picture contradicts itself; mend: the copy differs in a printed value)
-  2    it can't be decided wholly (changed, compare, show, captions, conflicts, explain: a block is refused or unreadable, or a
-       picture or a part wasn't read; changed, compare, same: the same only after a repair, or but for a MakerNote; same: or
-       they may be so; index: a picture that should be readable isn't, or a program failed at it; mend: no remedy worked, or
-       the picture wasn't read)
-  3    bad arguments, or names that lead to nothing
-  4    the command itself failed: the catalogue, a stream, an output file, the disk or the memory
-  130  stopped by the keyboard; reported results are kept, and the same command continues from there
-If several apply, the status is the greatest of them. SIGTERM and SIGHUP end the command by that signal.
+  0    done, or the same (index: also if pictures are refused, which the
+       catalogue records)
+  1    different (changed, compare: something differs, also after repair, was
+       moved or is missing; same: MakerNotes of a group differ in bytes;
+       conflicts: a picture contradicts itself; mend: the copy differs in a
+       printed value)
+  2    it can't be decided wholly (changed, compare, show, captions, conflicts,
+       explain: a block is refused or unreadable, or a picture wasn't read;
+       changed, compare: or a part of one wasn't; changed, compare, same: the
+       same only after a repair, or but for a MakerNote; same: or they may be
+       so; index: a picture that should be readable isn't, or a program failed
+       at it; mend: no remedy worked, or the picture wasn't read)
+  3    bad arguments; index: no name leads to a folder or a file
+  4    the command itself failed: the catalogue, a stream, an output file, the
+       disk or the memory
+  130  stopped by the keyboard; reported results are kept, and the same command
+       continues from there
+If several apply, the status is the greatest of them. SIGTERM and SIGHUP end
+the command by that signal.
 
-A file that can't be read, is gone, is no picture or has no block is reported in a line, and the other files are still looked
-at. In names, control characters and undecodable bytes are escaped. With --json each line is one object; it has the name as
-"path", and also as "path_hex" if the name is no UTF-8.
+A file that can't be read, is gone, is no picture or has no block is reported
+in a line, and the other files are still looked at. In names, control
+characters and undecodable bytes are escaped. With --json each line is one
+object; it has the name as "path", and also as "path_hex" if the name is no
+UTF-8.
 
-Two Exif blocks, or two IPTC records, mean the same if their normal forms are equal, which is proved. XMP is compared by its
-statements, which is tested, and not proved. ExifTool reads the formats that have no reader here (Debian: libimage-exiftool-perl)."""
+Two Exif blocks, or two IPTC records, mean the same if their normal forms are
+equal, which is proved. XMP is compared by its statements, which is tested, and
+not proved. ExifTool reads the formats that have no reader here (Debian:
+libimage-exiftool-perl)."""
 
 
 class _Parser(argparse.ArgumentParser):
@@ -73,19 +85,42 @@ class _Version(argparse.Action):
         whole.exit()
 
 
-def parser() -> argparse.ArgumentParser:
-    """The parser of the arguments."""
+def parsed(words: Optional[Sequence[str]] = None) -> argparse.Namespace:
+    """The arguments of a command line. Wrong ones end the process, after the usage of their command.
+
+    >>> parsed(["show", "a.jpg", "--json", "b.jpg"]).pictures
+    ['a.jpg', 'b.jpg']
+    """
+    given = list(sys.argv[1:] if words is None else words)
+    whole, commands = parsers()
+    arguments, others = whole.parse_known_args(given)
+    if not others:
+        return arguments
+    if given[0] != arguments.command:
+        whole.error(f"unrecognized arguments: {' '.join(others)}")
+    # an option between names, which a parser of commands takes for the end of the names; this one also names what is wrong
+    return commands[given[0]].parse_intermixed_args(given[1:], argparse.Namespace(command=given[0]))
+
+
+def refuse(command: str, message: str) -> NoReturn:
+    """Ends the process with what is wrong with the arguments of a command, after its usage."""
+    parsers()[1][command].error(message)
+
+
+def parsers() -> "Tuple[_Parser, Dict[str, _Parser]]":
+    """The parser of the arguments, and those of each command."""
     whole = _Parser(
         prog="exifnorm-pictures",
-        description="Compares the Exif, IPTC and XMP metadata of many pictures: finds pictures that mean the same, lists changed"
-        " pictures with their fields, and explains and mends refused ones.",
+        description="Compares the Exif, IPTC and XMP metadata of many pictures: finds pictures that\n"
+        "mean the same, lists changed pictures with their fields, and explains and\nmends refused ones.",
         epilog=_STATUSES,
         formatter_class=_Formatter,
     )
     whole.add_argument("--version", action=_Version, nargs=0, help="the version")
     commands = whole.add_subparsers(dest="command", metavar="COMMAND", required=True)
+    each: Dict[str, _Parser] = {}
     for name, words, build in _COMMANDS:
-        one = commands.add_parser(
+        one = each[name] = commands.add_parser(
             name,
             help=words,
             description=words[0].upper() + words[1:] + ".",
@@ -101,7 +136,7 @@ def parser() -> argparse.ArgumentParser:
         if name not in ("merge", "compare"):
             one.add_argument("--files-from", metavar="LIST", help="read names from the file LIST, - for standard input: one for each line")
             one.add_argument("-0", "--null", action="store_true", help="the names in LIST end with NUL, as from find -print0")
-    return whole
+    return whole, each
 
 
 def _positive(text: str) -> int:
@@ -157,7 +192,7 @@ def _more_arguments(it: argparse.ArgumentParser) -> None:
 
 
 def _index_arguments(it: argparse.ArgumentParser) -> None:
-    _example(it, "index /archive --catalogue archive.catalogue --exclude '*.tmp'")
+    _example(it, "index /archive --catalogue my.catalogue --exclude '*.tmp'")
     it.add_argument("folders", nargs="*", type=_name, metavar="FOLDER", help="a folder, with all below it, or a picture")
     it.add_argument("--catalogue", required=True, type=_name, metavar="FILE", help="the catalogue; created if it is missing")
     it.add_argument("--keep-old", type=_name, metavar="OLD", help="first copy the catalogue to OLD, for changed and report --since")
@@ -219,9 +254,11 @@ def _choice_arguments(it: argparse.ArgumentParser) -> None:
     )
 
 
-_FIELDS = """Each name that is printed can be given, and also Artist, dc:title, 2:25, 0x013b or a group: GPS, IPTC, XMP-crs.
-The wildcards * and ? are allowed, as in xmpMM:*; upper and lower case don't matter. exif:NAME is a field of an Exif block;
-the property of XMP is XMP-exif:NAME. --ignore saves leaves out what every save changes (see the manual page)."""
+_FIELDS = """Each name that is printed can be given, and also Artist, dc:title, 2:25,
+0x013b or a group: GPS, IPTC, XMP-crs. The wildcards * and ? are allowed, as
+in xmpMM:*; upper and lower case don't matter. exif:NAME is a field of an
+Exif block; the property of XMP is XMP-exif:NAME. --ignore saves leaves out
+what every save changes (see the manual page)."""
 
 
 def _changed_arguments(it: argparse.ArgumentParser) -> None:

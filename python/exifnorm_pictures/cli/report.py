@@ -15,13 +15,13 @@ from ..report import contents, page
 from .choice import choice_of, listings_of, refuse_unknown, say_unseen
 from .exit_codes import SUCCESS
 from .names import chosen_paths
-from .parser import parser
+from .parser import refuse
 
 
 def run(arguments: argparse.Namespace) -> int:
     """Writes one page about a catalogue, or the same as JSON."""
     if not arguments.html and not arguments.json:
-        parser().error("report: give --html PAGE, --json, or both")
+        refuse("report", "give --html PAGE, --json, or both")
     chosen = chosen_paths(arguments)
     with contextlib.ExitStack() as open_:
         catalogue = open_.enter_context(Catalogue(arguments.catalogue))
