@@ -129,7 +129,27 @@ def test_differences_of_form_are_only_counted(run):
 
 def test_an_unreadable_block_makes_the_answer_open(run):
     status, out = run(a=CONTRADICTION, b=jpeg(with_record(b"\x1c\x02")))
-    assert status == 2 and "1 picture with a contradiction" in out and "1 picture not wholly looked at" in out
+    assert status == 2 and "1 picture with a contradiction" in out and "1 picture not wholly read" in out
+
+
+def test_files_that_are_not_there_are_not_counted_as_read(run):
+    status, out = run("b.jpg", a=CONTRADICTION)
+    assert status == 2 and "1 picture read" in out and "1 picture not wholly read" in out
+    assert json.loads(run("a.jpg", "b.jpg", "--json")[1].splitlines()[-1])["pictures"] == 1
+
+
+DAMAGED = [CONTRADICTION[:40], CONTRADICTION[:2] + CREATOR + b"\xff\xe1\xff\xff"]  # in the first segment, and in the second one
+
+
+@needs("exiftool")
+@pytest.mark.parametrize("octets", DAMAGED, ids=["no block is left", "a block is left"])
+def test_a_damaged_file_makes_the_answer_open(octets, run):
+    """What is lost may contradict what is left."""
+    status, out = run(a=octets)
+    assert status == 2 and "a.jpg: not wholly read: " in out and "1 picture not wholly read" in out
+    assert [it["kind"] for it in csv.DictReader(io.StringIO(run("--csv", "a.jpg")[1]))] == ["not read"]
+    first, summary = map(json.loads, run("--json", "a.jpg")[1].splitlines())
+    assert (first["path"], len(first["not_read"]), summary["not_wholly_read"]) == ("a.jpg", 1, 1)
 
 
 def test_a_table(run):

@@ -216,6 +216,11 @@ class Lines(WithPictures):
                 {"step": "copy", "before": {}, "lost": [], "gained": []},
             ),
             (
+                mend.Mended("copy", {}, damage=["the rest"]),
+                ["a\\n: nothing was to be mended: a plain copy", "  not wholly read, and not mended: the rest"],
+                {"step": "copy", "before": {}, "lost": [], "gained": [], "damage": ["the rest"]},
+            ),
+            (
                 mend.Mended("touch", one),
                 ["a\\n: Exif refused: Overlap at 34: ExifTool added a field and removed it", "  0 printed values lost or changed"],
                 {"step": "touch", "before": one, "lost": [], "gained": []},
@@ -247,7 +252,7 @@ class Lines(WithPictures):
             ),
         ):
             self.assertEqual(mend_cli._mended_lines(b"a\n", found), lines)
-            self.assertEqual(mend_cli._mended_members(b"a\n", found), {"path": "a\n", "repairs": [], **members})
+            self.assertEqual(mend_cli._mended_members(b"a\n", found), {"path": "a\n", "repairs": [], "damage": [], **members})
 
     def printed(self, why, as_json):
         with mock.patch.object(mend, "mend", mock.Mock(side_effect=why)), contextlib.redirect_stdout(io.StringIO()) as lines:

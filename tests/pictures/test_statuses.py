@@ -60,6 +60,22 @@ def test_a_file_of_which_nothing_is_left(asked, folder, octets, words):
     assert asked("index", "p", "--catalogue", "c")[0] == f"{folder}/p/b.jpg: NoPicture: {words}"
 
 
+@needs("exiftool")
+@pytest.mark.parametrize("command", ["show", "captions", "explain"])
+def test_a_damaged_file(asked, folder, command):
+    """Nobody may take the blocks that are left for all that the picture had."""
+    for name, octets in (("cut", GOOD[:30]), ("open", GOOD[:2] + app1(exif(b"abc")) + b"\xff\xe1\xff\xff")):
+        (folder / name).write_bytes(octets)
+        assert asked(command, name, status=2)[-1].startswith("not wholly read: ")
+
+
+@needs("exiftool")
+def test_a_copy_of_a_damaged_file_is_not_mended(asked, folder):
+    (folder / "cut.jpg").write_bytes(GOOD[:30])
+    assert "not wholly read" in asked("mend", "cut.jpg", "copy.jpg", status=2)[1]
+    assert json.loads(asked("mend", "--json", "cut.jpg", "second.jpg", status=2)[0])["damage"]
+
+
 @pytest.mark.parametrize("names", [("p", "q"), ("q", "p")])
 def test_a_mistyped_name_for_changed(called, folder, names):
     (folder / "p").mkdir()

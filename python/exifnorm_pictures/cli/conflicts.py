@@ -8,6 +8,7 @@ from dataclasses import dataclass, field
 from typing import Dict, Iterator, List, Sequence
 
 from ..compare.conflicts import ALIKE, CAMERA, CHARACTERS, CUT, EMPTY, JOINED, ORDER, Conflict, conflicts
+from ..extract.formats.found import damage
 from ..fields.labels import STANDARDS
 from .captions import text_members
 from .exit_codes import DIFFERENCE, SUCCESS, UNKNOWN
@@ -63,7 +64,7 @@ def run(arguments: argparse.Namespace) -> int:
 
 
 def _count(counts: _Counts, it: Labelled, found: Sequence[Conflict]) -> None:
-    counts.pictures += 1
+    counts.pictures += not it.problem
     counts.unread += it.status != SUCCESS
     counts.twice += bool(conflicts(it.texts))
     real = [one.label for one in found if one.is_real]
@@ -79,8 +80,8 @@ def _print_rows(table: Table, it: Labelled, found: Sequence[Conflict]) -> None:
         table.row(it.name, one.label, one.kind, one.detail, *_texts(one))
     if it.problem:
         table.row(it.name, None, "not read", f"{it.problem}: {it.detail}", *(None for _ in STANDARDS))
-    for refused in it.refused:
-        table.row(it.name, None, "not read", refused, *(None for _ in STANDARDS))
+    for what in (*it.refused, *damage(it.not_read)):
+        table.row(it.name, None, "not read", what, *(None for _ in STANDARDS))
 
 
 def _texts(it: Conflict) -> List[Cell]:
@@ -124,6 +125,8 @@ def _print(it: Labelled, found: Sequence[Conflict]) -> None:
             print_line(f"    {name:<{width}}  {text if len(text) <= LONGEST else f'{text[: LONGEST - 10]}.. ({len(text):,} characters)'}")
     if it.problem:
         print_line(f"{shown_path(it.name)}: {it.problem}: {it.detail}")
+    for what in damage(it.not_read):
+        print_line(f"{shown_path(it.name)}: not wholly read: {what}")
 
 
 def _summary(counts: _Counts, every: bool) -> Iterator[str]:
@@ -135,7 +138,7 @@ def _summary(counts: _Counts, every: bool) -> Iterator[str]:
         yield f"{_pictures(counts.minor)} with differences of form alone" + ("" if every else ", which --all lists")
         yield f"differences of form: {_listed(kinds)}"
     if counts.unread:
-        yield f"{_pictures(counts.unread)} not wholly looked at: a block is refused or unreadable, or the file isn't read (explain)"
+        yield f"{_pictures(counts.unread)} not wholly read: a block is refused or unreadable, or the file is damaged or isn't read (explain)"
 
 
 def _listed(counts: "Counter[str]") -> str:

@@ -11,7 +11,7 @@ from ..catalogue.records import WORDS, Block
 from ..compare.verdicts import ACCEPTED
 from ..extract import exiftool, extraction, programs
 from ..extract.budgets import TooMuch
-from ..extract.formats.found import EXIF, IPTC, NAMES, Blocks, FoundBlock, each_kind
+from ..extract.formats.found import EXIF, IPTC, NAMES, Blocks, FoundBlock, damage, each_kind
 from ..extract.judge import judge_all
 from ..files import opening, tempdir
 from .exit_codes import SUCCESS, UNKNOWN
@@ -56,7 +56,8 @@ class Judged(NamedTuple):
     @property
     def status(self) -> int:
         """The status of a command that prints its blocks."""
-        return UNKNOWN if self.read.problem or any(it.status != ACCEPTED for it in self.blocks) else SUCCESS
+        is_damaged = damage(it.what for it in self.read.not_read)
+        return UNKNOWN if self.read.problem or is_damaged or any(it.status != ACCEPTED for it in self.blocks) else SUCCESS
 
 
 def each_picture(arguments: argparse.Namespace) -> Iterator[Judged]:

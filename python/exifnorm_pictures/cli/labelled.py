@@ -14,7 +14,7 @@ from ..catalogue.records import Block
 from ..compare.verdicts import ACCEPTED
 from ..extract import exiftool, extraction, programs
 from ..extract.budgets import TooMuch
-from ..extract.formats.found import EXIF, NAMES, XMP, Blocks, FoundBlock
+from ..extract.formats.found import EXIF, NAMES, XMP, Blocks, FoundBlock, damage
 from ..extract.judge import judge_all
 from ..fields.labels import STANDARDS, LabelText, of_fields, of_properties
 from ..files import tempdir
@@ -43,7 +43,7 @@ class Labelled:
     @property
     def status(self) -> int:
         """The status of a command that reads this picture."""
-        return UNKNOWN if self.problem or self.refused else SUCCESS
+        return UNKNOWN if self.problem or self.refused or damage(self.not_read) else SUCCESS
 
     def members(self) -> Members:
         """The beginning of a JSON object."""

@@ -41,7 +41,9 @@ def _mend_one(arguments: argparse.Namespace, picture: bytes, out: bytes, room: s
         output(arguments, [line], {**path_members(picture), "problem": problem, "detail": str(error)})
         return FAILURE if isinstance(error, mend.NotWritten) else UNKNOWN
     output(arguments, _mended_lines(picture, found), _mended_members(picture, found))
-    return UNKNOWN if found.problem or found.step == mend.NONE else DIFFERENCE if found.lost else SUCCESS
+    if found.problem or found.damage or found.step == mend.NONE:
+        return UNKNOWN
+    return DIFFERENCE if found.lost else SUCCESS
 
 
 def _pairs(arguments: argparse.Namespace) -> Iterator[Tuple[bytes, bytes]]:
@@ -76,6 +78,7 @@ def _mended_lines(picture: bytes, found: mend.Mended) -> List[str]:
         f"{name}: {before + ': ' if before else ''}{mend.STEP_WORDS[found.step]}"
         + (f": {steps.words(found.repairs)}" if found.repairs else "")
     ]
+    lines += [f"  not wholly read, and not mended: {it}" for it in found.damage]
     if found.step not in (mend.NONE, mend.COPY):
         lines.append(f"  {len(found.lost)} printed values lost or changed")
         lines += [f"  - {it}" for it in found.lost] + [f"  + {it}" for it in found.gained]
@@ -83,6 +86,7 @@ def _mended_lines(picture: bytes, found: mend.Mended) -> List[str]:
 
 
 def _mended_members(picture: bytes, found: mend.Mended) -> Members:
-    known = {"step": found.step, "before": found.before, "lost": found.lost, "gained": found.gained}
+    known: Members = {"step": found.step, "before": found.before, "lost": found.lost, "gained": found.gained}
     repaired = [it._asdict() for it in found.repairs]
-    return {**path_members(picture), **known, "repairs": repaired, **({"problem": found.problem} if found.problem else {})}
+    known = {**known, "repairs": repaired, "damage": found.damage}
+    return {**path_members(picture), **known, **({"problem": found.problem} if found.problem else {})}

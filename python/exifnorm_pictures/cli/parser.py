@@ -21,11 +21,12 @@ _STATUSES = """Statuses:
        conflicts: a picture contradicts itself; mend: the copy differs in a
        printed value)
   2    it can't be decided wholly (changed, compare, show, captions, conflicts,
-       explain: a block is refused or unreadable, or a picture wasn't read;
-       changed, compare: or a part of one wasn't; changed, compare, same: the
-       same only after a repair, or but for a MakerNote; same: or they may be
-       so; index: a picture that should be readable isn't, or a program failed
-       at it; mend: no remedy worked, or the picture wasn't read)
+       explain: a block is refused or unreadable, a file is damaged, or a
+       picture wasn't read; changed, compare: or a part of one wasn't; changed,
+       compare, same: the same only after a repair, or but for a MakerNote;
+       same: or they may be so; index: a picture that should be readable isn't,
+       or a program failed at it; mend: no remedy worked, the file is damaged,
+       or the picture wasn't read)
   3    bad arguments; index: no name leads to a folder or a file
   4    the command itself failed: the catalogue, a stream, an output file, the
        disk or the memory

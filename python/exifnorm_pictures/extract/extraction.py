@@ -12,7 +12,7 @@ from ..cli.output import described
 from ..files import opening
 from .budgets import Budget, TooMuch
 from .exiftool import add_trailers, by_others
-from .formats.found import PROBLEMS, Blocks, Broken, LeftToOthers
+from .formats.found import BROKEN, PROBLEMS, Blocks, Broken, LeftToOthers
 from .formats.streams import File
 from .readers import HEAD, reader_of, type_of
 
@@ -32,7 +32,7 @@ def blocks_of(path: bytes, whole: bool = False) -> Blocks:
         except LeftToOthers as why:
             return by_others(path, file, whole, str(why))
         except Broken as why:
-            return by_others(path, file, True, f"broken: {why}")
+            return by_others(path, file, True, f"{BROKEN}{why}")
         finally:
             file.close()
     except TooMuch as why:

@@ -14,7 +14,7 @@ from ..cli.output import reason
 from ..compare.verdicts import ACCEPTED
 from ..extract import programs
 from ..extract.extraction import blocks_of
-from ..extract.formats.found import EXIF, Blocks
+from ..extract.formats.found import EXIF, Blocks, damage
 from ..extract.judge import judge_all
 from ..files import atomic, opening
 from .repaired_file import KINDS, repaired_file
@@ -58,6 +58,7 @@ class Mended:
     gained: List[str] = field(default_factory=list)
     problem: str = ""
     repairs: Tuple[Step, ...] = ()  # what was repaired
+    damage: List[str] = field(default_factory=list)  # what is left of a damaged file, and was not read
 
 
 def mend(picture: bytes, out: bytes, room: str, with_folders: bool = False) -> Mended:
@@ -72,12 +73,12 @@ def mend(picture: bytes, out: bytes, room: str, with_folders: bool = False) -> M
     taken = blocks_of(picture)
     if taken.problem:
         return Mended(NONE, {}, problem=f"{taken.problem}: {taken.detail}")
-    before = _refusals(taken)
+    before, left = _refusals(taken), damage(it.what for it in taken.not_read)
     if with_folders:
         _make_folders(out)
     if not before:
         _put(picture, picture, out)
-        return Mended(COPY, {})
+        return Mended(COPY, {}, damage=left)
     with tempfile.TemporaryDirectory(dir=room) as own:
         repair = _repaired(picture, taken, own)
         if programs.is_there("exiftool"):
@@ -87,10 +88,10 @@ def mend(picture: bytes, out: bytes, room: str, with_folders: bool = False) -> M
         else:
             raise NeedsExifTool(taken.type, repair)
         if best is None:
-            return Mended(NONE, before)
+            return Mended(NONE, before, damage=left)
         step, made, lost, gained = best
         _put(os.fsencode(made), picture, out)
-        return Mended(step, before, lost, gained, "", repair.steps if repair and step == "repair" else ())
+        return Mended(step, before, lost, gained, "", repair.steps if repair and step == "repair" else (), left)
 
 
 def _make_folders(out: bytes) -> None:

@@ -34,6 +34,8 @@ PROBLEMS = {
     "InternalError": "exifnorm-pictures itself failed on this file; please report it",
 }
 
+REST = "the rest of a damaged file"  # how a part begins that has all of such a file that isn't in its blocks
+BROKEN = "broken: "  # how the reason begins for which a damaged file was left to ExifTool
 UNREAD_TRAILER = "blocks of the trailer, for which ExifTool is needed"  # a part that is read once ExifTool is there
 
 _ORDINALS = ("first", "second", "third", "fourth", "fifth", "sixth", "seventh", "eighth", "ninth")
@@ -93,6 +95,15 @@ class NotRead(NamedTuple):
         'ba7816bf'
         """
         return cls(what, hashlib.sha256(data).hexdigest())
+
+
+def damage(parts: Iterable[str]) -> List[str]:
+    """The parts that are what is left of a damaged file, in which any block may be lost.
+
+    >>> damage(["trailer of 3 bytes", "the rest of a damaged file (no marker at 2)"])
+    ['the rest of a damaged file (no marker at 2)']
+    """
+    return [what for what in parts if what.startswith(REST) or f"({BROKEN}" in what]
 
 
 def each_kind(parts: Iterable[str]) -> List[str]:

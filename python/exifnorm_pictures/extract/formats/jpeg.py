@@ -14,7 +14,7 @@ from ..budgets import Budget, budget_of
 from . import mpf, photoshop
 from .extended_xmp import Pieces
 from .extended_xmp import HEAD as EXTENDED
-from .found import EXIF, XMP, Blocks, Broken, NotRead, length_of
+from .found import EXIF, REST, XMP, Blocks, Broken, NotRead, length_of
 from .jpeg_segments import APP0, APP1, APP2, APP3, APP13, APP15, SOS, EXIF_PIECE, PHOTOSHOP_PIECE, XMP_PACKET, XMP_PIECE
 from .jpeg_segments import is_not_compared, read_head
 from .jpeg_tail import WINDOW, Tail, is_scan, tail
@@ -40,7 +40,7 @@ def read(stream: Stream, whole: bool = False) -> Blocks:
     except Broken as why:  # a lenient form: what a damaged file has before its fault
         if not blocks.found:
             raise
-        blocks.not_read.append(NotRead(f"the rest of a damaged file ({why})", digest_of(stream, 0, end)))
+        blocks.not_read.append(NotRead(f"{REST} ({why})", digest_of(stream, 0, end)))
         return blocks
     starts = _further(stream, head, end)
     whole = whole or head.index_is_wrong
