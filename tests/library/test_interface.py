@@ -68,10 +68,10 @@ def structs_of_the_sources():
         yield in_capitals(name).lower(), [ctypes.sizeof(struct), *(getattr(struct, member).offset for member, _ in members)]
 
 
-def structs_of_the_header():
-    """The members of each struct."""
-    plain = re.sub(r"/\*.*?\*/", "", HEADER, flags=re.S)
-    return {name: re.findall(r"(\w+);", body) for name, body in re.findall(r"struct (\w+) \{(.*?)\}", plain, re.S)}
+def structs(text):
+    """The members of each struct of a C text, with their types."""
+    plain = re.sub(r"/\*.*?\*/", "", text, flags=re.S)
+    return {name: re.findall(r"(\w+) (\w+);", body) for name, body in re.findall(r"struct (\w+) \{(.*?)\}", plain, re.S)}
 
 
 def test_exports_are_those_of_the_header(shared, archive):
@@ -96,8 +96,8 @@ def test_header_has_the_numbers_of_the_sources(compiler, folder):
     need(compiler[0])
     names = sorted(set(re.findall(r"^(?:#define | +)(EXIFNORM_[A-Z_]+)(?= = | \d)", HEADER, re.M)))
     printed = [f'    printf("%s %lld\\n", "{it}", (long long){it});' for it in names]
-    for struct, members in structs_of_the_header().items():
-        places = ", ".join([f"(int)sizeof(struct {struct})", *(f"(int)offsetof(struct {struct}, {it})" for it in members)])
+    for struct, members in structs(HEADER).items():
+        places = ", ".join([f"(int)sizeof(struct {struct})", *(f"(int)offsetof(struct {struct}, {it})" for _, it in members)])
         printed.append(f'    printf("{struct} {"%d," * len(members)}%d\\n", {places});')
     source = folder / "names.c"
     lines = ["#include <exifnorm.h>", "#include <exifnorm.h>", "#include <stdio.h>", "int main(void) {", *printed]
@@ -109,6 +109,7 @@ def test_header_has_the_numbers_of_the_sources(compiler, folder):
 
 def test_manual_page_has_the_same_prototypes_statuses_and_kinds():
     assert page_prototypes() == prototypes(HEADER)
+    assert structs(PAGE.replace('.B "', "").replace(';"', ";")) == structs(HEADER)
     listed = dict(re.findall(r'^\.BR EXIFNORM_(\w+) " \((\d+)\)[.,]?"', PAGE, re.MULTILINE))
     assert listed == {**STATUSES, "EXIF": "1", "IIM": "2", **{f"JPEG_{name}": str(number) for name, number in numbers_of_jpegs().items()}}
     assert set(re.findall(r"\bEXIFNORM_[A-Z_]+\b", PAGE)) <= set(re.findall(r"\bEXIFNORM_[A-Z_]+\b", HEADER))
