@@ -2,6 +2,7 @@
 
 from __future__ import annotations
 
+import operator
 from typing import Any, Dict, Iterator, List, NamedTuple, NoReturn, Optional, Tuple
 
 from ._calls import Block
@@ -57,6 +58,15 @@ def _bytes_of(octets: Block) -> bytes:
         return view.tobytes()
 
 
+def _limit(octets: bytes, most: Optional[int]) -> int:
+    """The most rows that a call may return. It has fewer rows than bytes.
+
+    >>> _limit(b"Vase", None), _limit(b"Vase", 2), _limit(b"Vase", 1 << 80)
+    (4, 2, 4)
+    """
+    return len(octets) if most is None else min(operator.index(most), len(octets))
+
+
 def _parts(rows: bytes) -> List[JpegPart]:
     new = tuple.__new__
     return [new(JpegPart, (marker, KINDS[kind], begins == 1, start, size)) for marker, kind, begins, start, size in PART.iter_unpack(rows)]
@@ -85,7 +95,7 @@ def jpeg_parts(picture: Block, most: Optional[int] = None) -> List[JpegPart]:
     JpegPart(marker=217, kind='', begins=False, start=18, size=0)
     """
     octets = _bytes_of(picture)
-    return _parts(_rows_of_parts(octets, len(octets) if most is None else most))
+    return _parts(_rows_of_parts(octets, _limit(octets, most)))
 
 
 def _rows_of_parts(octets: bytes, most: int) -> bytes:
@@ -113,7 +123,7 @@ def photoshop_resources(octets: Block, most: Optional[int] = None) -> List[Resou
     [Resource(number=1028, start=12, size=3)]
     """
     octets = _bytes_of(octets)
-    limit = len(octets) if most is None else most
+    limit = _limit(octets, most)
     rows = library().photoshop_resources(octets, limit)
     if isinstance(rows, tuple):
         _raise(rows, limit)

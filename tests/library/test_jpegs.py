@@ -164,11 +164,14 @@ def test_numbers_of_parts_and_resources():
     for count in (0, 1, 63, 64, 65, 1000):
         head, them = START + b"\xff\x01" * count + END, resource(0x0404, b"abc") * count
         assert len(exifnorm.jpeg_parts(head)) == len(exifnorm.jpeg_parts(head, count + 1)) == count + 1
-        assert len(exifnorm.jpeg_parts(head, most=1 << 62)) == count + 1
+        assert len(exifnorm.jpeg_parts(head, most=1 << 62)) == len(exifnorm.jpeg_parts(head, most=1 << 80)) == count + 1
         assert len(exifnorm.photoshop_resources(them)) == len(exifnorm.photoshop_resources(them, count)) == count
         for call, octets, least in ((exifnorm.jpeg_parts, head, count + 1), (exifnorm.photoshop_resources, them, count)):
             for most in {least - 1, 0, -1} if least else ():
                 assert outcome(call, octets, most) == ("TooMany", most), (call, most)
+    for most in (1.5, "3", b"3"):
+        for call in (exifnorm.jpeg_parts, exifnorm.photoshop_resources):
+            assert outcome(call, START + END, most)[0] == "TypeError", (call, most)
     with pytest.raises(HeadRefused) as raised:  # a fault after many parts, and one after too many
         exifnorm.jpeg_parts(START + COMMENT * 1000 + b"x")
     assert len(raised.value.parts) == 1000
