@@ -87,6 +87,16 @@ def test_values_are_in_plain_words(run):
     }
 
 
+@needs("exiftool")
+def test_a_record_that_is_added_before_a_trailer_with_one(run):
+    """The trailer's record is still the trailer's, and didn't change."""
+    record = iim(b"Vase")
+    trailer = record + struct.pack(">HII", 1, len(record) + 10, 0xA1B2C3D4)  # FotoStation's, as ExifTool reads it
+    before, after = jpeg(behind=trailer), jpeg(app13(resource(0x0404, iim(b"Urn"))), behind=trailer)
+    status, found = compared(run, before, after)
+    assert (status, [(it["name"], it["before"]) for it in found["fields"]]) == (1, [("IPTC:Keywords", None)])
+
+
 def test_lines_have_the_verdict_first_and_both_values(run):
     status, out, _ = run("compare", "a.jpg", "b.jpg", before=picture(b"Anna"), after=picture(b"Otto Meier"))
     lines = out.splitlines()

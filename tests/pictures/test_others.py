@@ -159,8 +159,8 @@ class Files(WithPictures):
             seen(blocks),
             [
                 ("iim", "IPTC", b"known", "APP13 segment at 2", "own"),
-                ("iim", "second IPTC", b"new", "trailer", "exiftool"),
-                ("xmp", "XMP", b"<x>", "trailer", "exiftool"),
+                ("iim", "IPTC of trailer", b"new", "trailer", "exiftool"),
+                ("xmp", "XMP of trailer", b"<x>", "trailer", "exiftool"),
             ],
         )
         self.assertEqual((blocks.extractor, blocks.not_read), ("exiftool", []))

@@ -263,5 +263,5 @@ def add_trailers(blocks: Blocks, path: bytes) -> None:
         return
     for kind, data in found:
         if data not in known:
-            blocks.add(kind, data, "trailer", extractor=EXIFTOOL)
+            blocks.add(kind, data, "trailer", "trailer", EXIFTOOL)
             blocks.extractor = EXIFTOOL
