@@ -27,9 +27,9 @@ def escaped(text: str) -> str:
     >>> escaped("a\nb\\c"), escaped(os.fsdecode(b"x\x85")), escaped("x\x85\u202e")
     ('a\\nb\\\\c', 'x\\x85', 'x\\u0085\\u202e')
     """
-    if text.isascii() and text.isprintable() and "\\" not in text:
+    if text.isprintable() and "\\" not in text:
         return text
-    return "".join(_escaped_character(it) for it in text)
+    return text.translate({ord(it): _escaped_character(it) for it in set(text)})  # few characters are different ones
 
 
 def safe(text: str) -> str:
