@@ -4,13 +4,17 @@ from __future__ import annotations
 
 from itertools import count, starmap
 from struct import Struct, iter_unpack, unpack_from
-from typing import Any, Callable, Dict, Iterator, List, Set, Tuple
+from typing import Any, Callable, Dict, Iterator, List, Sequence, Set, Tuple
 
 from ._calls import kind
 from ._errors import Refused
 from ._fields import Field, Ratio
 
-Read = Callable[[bytes, int, int], Any]  # reads so many values at an offset of a form
+Place = Tuple[str, int, str, int, Any]
+"""A field in a form: its directory, its tag, its type, the number of its elements, and the offset of the first one; of the thumbnail's JPEG
+and its strips the offset and the length of each."""
+
+Read = Callable[[bytes, Any, int], Any]  # reads so many values at such a place
 
 _COUNT, _OFFSET = Struct(">H"), Struct(">L")
 
@@ -39,23 +43,40 @@ def _ratios(letter: str) -> Read:
     return read
 
 
-# number: the type's name, the bytes of an element, and the function that reads its values
-_TYPES: Dict[int, Tuple[str, int, Read]] = {
-    1: ("BYTE", 1, _octets),
-    2: ("ASCII", 1, _octets),
-    3: ("SHORT", 2, _numbers("H")),
-    4: ("LONG", 4, _numbers("L")),
-    5: ("RATIONAL", 8, _ratios("L")),
-    6: ("SBYTE", 1, _octets),
-    7: ("UNDEFINED", 1, _octets),
-    8: ("SSHORT", 2, _numbers("h")),
-    9: ("SLONG", 4, _numbers("l")),
-    10: ("SRATIONAL", 8, _ratios("l")),
-    11: ("FLOAT", 4, _numbers("L")),
-    12: ("DOUBLE", 8, _numbers("Q")),
-    129: ("UTF8", 1, _octets),
+def _pictures(form: bytes, parts: Sequence[Tuple[int, int]], _: int) -> Tuple[bytes, ...]:
+    return tuple([form[at : at + size] for at, size in parts])
+
+
+# the function that reads the values of each type
+_READ: Dict[str, Read] = {
+    **dict.fromkeys(("BYTE", "ASCII", "SBYTE", "UNDEFINED", "UTF8", "DATASET"), _octets),
+    "SHORT": _numbers("H"),
+    **dict.fromkeys(("LONG", "WHOLE", "FLOAT"), _numbers("L")),
+    "RATIONAL": _ratios("L"),
+    "SSHORT": _numbers("h"),
+    "SLONG": _numbers("l"),
+    "SRATIONAL": _ratios("l"),
+    "DOUBLE": _numbers("Q"),
+    "JPEG": lambda form, parts, elements: _pictures(form, parts, elements)[0],
+    "STRIPS": _pictures,
 }
-_LONG, _UNDEFINED = 4, 7
+
+# number: the type's name, and the bytes of an element
+_TYPES: Dict[int, Tuple[str, int]] = {
+    1: ("BYTE", 1),
+    2: ("ASCII", 1),
+    3: ("SHORT", 2),
+    4: ("LONG", 4),
+    5: ("RATIONAL", 8),
+    6: ("SBYTE", 1),
+    7: ("UNDEFINED", 1),
+    8: ("SSHORT", 2),
+    9: ("SLONG", 4),
+    10: ("SRATIONAL", 8),
+    11: ("FLOAT", 4),
+    12: ("DOUBLE", 8),
+    129: ("UTF8", 1),
+}
 
 _RECORD, _JPEG, _STRIPS = 0x83BB, 0x0201, 0x0111
 _PARTS = {0x0111, 0x0117, 0x0201, 0x0202}  # the thumbnail: offsets and lengths of its strips and its JPEG
@@ -71,20 +92,15 @@ _SPECIAL: Dict[str, Set[int]] = {
 }
 
 
-def fields_of_record(form: bytes) -> Iterator[Field]:
-    """The DataSets of a record's normal form, each with one field.
-
-    >>> list(fields_of_record(b"\\x1c\\x02\\x78\\x00\\x04Vase"))
-    [Field(directory='record', tag=632, type='DATASET', values=b'Vase')]
-    """
-    at = 0
-    while at < len(form):
+def _datasets(form: bytes, at: int, end: int) -> Iterator[Place]:
+    """The DataSets of a record's normal form, which is a part of these bytes."""
+    while at < end:
         _, tag, size = unpack_from(">BHH", form, at)
         at += 5
         if size >= 0x8000:  # an extended one, whose length has four bytes
             (size,) = _OFFSET.unpack_from(form, at)
             at += 4
-        yield Field("record", tag, "DATASET", form[at : at + size])
+        yield "record", tag, "DATASET", size, at
         at += size
 
 
@@ -102,61 +118,60 @@ class _Directories:
         self.form = form
         self.places = {"main": 8}
         self.parts: Dict[int, Tuple[int, ...]] = {}
-        self.record = b""
+        self.record = (0, 0)
 
-    def fields(self) -> Iterator[Field]:
+    def fields(self) -> Iterator[Place]:
         yield from self.table("main")
-        yield from fields_of_record(self.record)
+        yield from _datasets(self.form, *self.record)
         for directory in ("exif", "interop", "gps", "thumb"):
             if directory in self.places:
                 yield from self.table(directory)
         yield from self.pictures()
 
-    def table(self, directory: str) -> List[Field]:
+    def table(self, directory: str) -> Iterator[Place]:
         """The fields of a directory. Its pointers are stored for later."""
         form, at, special = self.form, self.places[directory], _SPECIAL[directory]
         start, (entries,) = at + 2, _COUNT.unpack_from(form, at)
         behind = start + 12 * entries
-        found, new = [], Field._make
         for place, (tag, number, elements, last) in zip(count(start + 8, 12), iter_unpack(">HHLL", form[start:behind])):
-            name, size, read = _TYPES[number]
-            values = read(form, last if elements * size > 4 else place, elements)
+            name, size = _TYPES[number]
+            at = last if elements * size > 4 else place
             if tag not in special:
-                found.append(new((directory, tag, name, values)))
-            elif self.is_field(directory, tag, number, values):
-                found.append(new((directory, tag, "WHOLE" if self.is_whole(directory, tag, number) else name, values)))
+                yield directory, tag, name, elements, at
+            elif self.is_field(directory, tag, name, elements, at):
+                is_whole = name == "LONG" and tag in _WHOLE.get(directory, ())
+                yield directory, tag, "WHOLE" if is_whole else name, elements, at
         (following,) = _OFFSET.unpack_from(form, behind)
         if directory == "main" and following:
             self.places["thumb"] = following
-        return found
 
-    @staticmethod
-    def is_whole(directory: str, tag: int, number: int) -> bool:
-        return number == _LONG and tag in _WHOLE.get(directory, ())
-
-    def is_field(self, directory: str, tag: int, number: int, values: Any) -> bool:
+    def is_field(self, directory: str, tag: int, name: str, elements: int, at: int) -> bool:
         """Whether an entry is a field. Otherwise it is a pointer, the record or a part of the thumbnail, and is stored for later."""
         if (directory, tag) in _POINTERS:
-            self.places[_POINTERS[directory, tag]] = values[0]
+            (self.places[_POINTERS[directory, tag]],) = _OFFSET.unpack_from(self.form, at)
         elif directory == "thumb" and tag in _PARTS:
-            self.parts[tag] = values
-        elif tag == _RECORD and number == _UNDEFINED and _is_record(values):
-            self.record = values
+            self.parts[tag] = _READ[name](self.form, at, elements)
+        elif tag == _RECORD and name == "UNDEFINED" and _is_record(self.form[at : at + elements]):
+            self.record = (at, at + elements)
         else:
             return True
         return False
 
-    def pictures(self) -> Iterator[Field]:
+    def pictures(self) -> Iterator[Place]:
         """The thumbnail's JPEG and its strips."""
         for tag, lengths, name in ((_JPEG, 0x0202, "JPEG"), (_STRIPS, 0x0117, "STRIPS")):
             if tag in self.parts:
-                parts = tuple(self.form[at : at + size] for at, size in zip(self.parts[tag], self.parts[lengths]))
-                yield Field("thumb", tag, name, parts if tag == _STRIPS else parts[0])
+                parts = list(zip(self.parts[tag], self.parts[lengths]))
+                yield "thumb", tag, name, len(parts), parts
 
 
-def each_field(form: bytes) -> Iterator[Field]:
-    """The fields of a normal form, one after another."""
-    return fields_of_record(form) if form[:1] == b"\x1c" else _Directories(form).fields()
+def places(form: bytes) -> Iterator[Place]:
+    """Where each field of a normal form is.
+
+    >>> list(places(b"\\x1c\\x02\\x78\\x00\\x04Vase"))
+    [('record', 632, 'DATASET', 4, 5)]
+    """
+    return _datasets(form, 0, len(form)) if form[:1] == b"\x1c" else _Directories(form).fields()
 
 
 def fields_of_form(form: bytes) -> List[Field]:
@@ -165,4 +180,5 @@ def fields_of_form(form: bytes) -> List[Field]:
     >>> fields_of_form(bytes.fromhex("4d4d002a00000008 0001 0112 0003 00000001 00060000 00000000"))
     [Field(directory='main', tag=274, type='SHORT', values=(6,))]
     """
-    return list(each_field(form))
+    new = tuple.__new__  # to call the class itself takes twice as long
+    return [new(Field, (directory, tag, name, _READ[name](form, at, elements))) for directory, tag, name, elements, at in places(form)]

@@ -183,7 +183,7 @@ def packed(found: List[Field]) -> bytes:
 
 def text_of_fields(found: List[Field]) -> bytes:
     """The fields as JSON."""
-    lists = [f"[{_quoted(it[0])},{_quoted(it[1])},{_quoted(it[2])},{it[3]},{_quoted(it[4])}]" for it in found]
+    lists = [f'["{where}",{_quoted(key)},"{kind}",{elements},{_quoted(shown)}]' for where, key, kind, elements, shown in found]
     return f"[{','.join(lists)}]".encode("ascii")
 
 

@@ -5,30 +5,49 @@ from __future__ import annotations
 
 import hashlib
 from itertools import islice
-from typing import Any, Callable, Dict, Iterable, Iterator, List
+from struct import Struct, unpack_from
+from typing import Callable, Dict, Iterable, Iterator, List, Tuple
 
-from exifnorm._forms import each_field
+from exifnorm._forms import Place, places
 
 from ..extract.budgets import FIELDS
 from .listing import DIGITS, OCTETS, Field, shown_numbers, shown_octets, shown_picture, shown_value
 
 
-def _decimal(values: Any) -> str:
-    return " ".join(map(str, values))
+Write = Callable[[bytes, int, int], str]  # the text of so many numbers at an offset of a form
 
 
-def _fractions(values: Any) -> str:
-    return " ".join([f"{above}/{below}" for above, below in values])
+def _decimals(letter: str) -> Write:
+    one = Struct(f">{letter}")
+
+    def write(form: bytes, at: int, elements: int) -> str:
+        if elements == 1:
+            return str(one.unpack_from(form, at)[0])
+        return " ".join(map(str, unpack_from(f">{elements}{letter}", form, at)))
+
+    return write
+
+
+def _each(form_of_one: str, letters: str) -> Write:
+    one = Struct(f">{letters}")
+
+    def write(form: bytes, at: int, elements: int) -> str:
+        return " ".join([form_of_one % it for it in one.iter_unpack(form[at : at + one.size * elements])])
+
+    return write
 
 
 # how the numbers of a type are written in a listing (docs/FORMAT.md, "Listing")
-_WRITTEN: Dict[str, Callable[[Any], str]] = {
-    **dict.fromkeys(("SHORT", "LONG", "WHOLE", "SSHORT", "SLONG"), _decimal),
-    **dict.fromkeys(("RATIONAL", "SRATIONAL"), _fractions),
-    "FLOAT": lambda patterns: " ".join([f"{it:08x}" for it in patterns]),
-    "DOUBLE": lambda patterns: " ".join([f"{it:016x}" for it in patterns]),
+_WRITE: Dict[str, Write] = {
+    "SHORT": _decimals("H"),
+    **dict.fromkeys(("LONG", "WHOLE"), _decimals("L")),
+    "SSHORT": _decimals("h"),
+    "SLONG": _decimals("l"),
+    "RATIONAL": _each("%d/%d", "2L"),
+    "SRATIONAL": _each("%d/%d", "2l"),
+    "FLOAT": _each("%08x", "L"),
+    "DOUBLE": _each("%016x", "Q"),
 }
-
 
 _LEAST = 5  # bytes of a field: the head of an empty DataSet
 
@@ -39,33 +58,34 @@ def fields(form: bytes) -> List[Field]:
     >>> fields(b"\\x1c\\x02\\x78\\x00\\x04Vase")
     [Field(where='iptc', key='2:120', type='octets', elements=4, shown='"Vase"')]
     """
-    each = each_field(form)
+    each = places(form)
     if len(form) <= _LEAST * FIELDS:
-        return _shown(each)
-    found = _shown(islice(each, FIELDS))  # 16 MB can be three million DataSets, for which Python needs 1 GB
+        return _shown(form, each)
+    found = _shown(form, islice(each, FIELDS))  # 16 MB can be three million DataSets, for which Python needs 1 GB
     if next(each, None) is not None:
         found.append(Field("iptc", "more", "octets", len(form), f"sha256:{hashlib.sha256(form).hexdigest()[:DIGITS]}"))
     return found
 
 
-def _shown(fields: "Iterable[Any]") -> List[Field]:
+def _shown(form: bytes, each: "Iterable[Place]") -> List[Field]:
     found: List[Field] = []
-    for where, tag, kind, values in fields:
-        if kind in OCTETS:
+    new = tuple.__new__  # to call the class itself takes twice as long, and a picture has a hundred fields
+    for where, tag, kind, elements, at in each:
+        if kind in _WRITE:
+            shown = shown_numbers(_WRITE[kind](form, at, elements))
+            found.append(new(Field, (where, f"{tag:04x}", kind, elements, shown)))
+        elif kind in OCTETS:
             key = f"{tag:04x}"
-            assert isinstance(values, bytes)
-            found.append(Field(where, key, kind, len(values), shown_value(where, key, values)))
+            found.append(new(Field, (where, key, kind, elements, shown_value(where, key, form[at : at + elements]))))
         elif kind == "DATASET":
-            assert isinstance(values, bytes)
-            found.append(Field("iptc", f"{tag >> 8}:{tag & 255}", "octets", len(values), shown_octets(values)))
-        elif kind in _WRITTEN:
-            found.append(Field(where, f"{tag:04x}", kind, len(values), shown_numbers(_WRITTEN[kind](values))))
+            shown = shown_octets(form[at : at + elements])
+            found.append(new(Field, ("iptc", f"{tag >> 8}:{tag & 255}", "octets", elements, shown)))
         else:
-            found += _pictures(kind, values)
+            found += _pictures(form, kind, at)
     return found
 
 
-def _pictures(kind: str, values: Any) -> Iterator[Field]:
+def _pictures(form: bytes, kind: str, parts: Iterable[Tuple[int, int]]) -> Iterator[Field]:
     """The thumbnail's JPEG, or each of its strips."""
-    for octets in values if kind == "STRIPS" else (values,):
-        yield Field("thumb", "jpeg" if kind == "JPEG" else "strip", "octets", len(octets), shown_picture(octets))
+    for at, size in parts:
+        yield Field("thumb", "jpeg" if kind == "JPEG" else "strip", "octets", size, shown_picture(form[at : at + size]))
