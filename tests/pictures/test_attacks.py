@@ -262,7 +262,7 @@ def test_the_log_of_a_killed_run_is_used(archive):
 COARSE = """
 import os, sys
 from exifnorm_pictures.catalogue import records
-from exifnorm_pictures.scan import workers
+from exifnorm_pictures.scan import looking
 class Stat:
     st_mtime_ns = st_ctime_ns = 1_700_000_000 * 10**9
     def __init__(self, it): self.it = it
@@ -272,7 +272,7 @@ class System:
     stat = staticmethod(lambda path: Stat(stat(path)))
     def __getattr__(self, name): return getattr(os, name)
 records.Stamp.of = staticmethod(lambda it: of(Stat(it)))
-workers.os, workers._now = System(), lambda: Stat.st_mtime_ns + {later}
+looking.os, looking._now = System(), lambda: Stat.st_mtime_ns + {later}
 """
 
 

@@ -296,7 +296,7 @@ class Processes(WithPictures):
     def indexed(self, before):
         """The states of a run with this text before it, and what it leaves in its folder for temporary files."""
         text = (
-            "import collections, json, os\nfrom exifnorm_pictures.extract import extraction; from exifnorm_pictures.scan import index, workers as looking, workers as processes\n"
+            "import collections, json, os\nfrom exifnorm_pictures.extract import extraction; from exifnorm_pictures.scan import index, looking, workers as processes\n"
             "from exifnorm_pictures.catalogue.store import Catalogue\nfrom exifnorm_pictures.cli.output import record_lines as entry_lines\n"
             f"{before}\nlines = []\nos.mkdir('room')\n"
             "how = looking.How(jobs=2, room=os.path.abspath('room'), lines=entry_lines)\n"

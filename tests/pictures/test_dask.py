@@ -230,7 +230,7 @@ class Tasks(unittest.TestCase):
     def looked(self, near, work, elsewhere=None, seconds=60.0):
         """The results for some files, each looked at as if it were a GIF."""
         with mock.patch.multiple(cluster, create=True, distributed=near, KilledWorker=Killed, CommClosedError=Closed), mock.patch.object(
-            cluster.workers, "look", lambda it, whole: PictureRecord(it.path, it.root, it.stamp, "GIF" if whole else "JPEG")
+            cluster.looking, "look", lambda it, whole: PictureRecord(it.path, it.root, it.stamp, "GIF" if whole else "JPEG")
         ), mock.patch.object(cluster.programs, "set_limit") as limit:
             looker = cluster.looker(FAR, elsewhere, [b"/"])
             result = list(looker(work, How(seconds=seconds, room="/tmp/room", whole=True)))

@@ -10,7 +10,7 @@ import pytest
 from exifnorm_pictures.catalogue import records, store
 from exifnorm_pictures.cli import main
 from exifnorm_pictures.compare import changed, pairs
-from exifnorm_pictures.extract import exiftool, extraction
+from exifnorm_pictures.extract import exiftool, extraction, readers
 from exifnorm_pictures.fields import listing
 from exifnorm_pictures.catalogue.records import Block, Damaged
 from exifnorm_pictures.catalogue.store import Catalogue, NoCatalogue
@@ -179,8 +179,8 @@ def test_keys_of_fields_that_are_damaged(tmp_path):
 def test_a_picture_at_which_we_fail(command, monkeypatch):
     """Others are looked at, the line has the place of the mistake, and the next run looks at it again."""
     with monkeypatch.context() as planted:
-        reader_of = extraction.reader_of
-        planted.setattr(extraction, "reader_of", lambda head, path: mistake if head.startswith(png.START) else reader_of(head, path))
+        reader_of = readers.reader_of
+        planted.setattr(readers, "reader_of", lambda head, path: mistake if head.startswith(png.START) else reader_of(head, path))
         lines = command("index", "p", "--catalogue", "c", status=2).out.splitlines()
         found = [json.loads(it) for it in command("show", "p/b.png", "p/a.jpg", "--json", status=2).out.splitlines()]
         explained = command("explain", "p/b.png", "--debug", status=2)

@@ -23,7 +23,7 @@ from exifnorm_pictures.extract import coded_picture, extraction
 from exifnorm_pictures.extract.budgets import Budget
 from exifnorm_pictures.extract.formats import jpeg as jpeg_
 from exifnorm_pictures.extract.formats.found import Blocks, Broken
-from exifnorm_pictures.scan import workers
+from exifnorm_pictures.scan import looking
 from exifnorm_pictures.scan.batches import How
 from exifnorm_pictures.scan.walk import FoundFile
 
@@ -277,7 +277,7 @@ def test_a_fault_of_the_library_is_none_of_the_picture(monkeypatch, folder, call
     (folder / "a.jpg").write_bytes(jpeg(app1(A), app13(resource(0x0404, K))))
     library = Failing(call, outcome)
     monkeypatch.setattr(_jpeg, "library", lambda: library)
-    found = workers.look(FoundFile(path, os.fsencode(folder), None), How())
+    found = looking.look(FoundFile(path, os.fsencode(folder), None), How())
     assert (found.problem, found.blocks) == ("InternalError", ())
 
 

@@ -19,7 +19,7 @@ from exifnorm_pictures.catalogue import records
 from exifnorm_pictures.cli import index, main, names, objects, output, parser, report, signals
 from exifnorm_pictures.extract import exiftool, extraction, programs
 from exifnorm_pictures.files import atomic, opening
-from exifnorm_pictures.scan import progress, walk, workers
+from exifnorm_pictures.scan import looking, progress, walk, workers
 from exifnorm_pictures.scan.batches import How
 from exifnorm_pictures.catalogue.records import Block, Damaged, Digests
 from exifnorm_pictures.catalogue.store import VERSION, Catalogue, NoCatalogue
@@ -372,8 +372,8 @@ class Messages(WithPictures):
                 marked._replace(problem="NeedsExifTool", detail=str(programs.Missing("exiftool")), extractor="own", **rest),
             ),
         ):
-            with mock.patch.object(workers.extraction, "blocks_of", mock.Mock(side_effect=why)):
-                self.assertEqual(workers.look(found, How()), expected)
+            with mock.patch.object(looking.extraction, "blocks_of", mock.Mock(side_effect=why)):
+                self.assertEqual(looking.look(found, How()), expected)
         self.assertEqual(
             self.raised(OSError, opening.opened, os.fsencode(self.folder)),
             f"[Errno 22] it is no regular file: {os.fsencode(self.folder)!r}",

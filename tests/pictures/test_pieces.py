@@ -271,7 +271,7 @@ class Work(WithPictures):
 
         with mock.patch.object(workers, "_by_processes", by_processes):
             list(
-                workers._in_several_processes(
+                workers.in_several_processes(
                     [FoundFile(b"%d" % it, b"/", None) for it in range(count)], batches.How(jobs=jobs, room="/room")
                 )
             )

@@ -254,15 +254,25 @@ class Scale(WithPictures):
         self.pictures("p", 2)
         self.asked("index", "p", "--catalogue", "c", "--quiet")
         call = "import sys; from exifnorm_pictures.cli.main import main; main(sys.argv[1:]); print(*sys.modules, file=sys.stderr)"
-        names = ("extract.extraction", "refusals.mend", "refusals.explain", "compare.changed", "report.page", "scan.workers")
-        own = [f"exifnorm_pictures.{it}" for it in names]
-        watched = {"exifnorm", "html", "logging", "multiprocessing", "subprocess", "urllib", "xml", *own}
+        reading = [f"exifnorm_pictures.{it}" for it in ("extract.extraction", "scan.looking")]
+        names = (
+            "compare.changed",
+            "compare.groups",
+            "extract.readers",
+            "refusals.explain",
+            "refusals.mend",
+            "refusals.repairs",
+            "report.page",
+        )
+        watched = {"exifnorm", "html", "logging", "multiprocessing", "subprocess", "urllib", "xml", *reading}
+        watched.update(f"exifnorm_pictures.{it}" for it in names)
         for words, needed in (
-            (["same", "--catalogue", "c"], {"subprocess"}),
+            (["same", "--catalogue", "c"], {"subprocess", "exifnorm_pictures.compare.groups"}),
             (["index", "p", "--catalogue", "c", "--quiet"], {"subprocess"}),
+            (["index", "p", "--catalogue", "e", "--quiet"], {"subprocess", "exifnorm", "xml", *reading}),
             (["merge", "c", "--catalogue", "d"], {"subprocess"}),
             (["changed", "c", "c"], {"subprocess", "exifnorm_pictures.compare.changed"}),
-            (["show", "p/0000.jpg"], watched - {"multiprocessing", "urllib", "html", "logging", *own[3:]}),
+            (["show", "p/0000.jpg"], {"subprocess", "exifnorm", "xml", reading[0], "exifnorm_pictures.refusals.repairs"}),
         ):
             with self.subTest(words[0]):
                 done = run([sys.executable, "-S", "-c", call, *words], self.folder)

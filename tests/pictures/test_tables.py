@@ -16,7 +16,7 @@ from studio import WithPictures
 
 from exifnorm_pictures.compare import changed, groups, pairs as pairing
 from exifnorm_pictures.compare.differing import bare
-from exifnorm_pictures.scan import workers
+from exifnorm_pictures.scan import looking
 from exifnorm_pictures.report import contents
 from exifnorm_pictures.catalogue import store
 from exifnorm_pictures.catalogue.store import VERSION, Catalogue, NoCatalogue
@@ -573,7 +573,7 @@ class Marks(WithPictures):
     def test_a_file_that_is_written_to_meanwhile(self):
         """It has no marks in the catalogue, so that the next run looks at it again."""
         from exifnorm_pictures.scan.batches import How
-        from exifnorm_pictures.scan.workers import look
+        from exifnorm_pictures.scan.looking import look
         from exifnorm_pictures.scan.walk import FoundFile
 
         path = os.fsencode(self.path("a.jpg"))
@@ -589,7 +589,7 @@ class Marks(WithPictures):
         """It has no marks either: what was read of it counts, and the run goes on."""
         from exifnorm_pictures.scan.walk import FoundFile
 
-        self.assertIsNone(workers._unless_changed(FoundFile(os.fsencode(self.path("nothing")), b"/", Stamp(1, 2, 3, 4)), 5))
+        self.assertIsNone(looking._unless_changed(FoundFile(os.fsencode(self.path("nothing")), b"/", Stamp(1, 2, 3, 4)), 5))
 
     def test_each_shows_an_edit(self):
         from exifnorm_pictures.catalogue.store import Known

@@ -10,7 +10,6 @@ from collections import Counter
 from typing import Iterator, List
 
 from ..catalogue.store import Catalogue, NoCatalogue, head_is_ours
-from ..compare import groups
 from ..extract import programs
 from ..files import atomic, tempdir
 from ..scan.batches import How
@@ -100,6 +99,8 @@ def _may_be_read(name: bytes) -> bool:
 
 def _next_steps(catalogue: Catalogue, name: str, excluded: int) -> Iterator[str]:
     """What can be done with the catalogue, a line for each."""
+    from ..compare import groups  # which takes long to import, and --quiet needs none of it
+
     word = escaped(shlex.quote(name))
     count, _ = groups.totals(catalogue)
     if count:

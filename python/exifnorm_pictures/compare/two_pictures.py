@@ -20,7 +20,7 @@ from ..fields.plain_values import POSITION, plain, position
 from ..refusals.octets import Octets, octets_of
 from ..scan.batches import How
 from ..scan.walk import FoundFile
-from ..scan.workers import look
+from ..scan.looking import look
 from ..xmp.texts import texts
 from .changed import Compared, compared
 from .differing import Difference, exact

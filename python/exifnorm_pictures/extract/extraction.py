@@ -12,9 +12,9 @@ from ..cli.output import described
 from ..files import opening
 from .budgets import Budget, TooMuch
 from .exiftool import add_trailers, by_others
+from .formats import jpeg
 from .formats.found import BROKEN, PROBLEMS, Blocks, Broken, LeftToOthers
 from .formats.streams import File
-from .readers import HEAD, reader_of, type_of
 
 
 def blocks_of(path: bytes, whole: bool = False) -> Blocks:
@@ -65,9 +65,14 @@ def too_much(why: TooMuch) -> Blocks:
 
 def _read(stream: File, path: bytes, whole: bool) -> Blocks:
     """Reads a file by the reader of its format, which its first bytes show. Raises `Broken` and `LeftToOthers`."""
-    read = reader_of(stream.read(HEAD), path)
+    if stream.read(len(jpeg.START)) == jpeg.START:
+        return jpeg.read(stream, whole)
+    from . import readers  # those of all formats take long to import, and most pictures are JPEGs
+
+    stream.seek(0)
+    read = readers.reader_of(stream.read(readers.HEAD), path)
     if read is None:
         raise LeftToOthers("")
     blocks = read(stream, whole)
-    blocks.type = type_of(blocks, path)
+    blocks.type = readers.type_of(blocks, path)
     return blocks

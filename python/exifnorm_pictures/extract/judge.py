@@ -12,7 +12,7 @@ from ..catalogue.records import FAILED, TOO_LONG, Block
 from ..compare.verdicts import ACCEPTED, REFUSED, UNREADABLE
 from ..fields import normal_form
 from ..fields.listing import digest_but_note, packed, packed_text, text_of_fields
-from ..refusals import repairs, steps
+from ..refusals import steps
 from . import structure
 from .formats.found import COMPRESSED, EXIF, FEW, IPTC, NAMES, XMP, Blocks, FoundBlock
 
@@ -42,6 +42,8 @@ def judge(kind: str, block: bytes, with_fields: bool = False, at: FoundBlock = _
 
 def _repaired(it: Block, block: bytes) -> Block:
     """A refused block with what a repair makes of it."""
+    from ..refusals import repairs  # which takes long to import, and few blocks are refused
+
     found = repairs.repaired(block)
     if found is None:
         return it

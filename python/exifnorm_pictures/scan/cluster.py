@@ -14,7 +14,7 @@ from typing import Any, Dict, Iterator, List, Optional, Sequence
 
 from ..catalogue.records import RACY, PictureRecord, Stamp
 from ..extract import programs
-from . import workers
+from . import looking
 from .batches import How
 from .index import Look
 from .walk import FoundFile
@@ -33,7 +33,7 @@ POLL = 2.0  # seconds without a result after which the workers are counted
 def look_there(root: bytes, names: Sequence[bytes], how: How) -> List[PictureRecord]:
     """A worker's task: looks at files by their names relative to its own path of the folder."""
     programs.set_limit(how.seconds)
-    return [workers.look(FoundFile(os.path.join(root, name), root, _stamp(os.path.join(root, name))), how) for name in names]
+    return [looking.look(FoundFile(os.path.join(root, name), root, _stamp(os.path.join(root, name))), how) for name in names]
 
 
 def _stamp(path: bytes) -> Optional[Stamp]:

@@ -22,6 +22,7 @@ from .progress import Progress
 from .walk import FoundFile, Unlisted, below
 
 BATCH = 1000  # pictures of one transaction
+FEW = 64  # pictures for which starting a further process takes too long
 FILES = 8  # of batches, which SQLite attaches at once; it can attach ten
 GONE = ("Vanished", "Moved")
 NEEDED = {"NeedsExifTool": "exiftool", "NeedsExiv2": "exiv2"}
@@ -31,9 +32,14 @@ Look = Callable[[Sequence[FoundFile], How], Iterator[Result]]
 
 
 def _looked(work: Sequence[FoundFile], how: How) -> Iterator[Result]:
-    from . import workers  # the readers take long to import, and in most runs nothing has changed
+    """The results for these files, in their order. What is needed takes long to import, and in most runs nothing has changed."""
+    if how.processes == 1 or len(work) <= FEW:
+        from .looking import in_this_process
 
-    return workers.looked(work, how)
+        return in_this_process(work, how)
+    from .workers import in_several_processes
+
+    return in_several_processes(work, how)
 
 
 @dataclass

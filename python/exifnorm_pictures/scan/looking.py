@@ -1,0 +1,140 @@
+"""Looks at one picture after another, in this process. The module takes long to import, so only what looks at pictures imports it."""
+
+from __future__ import annotations
+
+import os
+import time
+from typing import Iterator, List, Optional, Sequence, Tuple
+
+from exifnorm import LibraryMissing
+
+from ..catalogue.records import RACY, Block, PictureRecord, Stamp
+from ..cli.output import reason
+from ..extract import exiftool, extraction, judge, programs, sidecars
+from ..extract.budgets import WHOLE_FILE, TooMuch
+from ..extract.formats.found import PROBLEMS, Blocks
+from ..extract.formats.streams import digest_of_file
+from .batches import How
+from .walk import FoundFile
+
+# Nanoseconds in which two edits may have one time: twice a tick of the slowest kernel; and of file systems without parts of a second,
+# of which FAT has two seconds, and others one.
+FINE, COARSE = 20_000_000, 2_000_000_000
+
+
+def look(it: FoundFile, how: How) -> PictureRecord:
+    """The result for one file. An error of any kind affects only this file."""
+    began = _now()
+    try:
+        marks = sidecars.marks(it.path, it.sidecars, lambda *times: _is_racy(times, began)) if it.sidecars else ""
+        blocks, judged = _read(it, how)
+        whole_file = file_digest(it.path, blocks, how.whole)
+        if it.sidecars:
+            whole_file = sidecars.with_sidecars(whole_file, it.path, it.sidecars)
+        notes = _maker_notes(it.path, judged) if how.maker_notes else None
+        coded = _coded_picture(it.path, blocks) if how.pixels else None
+    except LibraryMissing:  # an OSError too, but not of this file
+        raise
+    except programs.Failed as error:
+        return failed(it, str(error))
+    except OSError as error:
+        return PictureRecord(it.path, it.root, problem="Unreadable", detail=reason(error))
+    except programs.Missing as error:
+        return PictureRecord.of(it.path, it.root, it.stamp, Blocks(problem="NeedsExifTool", detail=str(error)))
+    except MemoryError:
+        return failed(it, "out of memory")
+    except Exception as error:  # an error of a reader affects only this file
+        return PictureRecord.of(it.path, it.root, it.stamp, extraction.failed_here(error))
+    found = PictureRecord.of(it.path, it.root, _unless_changed(it, began), blocks, judged, whole_file)
+    return found._replace(notes=notes, coded_picture=coded, sidecars=marks) if notes or marks or how.pixels else found
+
+
+def _read(it: FoundFile, how: How) -> Tuple[Blocks, List[Block]]:
+    """The blocks of a file and its sidecars, and what they mean. A file over a limit has a problem, and so has one for which a program takes too long."""
+    try:
+        blocks = extraction.blocks_of(it.path, how.whole)
+        if blocks.problem == "NoFile":  # which was there when its folder was listed
+            blocks = Blocks(problem="Vanished", detail=PROBLEMS["Vanished"])
+        if it.sidecars:
+            sidecars.add(blocks, it.path, it.sidecars)
+        return blocks, [] if blocks.problem else judge.judge_all(blocks, with_fields=True)
+    except TooMuch as why:
+        return extraction.too_much(why), []
+    except programs.TooSlow as error:
+        return Blocks(problem="TooSlow", detail=str(error)), []
+
+
+def _maker_notes(path: bytes, judged: Sequence[Block]) -> Optional[bytes]:
+    """What ExifTool reads of the MakerNotes of a picture that has one."""
+    if all(it.note is None for it in judged):
+        return None
+    from ..compare import maker_notes
+
+    return maker_notes.packed(maker_notes.readings_of([path])[0])
+
+
+def _coded_picture(path: bytes, blocks: Blocks) -> str:
+    """The digest of the coded picture; empty if there is none, as of a file that can't be read."""
+    from ..extract import coded_picture
+
+    return "" if blocks.problem else coded_picture.digest_of(path, blocks.budget)
+
+
+def file_digest(path: bytes, blocks: Blocks, whole: bool) -> str:
+    """SHA-256 of a whole file, if nothing else of it can be compared: no block of it was read, or a part has no digest."""
+    if not blocks.problem and all(it.digest for it in blocks.not_read):
+        return ""
+    if blocks.problem in ("Vanished", "LinkToNothing", "NotAFile", "Unreadable", "NeedsExifTool"):
+        return ""
+    return digest_of_file(path, WHOLE_FILE if not whole else 1 << 62)
+
+
+def failed(it: FoundFile, why: str) -> PictureRecord:
+    """The result for a file at which a program or a process failed."""
+    return PictureRecord.of(it.path, it.root, it.stamp, Blocks(problem="ToolFailed", detail=why))
+
+
+def _now() -> int:
+    """Nanoseconds since 1970; 0 with a clock that is more than 292 years off, for which no file's times are known to be old."""
+    try:
+        return time.time_ns()
+    except OverflowError:
+        return 0
+
+
+def _unless_changed(it: FoundFile, began: int) -> Optional[Stamp]:
+    """The marks that identify the file; none if it was written to meanwhile, so that the next run looks again.
+
+    If it was changed so shortly before that a further edit could leave the same times, they are kept with a ctime that no file has, as
+    git does it: the next run looks again, and a file that moves is still recognised.
+    """
+    try:
+        now = os.stat(it.path)
+    except (OSError, ValueError):
+        return None
+    if it.stamp is None or it.stamp != Stamp.of(now):
+        return None
+    times = (now.st_mtime_ns, now.st_ctime_ns)
+    if began - max(times) > COARSE:
+        return it.stamp
+    if not began:
+        return it.stamp._replace(changed=RACY)
+    return it.stamp._replace(changed=RACY) if _is_racy(times, began) else it.stamp
+
+
+def _is_racy(times: Sequence[int], began: int) -> bool:
+    """Whether a file with this mtime and ctime may have been changed again since without other times: if one of them is hardly older than
+    the look, or the ctime is in the future, because the clock of a share may be ahead."""
+    near = [it for it in times if abs(began - it) < COARSE]
+    return times[1] > began or any(it % 1_000_000_000 == 0 or abs(began - it) < FINE for it in near)
+
+
+def in_this_process(work: Sequence[FoundFile], how: How) -> Iterator[PictureRecord]:
+    """The results for these files, in their order."""
+    programs.set_limit(how.seconds)
+    exiftool.begin(how.room)
+    try:
+        for it in work:
+            yield look(it, how)
+    finally:
+        exiftool.finish()
