@@ -56,20 +56,33 @@ class Archive(InFolder):
 
     @needs("exiftool", "exiv2")
     def test_runs(self):
-        """Each run has its times in UTC, and the versions of the library and of the programs."""
+        """Each run has its times in UTC, and the versions of the library and of the programs that have read a picture."""
+        write(self.path("p", "d.exv"), EXV)
+        self.run_again()
+        write(self.path("p", "e.nrw"), block([MAKE]))
         before = time.strftime("%Y-%m-%dT%H:%M:%SZ", time.gmtime())
         self.run_again("--again", TZ="Asia/Tokyo")
         after = time.strftime("%Y-%m-%dT%H:%M:%SZ", time.gmtime())
         base = sqlite3.connect(self.path("c"))
-        (first, *_), (started, ended, library, exiftool, exiv2) = base.execute(
-            "SELECT started, ended, exifnorm, exiftool, exiv2 FROM runs ORDER BY id"
-        )
+        runs = list(base.execute("SELECT started, ended FROM runs ORDER BY id"))
+        versions = list(base.execute("SELECT exifnorm, exiftool, exiv2 FROM runs ORDER BY id"))
         base.close()
-        moments = [first, before, started, ended, after]
+        moments = [runs[1][1], before, *runs[2], after]
         self.assertEqual(moments, sorted(moments))
-        self.assertEqual(library, exifnorm.version())
-        self.assertEqual(exiftool, tool(self.folder, "exiftool", "-ver").decode().strip())
-        self.assertEqual(exiv2, tool(self.folder, "exiv2", "--version").decode().split()[1])
+        library, exiftool = exifnorm.version(), tool(self.folder, "exiftool", "-ver").decode().strip()
+        exiv2 = tool(self.folder, "exiv2", "--version").decode().split()[1]
+        self.assertEqual(versions, [(library, None, None), (library, exiftool, None), (library, exiftool, exiv2)])
+
+    @needs("exiftool")
+    def test_versions_of_programs_that_read_pictures_in_several_processes(self):
+        for number in range(70):
+            write(self.path("p", f"{number}.jpg"), ONE)
+        write(self.path("p", "d.exv"), EXV)
+        run(["exifnorm-pictures", "index", "p", "--catalogue", "many", "--jobs", "2", "--quiet"], self.folder)
+        base = sqlite3.connect(self.path("many"))
+        found = list(base.execute("SELECT exiftool, exiv2 FROM runs"))
+        base.close()
+        self.assertEqual(found, [(tool(self.folder, "exiftool", "-ver").decode().strip(), None)])
 
     @needs("exiftool")
     def test_a_program_that_was_installed_since(self):

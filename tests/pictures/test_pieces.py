@@ -323,7 +323,7 @@ class Work(WithPictures):
             PictureRecord(b"/a", b"/", Stamp(1, 2, 3, 4), "JPEG", "own"),
             PictureRecord(b"/b", b"/", problem="Unreadable", detail="why"),
             PictureRecord(b"/c", b"/", problem="Vanished"),
-            PictureRecord(b"/d", b"/", problem="NoPicture", detail="d"),
+            PictureRecord(b"/d", b"/", extractor="exiftool", problem="NoPicture", detail="d"),
         ]
         it = batches.batch(self.path("rows"), entries, [FoundFile(b"/e", b"/", None)], lambda it: [os.fsdecode(it.path), it.detail])
         self.assertEqual(
@@ -332,6 +332,7 @@ class Work(WithPictures):
                 self.path("rows"),
                 {"no block": 1, "Unreadable": 1, "Vanished": 1, "NoPicture": 1},
                 ["/a", "", "/b", "why", "/c", "", "/d", "d"],
+                {"exiftool"},
                 entries[1:3],
                 [FoundFile(b"/e", b"/", None)],
             ),
@@ -344,6 +345,15 @@ class Work(WithPictures):
         )
         self.assertEqual(batches.batch(self.path("more"), entries[:1], [], None).lines, [])
         self.assertEqual(records.state_of(None, []), "no block")
+
+    def test_programs_that_have_read_a_picture(self):
+        """They have extracted its blocks, or have found that it has none; or ExifTool has read its MakerNotes."""
+        blocks = [records.Block("exif", "Exif", "place", it, "accepted", "d", None, None, 1, "o") for it in ("own", "exiv2")]
+        own = PictureRecord(b"/a", b"/", extractor="own")
+        found = [
+            it.programs for it in (own, own._replace(notes=b"[]"), own._replace(extractor="exiftool"), own._replace(blocks=tuple(blocks)))
+        ]
+        self.assertEqual(found, [set(), {"exiftool"}, {"exiftool"}, {"exiv2"}])
 
 
 class Walked(WithPictures):

@@ -5,10 +5,10 @@ from __future__ import annotations
 import hashlib
 import os
 from dataclasses import dataclass
-from typing import Any, Dict, Iterable, List, NamedTuple, Optional, Sequence, Tuple
+from typing import Any, Dict, Iterable, List, NamedTuple, Optional, Sequence, Set, Tuple
 
 from ..compare.verdicts import ABSENT, ACCEPTED, REACHED, REFUSED, UNREADABLE, Side, joined, side_of
-from ..extract.formats.found import EXIF, IPTC, XMP, Blocks, NotRead
+from ..extract.formats.found import EXIF, EXIFTOOL, IPTC, PROGRAMS, XMP, Blocks, NotRead
 from ..refusals.steps import Step, loses, unpacked
 
 KINDS = (EXIF, IPTC, XMP)
@@ -154,6 +154,12 @@ class PictureRecord(NamedTuple):
         """The result for a file."""
         found = _digests(it.problem, judged, it.not_read)  # here, since several processes look at pictures, and one writes
         return cls(path, root, stamp, it.type, it.extractor, it.problem, it.detail, tuple(judged), tuple(it.not_read), found, file)
+
+    @property
+    def programs(self) -> Set[str]:
+        """The other programs that have read something of it."""
+        names = {self.extractor, *[it.extractor for it in self.blocks]}
+        return {it for it in names if it in PROGRAMS} | ({EXIFTOOL} if self.notes else set())
 
     @property
     def state(self) -> str:

@@ -35,7 +35,7 @@ CREATE TABLE runs (
     started TEXT NOT NULL,          -- UTC
     ended TEXT,                     -- missing where the run was stopped
     exifnorm TEXT,                  -- the version of the library that made the digests; it ends with -unproved if that was not proved
-    exiftool TEXT,                  -- versions of the programs
+    exiftool TEXT,                  -- versions of the programs that have read a picture
     exiv2 TEXT,
     sidecars INTEGER NOT NULL       -- 1: XMP files beside pictures are blocks of them
 );
@@ -354,7 +354,7 @@ class Catalogue:
         return next(self.rows("SELECT 1 FROM runs WHERE sidecars LIMIT 1"), None) is not None
 
     def set_versions(self, run: int, exifnorm: str, exiftool: Optional[str], exiv2: Optional[str]) -> None:
-        """Keeps which library makes the digests of a run, and with which programs it takes blocks."""
+        """Keeps which library makes the digests of a run, and which programs have read a picture."""
         with self.guarded():
             self.base.execute("UPDATE runs SET exifnorm = ?, exiftool = ?, exiv2 = ? WHERE id = ?", (exifnorm, exiftool, exiv2, run))
 

@@ -9,7 +9,7 @@ import os
 import sqlite3
 from collections import Counter
 from dataclasses import dataclass
-from typing import Callable, List, NamedTuple, Optional, Sequence, Union
+from typing import Callable, List, NamedTuple, Optional, Sequence, Set, Union
 
 from ..catalogue.records import PictureRecord
 from ..catalogue.store import KEPT_BEFORE, make_rows, put_rows
@@ -52,6 +52,7 @@ class Batch(NamedTuple):
     file: str  # with their rows
     states: "Counter[str]"  # how many have each state
     lines: List[str]
+    programs: Set[str]  # the other programs that have read something of them
     unread: List[PictureRecord]  # which have no row: if they were known before, their earlier results stay
     left: Sequence[FoundFile]  # the pictures after them, which were not looked at yet
 
@@ -68,4 +69,4 @@ def batch(file: str, entries: Sequence[PictureRecord], left: Sequence[FoundFile]
         put_rows(base, 0, 1, [it for it in entries if it.problem not in KEPT_BEFORE] if unread else entries)
         base.execute("COMMIT")
     printed = [line for it in entries for line in lines(it)] if lines else []
-    return Batch(file, Counter(it.state for it in entries), printed, unread, left)
+    return Batch(file, Counter(it.state for it in entries), printed, {program for it in entries for program in it.programs}, unread, left)

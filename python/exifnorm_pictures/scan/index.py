@@ -14,7 +14,7 @@ from ..catalogue.records import PictureRecord, is_as_before
 from ..catalogue.store import Catalogue, Known
 from ..compare.moved import Departed
 from ..extract import programs
-from ..extract.formats.found import PROBLEMS, UNREAD_TRAILER
+from ..extract.formats.found import EXIFTOOL, EXIV2, PROBLEMS, UNREAD_TRAILER
 from ..extract.sidecars import marks
 from .excluded import Excluded
 from .batches import LONGEST_WAIT, Batch, How, Lines, Result
@@ -209,6 +209,8 @@ class _Looking:
         self.options, self.catalogue, self.run, self.work = options, catalogue, run, work
         self.progress = Progress(len(work.to_read), quiet=options.quiet)
         self.ready: List[Result] = []
+        self.version = ""  # of the library
+        self.versions: Dict[str, Optional[str]] = {}  # of the other programs that have read a picture
         self.files = 0  # of batches that are ready
         self.pictures = 0  # that are ready
         self.done = 0
@@ -221,7 +223,8 @@ class _Looking:
         self.progress.start()
         import exifnorm  # in most runs nothing has changed, and they don't load the library
 
-        self.catalogue.set_versions(self.run, exifnorm.version(), _version("exiftool"), _version("exiv2"))
+        self.version = exifnorm.version()
+        self.catalogue.set_versions(self.run, self.version, None, None)
         for it in self.options.look(self.work.to_read, self.options.how):
             self.ready.append(it)
             self.files += isinstance(it, Batch)
@@ -236,6 +239,7 @@ class _Looking:
         batches = [it for it in self.ready if isinstance(it, Batch)]
         entries = [one for it in self.ready for one in (it.unread if isinstance(it, Batch) else (it,))]
         self.catalogue.put(self.run, entries, [it.file for it in batches])
+        self.keep_versions({program for it in self.ready for program in it.programs})
         for it in self.ready:
             if isinstance(it, Batch):
                 self.work.counts += it.states
@@ -248,6 +252,13 @@ class _Looking:
         self.pictures = self.files = 0
         self.last = time.monotonic()
         self.progress.done(self.done)
+
+    def keep_versions(self, programs: Set[str]) -> None:
+        """Keeps the versions of programs that have read a picture. To ask ExifTool takes as long as to look at a hundred pictures."""
+        new = programs - self.versions.keys()
+        if new:
+            self.versions.update({it: _version(it) for it in new})
+            self.catalogue.set_versions(self.run, self.version, self.versions.get(EXIFTOOL), self.versions.get(EXIV2))
 
     def count(self, it: PictureRecord, lines: Optional[Lines]) -> None:
         """Counts and reports a picture."""

@@ -66,7 +66,7 @@ CREATE TABLE runs (
     started TEXT NOT NULL,          -- UTC
     ended TEXT,                     -- missing where the run was stopped
     exifnorm TEXT,                  -- the version of the library that made the digests; it ends with -unproved if that was not proved
-    exiftool TEXT,                  -- versions of the programs
+    exiftool TEXT,                  -- versions of the programs that have read a picture
     exiv2 TEXT,
     sidecars INTEGER NOT NULL       -- 1: XMP files beside pictures are blocks of them
 );
