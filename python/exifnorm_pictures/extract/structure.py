@@ -116,7 +116,7 @@ class Notes(NamedTuple):
     @property
     def words(self) -> str:
         """The uncovered bytes for people."""
-        return counted(sum(map(bool, self.uncovered)), " and ".join(self.by))
+        return counted(len(self.uncovered) - self.uncovered.count(0), " and ".join(self.by))
 
 
 def counted(number: int, by: str) -> str:

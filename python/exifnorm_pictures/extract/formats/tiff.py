@@ -247,7 +247,7 @@ class Reader:
             for data in pieces(stream, end, min(start, self.directories.size)) if start > end else ():
                 if bare := data.strip(b"\0"):
                     found.update(bare)
-                    count += sum(map(bool, bare))
+                    count += len(bare) - bare.count(0)
             end = max(end, stop)
         if count:
             self.blocks.not_read.append(NotRead(counted(count, "the MakerNote"), found.hexdigest()))
