@@ -5,6 +5,7 @@ Peers need not be installed: their drivers are compiled against what they use of
 
 import importlib
 import importlib.util
+import os
 import re
 import shutil
 import subprocess
@@ -200,13 +201,13 @@ def test_processes_of_commands_on_pictures(of_pictures, folder, monkeypatch):
     monkeypatch.setattr(of_pictures, "cost", lambda words, *_: called.append(words) or of_pictures.Cost(len(called), 1, 1))
     timed = of_pictures.Timed(str(folder), 1)
     timed.round()
-    jobs = {name: called[int(it.seconds) - 1][-2] for name, it in timed.least.items() if name not in ("exiftool", "exiv2")}
+    jobs = {name: called[int(it.seconds) - 1][-2] for name, it in timed.least.items() if not name.startswith(("exiftool", "exiv2"))}
     assert {name for name, it in jobs.items() if it == "4"} == {"four", "others by four"}
     assert {it for name, it in jobs.items() if "four" not in name} == {"1"}
 
 
 def test_time_over_exiv2s_library(of_pictures, folder, monkeypatch):
-    """The start of the command is no part of the time for the pictures."""
+    """What a command needs for the first picture, as to start, is no part of the time for a further one."""
     monkeypatch.setattr(of_pictures, "exiv2_reader", lambda _: "reader")
     monkeypatch.setattr(of_pictures, "share", lambda *_: 1.0)
     pictures = folder / "named"
@@ -215,7 +216,8 @@ def test_time_over_exiv2s_library(of_pictures, folder, monkeypatch):
         (pictures / f"{name}.jpg").write_bytes(b"")
     timed = of_pictures.Timed(str(folder), 5000, str(pictures))
     assert Path(timed.list).read_text().split() == [f"{pictures}/a.jpg", f"{pictures}/b.jpg"]
-    spent = {"exiv2": 0.004, "one": 0.025, "start": 0.005}
+    assert (Path(timed.list_of_first).read_text(), os.listdir(timed.first)) == (f"{pictures}/a.jpg\n", ["a.jpg"])
+    spent = {"exiv2": 0.004, "exiv2, first": 0.002, "one": 0.025, "first": 0.015}
     monkeypatch.setattr(of_pictures, "cost", lambda words, *_: of_pictures.Cost(1, 1, 1))
     timed.round()
     timed.least.update((name, of_pictures.Cost(1, it, 1)) for name, it in spent.items())
