@@ -335,7 +335,7 @@ class Ended(unittest.TestCase):
     def test_each_failure_has_its_line_and_status(self):
         for why, status, line in (
             (MemoryError(), 4, "out of memory"),
-            (KeyboardInterrupt(), 130, "stopped; the same command goes on from there"),
+            (KeyboardInterrupt(), 130, "stopped"),
             (walk.BadList("a list"), 3, "a list"),
             (NoCatalogue("a catalogue"), 4, "a catalogue"),
             (programs.Failed("a program"), 4, "a program"),

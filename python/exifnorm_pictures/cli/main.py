@@ -41,17 +41,20 @@ def main(words: Optional[Sequence[str]] = None) -> int:
 
 
 def _run(words: Optional[Sequence[str]]) -> int:
+    command = ""
     try:
         signals.set_debug(False)
         arguments = parsed(words)
         signals.set_debug(arguments.debug)
         # importing the modules of all commands would take longer than most commands do
-        command = importlib.import_module(f".{arguments.command}", __package__)
+        command = arguments.command
+        module = importlib.import_module(f".{command}", __package__)
         gc.freeze()
         gc.set_threshold(COLLECTED)
-        return int(command.run(arguments))
+        return int(module.run(arguments))
     except KeyboardInterrupt:
-        signals.say("exifnorm-pictures: stopped; the same command goes on from there")
+        more = "; the same command goes on from there" if command == "index" else ""
+        signals.say(f"exifnorm-pictures: stopped{more}")
         return STOPPED
     except MemoryError:
         return _failed("out of memory")

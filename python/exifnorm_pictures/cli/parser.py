@@ -30,8 +30,7 @@ _STATUSES = """Statuses:
   3    bad arguments; index: no name leads to a folder or a file
   4    the command itself failed: the catalogue, a stream, an output file, the
        disk or the memory
-  130  stopped by the keyboard; reported results are kept, and the same command
-       continues from there
+  130  stopped by the keyboard; what was reported is kept
 If several apply, the status is the greatest of them. SIGTERM and SIGHUP end
 the command by that signal.
 
