@@ -20,7 +20,7 @@ class Index(WithPictures):
             lines[1:],
             [
                 "4 accepted, 1 NoPicture, 1 no block, 1 refused",
-                "1 group of equal pictures: exifnorm-pictures same --catalogue c",
+                "1 group of pictures that mean the same: exifnorm-pictures same --catalogue c",
                 "1 refused or unreadable: exifnorm-pictures report --catalogue c --html report.html",
             ],
         )

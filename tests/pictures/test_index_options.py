@@ -86,7 +86,7 @@ def test_what_to_do_next(folder, called):
     assert "HeaderCut" in lines[0]
     assert lines[1:] == [
         "5 accepted, 1 refused",
-        "2 groups of equal pictures: exifnorm-pictures same --catalogue 'my catalogue'\"'\"'s'",
+        "2 groups of pictures that mean the same: exifnorm-pictures same --catalogue 'my catalogue'\"'\"'s'",
         "1 refused or unreadable: exifnorm-pictures report --catalogue 'my catalogue'\"'\"'s' --html report.html",
     ]
     assert called("same", "--catalogue", name)[1].splitlines()[-2].startswith("2 groups")

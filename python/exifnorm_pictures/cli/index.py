@@ -104,7 +104,7 @@ def _next_steps(catalogue: Catalogue, name: str, excluded: int) -> Iterator[str]
     word = escaped(shlex.quote(name))
     count, _ = groups.totals(catalogue)
     if count:
-        yield f"{count:,} group{'s' * (count > 1)} of equal pictures: exifnorm-pictures same --catalogue {word}"
+        yield f"{count:,} group{'s' * (count > 1)} of pictures that mean the same: exifnorm-pictures same --catalogue {word}"
     refused = next(catalogue.rows("SELECT count(*) FROM pictures WHERE problem IS NULL AND (exif IS NULL OR iptc IS NULL OR xmp IS NULL)"))[
         0
     ]
