@@ -76,6 +76,38 @@ def test_a_copy_of_a_damaged_file_is_not_mended(asked, folder):
     assert json.loads(asked("mend", "--json", "cut.jpg", "second.jpg", status=2)[0])["damage"]
 
 
+@pytest.mark.parametrize(
+    "words",
+    [
+        ("same", "--catalogue", "c"),
+        ("changed", "p", "p"),
+        ("changed", "c", "c"),
+        ("report", "--catalogue", "c", "--json"),
+        ("export", "c", "t"),
+    ],
+    ids=" ".join,
+)
+def test_names_of_a_list_that_no_picture_has(called, folder, words):
+    """Without a word an answer of no pictures would seem to be one about those that were meant."""
+    (folder / "p").mkdir()
+    (folder / "p/a.jpg").write_bytes(GOOD)
+    assert called("index", "p", "--catalogue", "c", "--quiet")[0] == 0
+    (folder / "list").write_text("p/a.jpg\n")
+    assert called(*words, "--files-from", "list")[::2] == (0, "")
+    (folder / "list").write_text("p/a.jpg\np/b.jpg\np/c.jpg\n")
+    status, _, message = called(*words, "--files-from", "list")
+    named = "p/b.jpg, p/c.jpg" if words[0] == "changed" else f"{folder}/p/b.jpg, {folder}/p/c.jpg"
+    assert (status, message) == (0, f"exifnorm-pictures: note: 2 names of the list are no picture's: {named}\n")
+
+
+def test_a_name_of_a_list_below_a_folder(called, folder):
+    (folder / "p").mkdir()
+    (folder / "p/a.jpg").write_bytes(GOOD)
+    (folder / "list").write_text("a.jpg\nb.jpg\n")
+    status, _, message = called("changed", "p", "p", "--files-from", "list")
+    assert (status, message) == (0, "exifnorm-pictures: note: 1 name of the list is no picture's: b.jpg\n")
+
+
 @pytest.mark.parametrize("names", [("p", "q"), ("q", "p")])
 def test_a_mistyped_name_for_changed(called, folder, names):
     (folder / "p").mkdir()

@@ -455,6 +455,10 @@ class Catalogue:
             row = self.base.execute(query, (path,)).fetchone()
         return None if row is None else _known(row)
 
+    def has(self, path: bytes) -> bool:
+        """Whether a picture is known."""
+        return self.known(path) is not None
+
     def is_empty(self) -> bool:
         """Whether no picture is known, as in a first run."""
         return next(self.rows("SELECT 1 FROM pictures LIMIT 1"), None) is None

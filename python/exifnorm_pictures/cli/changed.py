@@ -9,7 +9,7 @@ import json
 import os
 import sys
 from collections import Counter
-from typing import Iterable, Iterator, List
+from typing import Callable, Iterable, Iterator, List
 
 from ..catalogue.store import Catalogue, NoCatalogue
 from ..compare import changed as changes
@@ -25,7 +25,7 @@ from ..scan.index import IndexOptions, index
 from . import changed_tables
 from .choice import choice_of, lines as lines_of_choice, listings_of, refuse_unknown, say_unseen
 from .exit_codes import DIFFERENCE, SUCCESS, UNKNOWN, USAGE
-from .names import from_list, refuse_pictures
+from .names import from_list, refuse_pictures, say_unknown
 from .output import closed_folder, print_line, shown_path
 from .signals import Failure
 from .summary import lines
@@ -65,6 +65,8 @@ def run(arguments: argparse.Namespace) -> int:
         else:
             _print_summary(found, counts, choice)
         say_unseen(choice, "that differs")
+        if names:
+            say_unknown(names, _knows(before, after))
     return status_of(counts)
 
 
@@ -95,6 +97,17 @@ def status_of(counts: "Counter[str]") -> int:
     if any(counts[it] for it in changes.OPEN):
         return UNKNOWN
     return DIFFERENCE if any(counts[it] for it in changes.DIFFERENCES) else SUCCESS
+
+
+def _knows(*sides: Catalogue) -> Callable[[bytes], bool]:
+    """Whether a name is a picture's of a side: a path below its folder, or a full one."""
+    folders = [it for side in sides for it in side.roots()]
+
+    def is_known(name: bytes) -> bool:
+        places = [os.path.abspath(name), *(os.path.join(it, name) for it in folders)]
+        return any(side.has(it) for side in sides for it in places)
+
+    return is_known
 
 
 def _refuse_missing(*names: str) -> None:

@@ -16,7 +16,7 @@ from ..export.tables import VERSION, Tables, head_is_ours, tables
 from ..extract import exiftool, programs
 from ..files import atomic, tempdir
 from .exit_codes import SUCCESS
-from .names import chosen_paths
+from .names import chosen_paths, say_unknown
 from .objects import print_object
 from .output import path_members, print_line, shown_path
 
@@ -36,6 +36,7 @@ def run(arguments: argparse.Namespace) -> int:
         finally:
             exiftool.finish()
         _put(made, arguments)
+        say_unknown(chosen or (), catalogue.has)
     counts = {name: written.counts.get(name, 0) for name in ("pictures", "fields", "captions", "conflicts", "groups")}
     if arguments.json:
         print_object("export", "summary", {**path_members(os.fsencode(arguments.file)), "rows": counts, "texts_not_kept": work.missing})

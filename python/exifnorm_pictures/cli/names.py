@@ -4,10 +4,11 @@ from __future__ import annotations
 
 import argparse
 import os
-from typing import List, Optional, Sequence, Set
+from typing import Callable, Iterable, List, Optional, Sequence, Set
 
 from ..files.opening import reading
 from ..scan.walk import BadList, listed
+from . import signals
 from .exit_codes import USAGE
 from .output import shown_path
 from .parser import refuse
@@ -25,6 +26,18 @@ def chosen_paths(arguments: argparse.Namespace) -> Optional[Set[bytes]]:
     """The names of --files-from as absolute paths."""
     names = from_list(arguments)
     return None if names is None else {os.path.abspath(it) for it in names}
+
+
+SHOWN = 3  # names of a list that are printed in a line
+
+
+def say_unknown(names: Iterable[bytes], is_known: Callable[[bytes], bool]) -> None:
+    """Names on standard error those of --files-from that no picture has: the answer is about the others alone."""
+    unknown = sorted(it for it in names if not is_known(it))
+    if unknown:
+        have = "1 name of the list is no picture's" if len(unknown) == 1 else f"{len(unknown):,} names of the list are no picture's"
+        shown = [*map(shown_path, unknown[:SHOWN]), *[".."] * (len(unknown) > SHOWN)]
+        signals.say(f"exifnorm-pictures: note: {have}: {', '.join(shown)}")
 
 
 def named(arguments: argparse.Namespace, names: Sequence[str]) -> List[bytes]:

@@ -14,7 +14,7 @@ from ..files import atomic, tempdir
 from ..report import contents, page
 from .choice import choice_of, listings_of, refuse_unknown, say_unseen
 from .exit_codes import SUCCESS
-from .names import chosen_paths
+from .names import chosen_paths, say_unknown
 from .parser import refuse
 
 
@@ -40,6 +40,7 @@ def run(arguments: argparse.Namespace) -> int:
             for members in contents.members(about):
                 print(json.dumps(members))
         say_unseen(choice, "of the catalogue")
+        say_unknown(chosen or (), catalogue.has)
     return SUCCESS
 
 

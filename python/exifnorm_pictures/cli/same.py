@@ -17,7 +17,7 @@ from ..fields.choosing import Choice
 from ..files import tempdir
 from .choice import BY_LISTING, choice_of, listings_of, refuse_unknown, say_unseen
 from .exit_codes import DIFFERENCE, SUCCESS, UNKNOWN, USAGE
-from .names import chosen_paths
+from .names import chosen_paths, say_unknown
 from .objects import line_of, print_object
 from .output import Members, path_members, print_line, shown_path
 from .parser import PIXELS
@@ -73,6 +73,7 @@ def run(arguments: argparse.Namespace) -> int:
         elif unknown:
             signals.say(f"exifnorm-pictures: note: {of_unknown(unknown)}")
         say_unseen(choice, "of the catalogue")
+        say_unknown(chosen or (), catalogue.has)
     return UNKNOWN if unknown else _status(results)
 
 
