@@ -60,7 +60,7 @@ def of_pictures(name, *paths):
 @pytest.mark.parametrize(
     "words, module, name",
     [
-        (["index", "p", "--catalogue", "c", "--quiet", "--jobs", "1"], store, "_row"),
+        (["index", "p", "--catalogue", "c", "--quiet", "--jobs", "1"], PictureRecord, "picture"),
         (["same", "--catalogue", "c"], store, "_check_head"),
         (["changed", "c", "c"], pairs.Pairs, "_pair_of_row"),
         (["changed", "c", "c"], pairs.Pairs, "_pair"),

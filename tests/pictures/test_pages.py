@@ -10,7 +10,7 @@ from exifnorm_pictures.compare.conflicts import Conflict
 from exifnorm_pictures.fields.labels import LabelText
 from exifnorm_pictures.report import contents, page as report
 from exifnorm_pictures.report.contradictions import Contradictions
-from exifnorm_pictures.catalogue.records import Picture
+from exifnorm_pictures.catalogue.records import PictureRecord
 from exifnorm_pictures.report.style import STYLE
 
 
@@ -31,7 +31,7 @@ def small_pictures(paths):
 
 
 def problem(name, word, detail=""):
-    return Picture(1, name, b"/p", "", "", word, detail, None, None, (), ())
+    return PictureRecord(name, b"/p", problem=word, detail=detail).picture(1)
 
 
 def different(label, detail="", **texts):

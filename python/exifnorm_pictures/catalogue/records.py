@@ -3,9 +3,9 @@
 from __future__ import annotations
 
 import hashlib
+import itertools
 import os
-from dataclasses import dataclass
-from typing import Any, Dict, Iterable, List, NamedTuple, Optional, Sequence, Set, Tuple
+from typing import Any, Dict, Iterable, List, NamedTuple, Optional, Sequence, Set, Tuple, get_args, get_type_hints
 
 from ..compare.verdicts import ABSENT, ACCEPTED, REACHED, REFUSED, UNREADABLE, Side, joined, side_of
 from ..extract.formats.found import EXIF, EXIFTOOL, IPTC, PROGRAMS, XMP, Blocks, NotRead
@@ -129,6 +129,68 @@ class Digests(NamedTuple):
     maker_notes: str
 
 
+class Picture(NamedTuple):
+    """A picture as the catalogue keeps it. The fields are the columns of the table `pictures`, which are written and read in this order;
+    `store.py` says what each one is."""
+
+    id: int
+    path: bytes
+    root: bytes
+    size: Optional[int]
+    modified: Optional[int]
+    changed: Optional[int]
+    inode: Optional[int]
+    device: Optional[int]
+    type: str
+    extractor: str
+    problem: Optional[str]
+    detail: str
+    exif: Optional[str]
+    iptc: Optional[str]
+    xmp: Optional[str]
+    not_read: Optional[str]
+    other_not_read: Optional[str]
+    other_exif: str
+    exif_octets: str
+    iptc_octets: str
+    xmp_octets: str
+    exif_repaired: Optional[str]
+    maker_notes: str
+    file: str
+    coded_picture: Optional[str]
+    sidecars: str
+
+    @property
+    def marks(self) -> Tuple[Optional[int], ...]:
+        """Size, times and inode, as in a stamp."""
+        return self.size, self.modified, self.changed, self.inode
+
+    @property
+    def meanings(self) -> Tuple[Optional[str], ...]:
+        """By KINDS: the digest of the meaning, empty without a block, None if it isn't known."""
+        return self.exif, self.iptc, self.xmp
+
+    @property
+    def octets(self) -> Tuple[str, ...]:
+        """By KINDS: the digest of the blocks' bytes, empty without a block."""
+        return self.exif_octets, self.iptc_octets, self.xmp_octets
+
+    @property
+    def state(self) -> str:
+        """One word for the whole picture: a problem, `refused`, `accepted`, or `no block`."""
+        if self.problem:
+            return self.problem
+        return REFUSED if None in self.meanings else ACCEPTED if any(self.meanings) else "no block"
+
+    def sides(self) -> Dict[str, Side]:
+        """The digest of its meaning, for each kind of block."""
+        found = {}
+        for kind, digest, octets in zip(KINDS, self.meanings, self.octets):
+            status = ABSENT if digest == "" else ACCEPTED if digest else UNREADABLE if kind == XMP else REFUSED
+            found[kind] = Side(status, digest or "", octets, (self.exif_repaired or "") if kind == EXIF else "")
+        return found
+
+
 class PictureRecord(NamedTuple):
     """The known facts about a picture after it was looked at."""
 
@@ -166,43 +228,11 @@ class PictureRecord(NamedTuple):
         """One word for the whole picture: a problem, `refused`, `accepted`, or `no block`."""
         return state_of(self.problem, self.blocks)
 
-
-@dataclass
-class Picture:
-    """A picture as the catalogue keeps it."""
-
-    id: int
-    path: bytes
-    root: bytes
-    type: str
-    extractor: str
-    problem: Optional[str]
-    detail: str
-    size: Optional[int]
-    unread: Optional[str]  # the digest of all unread parts; empty: all was read; None: they can't be compared
-    meanings: Tuple[Optional[str], ...]  # by KINDS: the digest of the meaning, empty without a block, None if it isn't known
-    octets: Tuple[str, ...]  # by KINDS: the digest of the blocks' bytes, empty without a block
-    marks: Tuple[Optional[int], ...] = ()  # size, times and inode, as in a stamp
-    repaired: Optional[str] = None  # the digest of what its Exif means after repairs that lose nothing; None: no need, or no such repair
-    maker_notes: str = ""  # where the MakerNotes begin in their blocks; empty: there is none
-    file: str = ""  # SHA-256 of the whole file, if nothing else can be compared
-    coded_picture: str = ""  # the digest of the coded picture; empty: not known
-    sidecars: str = ""  # the marks of its XMP sidecars
-
-    @property
-    def state(self) -> str:
-        """One word for the whole picture: a problem, `refused`, `accepted`, or `no block`."""
-        if self.problem:
-            return self.problem
-        return REFUSED if None in self.meanings else ACCEPTED if any(self.meanings) else "no block"
-
-    def sides(self) -> Dict[str, Side]:
-        """The digest of its meaning, for each kind of block."""
-        found = {}
-        for kind, digest, octets in zip(KINDS, self.meanings, self.octets):
-            status = ABSENT if digest == "" else ACCEPTED if digest else UNREADABLE if kind == XMP else REFUSED
-            found[kind] = Side(status, digest or "", octets, (self.repaired or "") if kind == EXIF else "")
-        return found
+    def picture(self, number: int = 0) -> Picture:
+        """The picture as a catalogue keeps it, with its number there."""
+        marks = self.stamp or (None,) * len(Stamp._fields)
+        known = (self.path, self.root, *marks, self.type, self.extractor, self.problem, self.detail, *digests(self))
+        return Picture._make((number, *known, self.file, self.coded_picture, self.sidecars))
 
 
 def state_of(problem: Optional[str], blocks: Iterable[Block]) -> str:
@@ -260,7 +290,12 @@ def not_read_of_row(row: Tuple[Any, ...]) -> NotRead:
 
 def has(kind: type, *values: object) -> None:
     """Raises `Damaged` if a value of a row isn't of this type."""
-    for it in values:
+    _check(values, itertools.repeat(kind))
+
+
+def _check(row: Iterable[object], types: Iterable[Any]) -> None:
+    """Raises `Damaged` if a value of a row isn't of the type of its column, or of one of its types."""
+    for it, kind in zip(row, types):
         if not isinstance(it, kind):
             raise Damaged(f"{it!r} is a value of another type")
 
@@ -272,51 +307,13 @@ def kind_of(word: str) -> str:
     return KIND_OF[word]
 
 
+_TYPES = [get_args(it) or it for it in get_type_hints(Picture).values()]  # of each column of a picture
+
+
 def picture_of_row(row: Tuple[Any, ...]) -> Picture:
-    """A picture of a row in the order of `store.PICTURE_COLUMNS`."""
-    (
-        number,
-        path,
-        root,
-        kind,
-        extractor,
-        problem,
-        detail,
-        size,
-        modified,
-        changed,
-        inode,
-        unread,
-        *by_kind,
-        repaired,
-        notes,
-        file,
-        coded,
-        sidecars,
-    ) = row
-    has(int, number, *(it for it in (size, modified, changed, inode) if it is not None))
-    has(bytes, path, root)
-    has(str, kind, extractor, detail, notes, file, sidecars, *by_kind[3:])
-    has(str, *(it for it in (problem, unread, repaired, coded, *by_kind[:3]) if it is not None))
-    return Picture(
-        number,
-        path,
-        root,
-        kind,
-        extractor,
-        problem,
-        detail,
-        size,
-        unread,
-        tuple(by_kind[:3]),
-        tuple(by_kind[3:]),
-        (size, modified, changed, inode),
-        repaired,
-        notes,
-        file,
-        coded or "",
-        sidecars,
-    )
+    """A picture of a row of all its columns."""
+    _check(row, _TYPES)
+    return Picture._make(row)
 
 
 def block_of_row(row: Tuple[Any, ...]) -> Block:

@@ -21,7 +21,7 @@ from ..cli.signals import Failure
 from ..extract.budgets import ROW_BYTES, STEPS
 from ..extract.formats.found import NotRead
 from ..files import mounts, opening as files
-from .records import Block, Damaged, Digests, Picture, PictureRecord, Stamp, block_of_row, digests, has, not_read_of_row, picture_of_row
+from .records import Block, Damaged, Picture, PictureRecord, Stamp, block_of_row, has, not_read_of_row, picture_of_row
 
 APPLICATION = 0x45584E50  # 'EXNP', which distinguishes a catalogue from other SQLite files
 VERSION = 5
@@ -103,27 +103,21 @@ CREATE INDEX pictures_by_coded_picture ON pictures (coded_picture) WHERE coded_p
 CREATE INDEX pictures_by_other_exif ON pictures (other_exif) WHERE other_exif != '';
 """
 
-PICTURE_COLUMNS = (
-    "id, path, root, type, extractor, problem, detail, size, modified, changed, inode, not_read, exif, iptc, xmp,"
-    " exif_octets, iptc_octets, xmp_octets, exif_repaired, maker_notes, file, coded_picture, sidecars"
-)
+PICTURE_COLUMNS, _BUT_ID = ", ".join(Picture._fields), ", ".join(Picture._fields[1:])
 BLOCK_COLUMNS = "number, kind, name, source, extractor, status, digest, cause, place, length, octets, repair, repaired, note"
-_MARKS = "path, root, size, modified, changed, inode, device, type, extractor, problem, detail"
-ALL_PICTURE_COLUMNS = f"{_MARKS}, {', '.join(Digests._fields)}, file, coded_picture, sidecars"
 # A row that replaces another of the same path takes the other's blocks and parts with it, by ON DELETE CASCADE.
-_PUT_PICTURE = f"INSERT OR REPLACE INTO pictures (id, {ALL_PICTURE_COLUMNS}, run) VALUES (?{', ?' * (ALL_PICTURE_COLUMNS.count(',') + 2)})"
+_PUT_PICTURE = f"INSERT OR REPLACE INTO pictures ({PICTURE_COLUMNS}, run) VALUES (?{', ?' * len(Picture._fields)})"
 _PUT_BLOCK = f"INSERT INTO blocks (picture, {BLOCK_COLUMNS}, fields) VALUES (?{', ?' * (BLOCK_COLUMNS.count(',') + 2)})"
 _ADD_ROWS = (
     "DELETE FROM main.pictures WHERE path IN (SELECT path FROM {other}.pictures)",
-    f"INSERT INTO main.pictures (id, {ALL_PICTURE_COLUMNS}, run)"
-    f" SELECT id + :pictures, {ALL_PICTURE_COLUMNS}, run + :runs FROM {{other}}.pictures",
+    f"INSERT INTO main.pictures ({PICTURE_COLUMNS}, run) SELECT id + :pictures, {_BUT_ID}, run + :runs FROM {{other}}.pictures",
     f"INSERT INTO main.blocks (picture, {BLOCK_COLUMNS}, fields) SELECT picture + :pictures, {BLOCK_COLUMNS}, fields FROM {{other}}.blocks",
     "INSERT INTO main.not_read SELECT picture + :pictures, number, what, digest FROM {other}.not_read",
     "INSERT INTO main.maker_notes SELECT picture + :pictures, readings FROM {other}.maker_notes",
 )
 # The same tables without keys, for rows that are only written and read once
 _ROWS = (
-    f"CREATE TABLE pictures (id, {ALL_PICTURE_COLUMNS}, run)",
+    f"CREATE TABLE pictures ({PICTURE_COLUMNS}, run)",
     f"CREATE TABLE blocks (picture, {BLOCK_COLUMNS}, fields)",
     "CREATE TABLE not_read (picture, number, what, digest)",
     "CREATE TABLE maker_notes (picture, readings)",
@@ -542,17 +536,11 @@ def make_rows(base: sqlite3.Connection) -> None:
 def put_rows(base: sqlite3.Connection, run: int, first: int, entries: Iterable[PictureRecord]) -> None:
     """Adds rows for some pictures, which get the numbers from `first` on."""
     numbered = list(enumerate(entries, first))
-    base.executemany(_PUT_PICTURE, [(number, *_row(it), run) for number, it in numbered])
+    base.executemany(_PUT_PICTURE, [(*it.picture(number), run) for number, it in numbered])
     base.executemany(_PUT_BLOCK, [(number, at, *block.row()) for number, it in numbered for at, block in enumerate(it.blocks)])
     base.executemany("INSERT INTO maker_notes VALUES (?, ?)", [(number, it.notes) for number, it in numbered if it.notes])
     parts = [(number, at, part.what, part.digest) for number, it in numbered for at, part in enumerate(it.not_read)]
     base.executemany("INSERT INTO not_read VALUES (?, ?, ?, ?)", parts)
-
-
-def _row(it: PictureRecord) -> Tuple[object, ...]:
-    """A picture as a row, without its number and run."""
-    stamp = it.stamp or (None, None, None, None, None)
-    return (it.path, it.root, *stamp, it.type, it.extractor, it.problem, it.detail, *digests(it), it.file, it.coded_picture, it.sidecars)
 
 
 def _block_with_fields(row: Tuple[Any, ...]) -> Tuple[Block, bytes]:

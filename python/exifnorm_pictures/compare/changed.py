@@ -138,7 +138,7 @@ def compared(pair: Pair, pairs: Sides, ask: bool, choice: Choice = EVERYTHING) -
         return _unread(name, one, other)
     found = verdicts(one.sides(), other.sides())
     parts: List[str] = []
-    if one.unread is None or one.unread != other.unread:
+    if one.not_read is None or one.not_read != other.not_read:
         parts = left_open(pairs.not_read(BEFORE, one), pairs.not_read(AFTER, other))
     it = Compared(name, result(found, parts), "", [], found)
     parts = _leave_out_kinds(it, one, other, parts, choice)
@@ -179,7 +179,7 @@ def _judge_maker_notes(it: Compared, one: Picture, other: Picture, pairs: Sides,
     both = bool(one.maker_notes and other.maker_notes)
     moved = both and one.maker_notes != other.maker_notes
     reached = [part for part in parts if part.endswith(REACHED)] if both else []
-    rewritten = both and one.octets[0] != other.octets[0]  # then what the MakerNote leads to may be gone or have changed
+    rewritten = both and one.exif_octets != other.exif_octets  # then what the MakerNote leads to may be gone or have changed
     if not (lines or moved or reached or rewritten) or it.result == REFUSED_SAME:
         return parts
     from . import maker_notes  # which is seldom needed

@@ -6,8 +6,8 @@ import hashlib
 from itertools import groupby
 from typing import Iterator, List, NamedTuple, Optional, Sequence, Tuple
 
-from ..catalogue.records import KINDS, WORDS, has, kind_of
-from ..catalogue.store import ALL_PICTURE_COLUMNS, Catalogue
+from ..catalogue.records import KINDS, WORDS, Picture, has, kind_of
+from ..catalogue.store import Catalogue
 from ..extract.formats.found import EXIF, NAMES
 from ..fields.choosing import Choice
 from ..fields.listing import MAKER_NOTE, Field, unpacked
@@ -47,7 +47,7 @@ def make_table(catalogue: Catalogue, choice: Choice, table: str) -> None:
             _write(catalogue, waiting)
     _write(catalogue, waiting)
     with catalogue.guarded():
-        catalogue.base.execute(f"CREATE TABLE {table} AS SELECT pictures.id, {_columns(choice)}, {_MORE} FROM {_JOINED}")
+        catalogue.base.execute(f"CREATE TABLE {table} AS SELECT {_columns(choice)}, {_MORE} FROM {_JOINED}")
         catalogue.base.execute("CREATE UNIQUE INDEX temp.counted_by_id ON counted (id)")
         catalogue.base.execute("CREATE INDEX temp.counted_by_content ON counted (exif, iptc, xmp, not_read)")
         catalogue.base.execute("CREATE INDEX temp.counted_by_other_exif ON counted (other_exif) WHERE other_exif != ''")
@@ -68,7 +68,7 @@ def _columns(choice: Choice) -> str:
     made.update({f"{it}_octets": f"CASE WHEN remaining.{it} = '' THEN '' ELSE {it}_octets END" for it in WORDS.values()})
     if choice.leaves_out_maker_notes:
         made.update(maker_notes="''", not_read="other_not_read")
-    return ", ".join(f"{made.get(it, f'pictures.{it}')} AS {it}" for it in ALL_PICTURE_COLUMNS.split(", "))
+    return ", ".join(f"{made.get(it, f'pictures.{it}')} AS {it}" for it in Picture._fields)
 
 
 def _write(catalogue: Catalogue, rows: List[Tuple[object, ...]]) -> None:

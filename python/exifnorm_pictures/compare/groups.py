@@ -79,7 +79,7 @@ class Group:
             return {}
         for kind, digest in zip(KINDS, first.meanings):
             if kind in self.kinds and digest != "" and (kind != EXIF or not self.has_other_notes):
-                found[kind] = digest or (first.repaired if kind == EXIF and self.basis == REPAIR else "") or ""
+                found[kind] = digest or (first.exif_repaired if kind == EXIF and self.basis == REPAIR else "") or ""
         return found
 
     @property
@@ -163,7 +163,7 @@ def _metadata_of(members: Sequence[Picture]) -> str:
         known[word].append(kind)
     none = none_of(known.pop(ABSENT))
     text = ", ".join([*(clause(kinds, word, False) for word, kinds in known.items() if kinds), *none])
-    unread = {it.unread for it in members}
+    unread = {it.not_read for it in members}
     return text if unread != {None} and len(unread) == 1 else f"{text}; a part that was not read may differ"
 
 
@@ -296,14 +296,14 @@ def _all_groups(catalogue: Catalogue, queries: Iterable[_Query], kinds: Sequence
         # the digests are compared again with those of the rows themselves, because an index of a damaged catalogue can have others
         own = " AND ".join(f"+({it}) = ?" for it in query.key)
         ids = f"SELECT id FROM {table} WHERE {query.where} AND {terms}"
-        rows = f"SELECT {PICTURE_COLUMNS}, device FROM {table} WHERE id IN ({ids}) AND {own} ORDER BY +path"
+        rows = f"SELECT {PICTURE_COLUMNS} FROM {table} WHERE id IN ({ids}) AND {own} ORDER BY +path"
         for row in catalogue.rows(heads):
             counts = _DIFFERENT_BUT_NOTES if query.basis == MAKER_NOTE else _DIFFERENT
             kept = f"SELECT {counts} FROM {table} WHERE {query.where} AND {terms}"
             meanings, listings, places = next(catalogue.rows(kept, row)) if table == COUNTED else (1, 1, 1)
             if meanings > listings:  # something differs that no field shows
                 continue
-            found = catalogue.rows(rows, (*row, *row), lambda *it: (picture_of_row(it[0][:-1]), it[0][-1]))
+            found = catalogue.rows(rows, (*row, *row), picture_of_row)
             group = _there(query.basis, tuple(kinds), found, look, folders)
             group.has_choice = table == COUNTED
             group.is_partial = meanings > 1 or places > 1
@@ -315,15 +315,13 @@ _DIFFERENT = "count(DISTINCT whole), count(DISTINCT listing), count(DISTINCT pla
 _DIFFERENT_BUT_NOTES = "count(DISTINCT other_whole), count(DISTINCT other_listing), 1"
 
 
-def _there(
-    basis: str, kinds: Tuple[str, ...], found: Iterable[Tuple[Picture, int]], look: bool, folders: Optional[Folders] = None
-) -> Group:
+def _there(basis: str, kinds: Tuple[str, ...], found: Iterable[Picture], look: bool, folders: Optional[Folders] = None) -> Group:
     """The different files of some pictures that are there; the further names of each, and those that are gone or have changed."""
     group = Group(basis, kinds, [])
     places: Dict[object, Dict[object, int]] = {}  # of each file among the members, by device and inode
     further: Dict[int, List[Picture]] = {}
-    for it, device in found:
-        state, (device, inode) = _state(it) if look else ("", (device, it.marks[3]))
+    for it in found:
+        state, (device, inode) = _state(it) if look else ("", (it.device, it.inode))
         if not state and folders and not folders.is_marked_as(it.path, it.sidecars):
             state = "changed"
         if state:
@@ -336,8 +334,7 @@ def _there(
         if at < len(group.members):
             further.setdefault(at, []).append(it)
         else:
-            _shrink(it, group.members[-1:])
-            group.members.append(it)
+            group.members.append(_shrunk(it, group.members[-1:]))
     for at in sorted(further):
         names = [group.members[at], *further[at]]
         first = group.members[at] = _real(names) if look else names[0]
@@ -345,17 +342,13 @@ def _there(
     return group
 
 
-_SHARED = ("root", "type", "extractor", "detail", "unread", "meanings", "octets", "repaired", "maker_notes")
-
-
-def _shrink(it: Picture, before: Sequence[Picture]) -> None:
+def _shrunk(it: Picture, before: Sequence[Picture]) -> Picture:
     """Drops the marks, which were needed to look at the file, and takes what is equal in the picture before it from there: a group may have
     all pictures of an archive, and is in memory."""
-    it.marks, it.sidecars = (), ""
+    it = it._replace(modified=None, changed=None, inode=None, device=None, sidecars="")
     for other in before:
-        for name in _SHARED:
-            if getattr(it, name) == getattr(other, name):
-                setattr(it, name, getattr(other, name))
+        it = Picture._make(theirs if theirs == ours else ours for ours, theirs in zip(it, other))
+    return it
 
 
 def _real(names: List[Picture]) -> Picture:
@@ -384,7 +377,7 @@ def _groups_of(catalogue: Catalogue, found: Group, readings: Readings) -> Iterat
             continue
         first = group.members[0]
         group.result = _result(group)
-        if first.unread != "" and group.basis not in (MAKER_NOTE, CODED_PICTURE):
+        if first.not_read != "" and group.basis not in (MAKER_NOTE, CODED_PICTURE):
             group.not_read = ", ".join(each_kind(it.what for it in catalogue.not_read_of(first)))
         texts: Dict[str, str] = {}
         for it in group.members if group.basis in (BYTES, REPAIR) or (group.basis == MAKER_NOTE and group.has_refused) else ():
@@ -408,7 +401,7 @@ def _class_of(it: Picture, kinds: Sequence[str]) -> Tuple[object, ...]:
     """What is equal for pictures of one earlier group."""
     at = [KINDS.index(kind) for kind in kinds]
     meaning = tuple(it.octets[number] if it.meanings[number] is None else it.meanings[number] for number in at)
-    return meaning, it.unread, it.maker_notes
+    return meaning, it.not_read, it.maker_notes
 
 
 def _by_reading(group: Group, readings: Readings) -> Iterator[Group]:
@@ -431,7 +424,7 @@ def _by_reading(group: Group, readings: Readings) -> Iterator[Group]:
 
 def _by_maker_notes(group: Group, readings: Readings) -> Iterator[Group]:
     """A group for each reading of MakerNotes that differ in bytes or have moved. Counts the pictures of which the reading isn't known."""
-    if len({(_meaning(it), it.unread, it.maker_notes) for it in [*group.members, *group.lost]}) < 2:
+    if len({(_meaning(it), it.not_read, it.maker_notes) for it in [*group.members, *group.lost]}) < 2:
         return
     written: Dict[Tuple[str, str], Picture] = {}
     for it in group.members:
@@ -450,7 +443,7 @@ def _by_maker_notes(group: Group, readings: Readings) -> Iterator[Group]:
         readings.unknown[LOST] += lost
     for pictures in by_reading.values():
         part = _part_of(group, pictures)
-        if not part.has_other_notes and len({it.unread for it in pictures}) == 1:
+        if not part.has_other_notes and len({it.not_read for it in pictures}) == 1:
             part.members = [it for it in pictures if not _is_repaired(it)]  # they are in a group that rests on their repair
         yield part
 
@@ -472,18 +465,17 @@ def _result(group: Group) -> str:
 
 def _meaning(it: Picture) -> Optional[str]:
     """The digest of what Exif means, after repair too."""
-    return it.repaired if it.meanings[KINDS.index(EXIF)] is None else it.meanings[KINDS.index(EXIF)]
+    return it.exif_repaired if it.exif is None else it.exif
 
 
 def _is_repaired(it: Picture) -> bool:
     """Whether the meaning of a picture is known after a repair."""
-    exif, *others = it.meanings
-    return exif is None and None not in others
+    return it.exif is None and None not in (it.iptc, it.xmp)
 
 
 def _note_of(it: Picture) -> Tuple[str, str]:
     """What can make a MakerNote read differently: where it is, and the bytes of the blocks."""
-    return (it.maker_notes, it.octets[KINDS.index(EXIF)]) if it.maker_notes else ("", "")
+    return (it.maker_notes, it.exif_octets) if it.maker_notes else ("", "")
 
 
 def _reason(catalogue: Catalogue, it: Picture, basis: str) -> str:

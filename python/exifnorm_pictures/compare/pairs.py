@@ -17,7 +17,7 @@ from .moved import content_key
 
 BEFORE, AFTER = 0, 1  # the two sides
 _BASES, _ALIASES = ("before", "after"), ("old", "new")
-_WIDTH = PICTURE_COLUMNS.count(",") + 1
+_WIDTH = len(Picture._fields)
 
 # What is written goes to a temporary database, which is deleted with its connection: all pictures of an archive may have moved.
 _TABLES = """
@@ -157,7 +157,7 @@ class Pairs:
 
     def differing(self, every: bool = False) -> Iterator[Pair]:
         """The pictures before that aren't known to be the same, or all of them, in the order of their paths."""
-        columns = ", ".join(f"{alias}.{it.strip()}" for alias in _ALIASES for it in PICTURE_COLUMNS.split(","))
+        columns = ", ".join(f"{alias}.{it}" for alias in _ALIASES for it in Picture._fields)
         query = (
             f"SELECT {columns}, place.path, moved.new, moved.is_edited FROM before.pictures AS old"
             f" LEFT JOIN after.pictures AS new ON new.path = {self._other_path(BEFORE)} AND {_is_there('new')}"

@@ -9,7 +9,7 @@ from dataclasses import dataclass, field
 from typing import Callable, Dict, List, NamedTuple, Optional, Sequence, Tuple
 
 from .. import xmp
-from ..catalogue.records import KINDS, Block, Picture, PictureRecord, Stamp, digests
+from ..catalogue.records import KINDS, Block, Picture, PictureRecord, Stamp
 from ..extract import extraction, programs
 from ..extract.budgets import TooMuch
 from ..extract.formats.found import NAMES, PROBLEMS, NotRead
@@ -116,7 +116,7 @@ def compare(one: PictureRecord, other: PictureRecord, each: bool, ask: bool, who
     """Compares two pictures that were read, by the fields that count. `ask` asks ExifTool for the values of MakerNotes; `each` has a row for
     each that differs."""
     files = TwoFiles((one, other))
-    found = compared(Pair(os.path.basename(one.path), _picture(one), _picture(other), None), files, ask, choice)
+    found = compared(Pair(os.path.basename(one.path), one.picture(), other.picture(), None), files, ask, choice)
     result = Comparison((one, other), found, _is_identical(one.path, other.path))
     if not result.is_identical and found.changes:
         result.rows = _rows(found.changes, [_Whole(it.path, whole) for it in files.records])
@@ -129,15 +129,6 @@ def _is_identical(one: bytes, other: bytes) -> bool:
     with contextlib.suppress(OSError):
         return os.path.getsize(one) == os.path.getsize(other) and filecmp.cmp(one, other, shallow=False)
     return False
-
-
-def _picture(it: PictureRecord) -> Picture:
-    """A picture as a catalogue would keep it."""
-    found = digests(it)
-    size, *more = it.stamp[:4] if it.stamp else (None,) * 4
-    by_kind = (found.exif, found.iptc, found.xmp), (found.exif_octets, found.iptc_octets, found.xmp_octets)
-    known = (it.path, it.root, it.type, it.extractor, it.problem, it.detail, size, found.not_read, *by_kind)
-    return Picture(0, *known, (size, *more), found.exif_repaired, found.maker_notes, it.file)
 
 
 # The rows of the table

@@ -44,15 +44,14 @@ class Export:
             self.tables.add("groups", ((*about, it.id, None if keep is None else int(it is keep)) for it in group.members))
 
     def _picture(self, it: Picture) -> None:
-        coded = next(self.catalogue.rows("SELECT coded_picture FROM pictures WHERE id = ?", (it.id,)))[0]
-        self.tables.add("pictures", [(*_picture_row(it), coded or None)])
+        self.tables.add("pictures", [_picture_row(it)])
         with self.catalogue.guarded():
             blocks = [(block, unpacked(kept) if kept else []) for block, kept in self.catalogue.blocks_of(it)]
         for number, (block, fields) in enumerate(blocks):
             self.tables.add("blocks", [_block_row(it, number, block)])
             self.tables.add("fields", ((it.id, number, at, *_field_row(one)) for at, one in enumerate(fields)))
         self._texts(it, blocks)
-        if it.unread != "":
+        if it.not_read != "":
             parts = self.catalogue.not_read_of(it)
             self.tables.add("not_read", ((it.id, at, part.what) for at, part in enumerate(parts)))
 
@@ -67,8 +66,9 @@ class Export:
 
 def _picture_row(it: Picture) -> Row:
     path, is_escaped = _path(it.path)
-    about = (it.type or None, _state(it), it.problem, it.detail or None, it.size, _time(it.marks[1]))
-    return (it.id, path, int(is_escaped), it.path if is_escaped else None, _path(it.root)[0], *about, *(one or None for one in it.meanings))
+    names = (path, int(is_escaped), it.path if is_escaped else None, _path(it.root)[0])
+    about = (it.type or None, _state(it), it.problem, it.detail or None, it.size, _time(it.modified))
+    return (it.id, *names, *about, *(one or None for one in (*it.meanings, it.coded_picture)))
 
 
 def _path(path: bytes) -> Tuple[str, bool]:

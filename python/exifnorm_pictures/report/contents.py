@@ -217,7 +217,7 @@ def members(about: About) -> Iterator[Members]:
     for picture in catalogue.pictures(about.table()):
         if picture.problem:
             yield {"problem": picture.problem, **path_members(picture.path), "detail": picture.detail}
-        elif picture.unread != "":
+        elif picture.not_read != "":
             yield {"not_read": [it.what for it in catalogue.not_read_of(picture)], **path_members(picture.path)}
 
 
