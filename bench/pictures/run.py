@@ -88,7 +88,7 @@ def row(number: int, says: int, path: bytes, fields: bool) -> PictureRecord:
     blocks = []
     for kind in (EXIF, IPTC, XMP):
         digest = hashlib.sha256(f"{kind} {says}".encode()).hexdigest()
-        blocks.append(Block(kind, NAMES[kind], "APP1 at 2", "own", "accepted", digest, None, None, 100, digest, kept))
+        blocks.append(Block(kind, NAMES[kind], "APP1 at 2", "own", "accepted", digest, None, None, 100, digest, kept=kept))
     return PictureRecord(ROOT + path, ROOT, Stamp(1000 + says, number, number, number), "JPEG", "own", blocks=tuple(blocks))
 
 

@@ -37,7 +37,7 @@ def block_of(kind, text):
     fields = packed([Field("main", "010f", "ASCII", len(text), f'"{text}"')])
     if text.startswith("!"):
         return Block(kind, NAMES[kind], "somewhere", "own", "refused", None, text[1:], 7, 100, digest(text))
-    return Block(kind, NAMES[kind], "somewhere", "own", "accepted", digest(text), None, None, 100, digest(text), fields)
+    return Block(kind, NAMES[kind], "somewhere", "own", "accepted", digest(text), None, None, 100, digest(text), kept=fields)
 
 
 def picture(name, blocks=BASE, parts=(), number=0, problem=None, root="/a", file=""):

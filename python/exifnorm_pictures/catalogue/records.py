@@ -24,7 +24,8 @@ class Damaged(Exception):
 
 
 class Block(NamedTuple):
-    """A block: its name, its position in the file, its reader, and the result of judging it."""
+    """A block: its name, its position in the file, its reader, and the result of judging it. The fields are columns of the table `blocks`, but
+    for the last two: `kept` is its column `fields`."""
 
     kind: str
     name: str  # which block of the picture it is: `Exif`, `second Exif`, `page 2`
@@ -36,17 +37,15 @@ class Block(NamedTuple):
     place: Optional[int]
     length: int
     octets: str  # SHA-256 of its bytes, which distinguishes a copied block from one that was written again
-    kept: Optional[
-        bytes
-    ] = None  # its fields in the form of `listing.packed`, if they were requested; of a refused block, those after repair
     repair: Optional[str] = None  # the steps after which a refused block is accepted, in the form of `steps.packed`
     repaired: Optional[str] = None  # SHA-256 of its meaning after them
     note: Optional[int] = None  # where its MakerNote begins
+    kept: Optional[bytes] = None  # its fields, made by `listing.packed`, if they were requested; of a refused block, those after repair
     but_note: Optional[str] = None  # a digest of its fields without the MakerNote, if it has one; of a refused block, of those after repair
 
     def row(self) -> Tuple[Any, ...]:
         """The block as a row of the catalogue, with its fields."""
-        return (WORDS[self[0]], *self[1:10], *self[11:14], self[10])
+        return (WORDS[self.kind], *self[1:-1])
 
     @property
     def steps(self) -> Tuple[Step, ...]:
@@ -307,18 +306,22 @@ def kind_of(word: str) -> str:
     return KIND_OF[word]
 
 
-_TYPES = [get_args(it) or it for it in get_type_hints(Picture).values()]  # of each column of a picture
+def _types(made: type) -> List[Any]:
+    """The type of each field, or the two types of one that may be None."""
+    return [get_args(it) or it for it in get_type_hints(made).values()]
+
+
+_OF_PICTURE, _OF_BLOCK = _types(Picture), [int, *_types(Block)[:-2]]
 
 
 def picture_of_row(row: Tuple[Any, ...]) -> Picture:
-    """A picture of a row of all its columns."""
-    _check(row, _TYPES)
+    """A picture of a row of `store.PICTURE_COLUMNS`."""
+    _check(row, _OF_PICTURE)
     return Picture._make(row)
 
 
 def block_of_row(row: Tuple[Any, ...]) -> Block:
-    """A block of a row in the order of `store.BLOCK_COLUMNS`."""
-    number, kind, name, source, extractor, status, digest, cause, place, length, octets, repair, repaired, note = row
-    has(str, kind, name, source, extractor, status, octets, *(it for it in (digest, cause, repair, repaired) if it is not None))
-    has(int, number, length, *(it for it in (place, note) if it is not None))
-    return Block(kind_of(kind), name, source, extractor, status, digest, cause, place, length, octets, None, repair, repaired, note)
+    """A block of a row of `store.BLOCK_COLUMNS`."""
+    _check(row, _OF_BLOCK)
+    _, kind, *others = row
+    return Block(kind_of(kind), *others)

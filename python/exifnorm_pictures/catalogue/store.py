@@ -104,7 +104,7 @@ CREATE INDEX pictures_by_other_exif ON pictures (other_exif) WHERE other_exif !=
 """
 
 PICTURE_COLUMNS, _BUT_ID = ", ".join(Picture._fields), ", ".join(Picture._fields[1:])
-BLOCK_COLUMNS = "number, kind, name, source, extractor, status, digest, cause, place, length, octets, repair, repaired, note"
+BLOCK_COLUMNS = ", ".join(("number", *Block._fields[:-2]))
 # A row that replaces another of the same path takes the other's blocks and parts with it, by ON DELETE CASCADE.
 _PUT_PICTURE = f"INSERT OR REPLACE INTO pictures ({PICTURE_COLUMNS}, run) VALUES (?{', ?' * len(Picture._fields)})"
 _PUT_BLOCK = f"INSERT INTO blocks (picture, {BLOCK_COLUMNS}, fields) VALUES (?{', ?' * (BLOCK_COLUMNS.count(',') + 2)})"

@@ -37,7 +37,7 @@ def judge(kind: str, block: bytes, with_fields: bool = False, at: FoundBlock = _
     if not with_fields:
         return Block(kind, *at[2:5], ACCEPTED, digest, None, None, len(block), octets)
     kept, but_note = _kept(form)
-    return Block(kind, *at[2:5], ACCEPTED, digest, None, None, len(block), octets, kept, but_note=but_note)
+    return Block(kind, *at[2:5], ACCEPTED, digest, None, None, len(block), octets, kept=kept, but_note=but_note)
 
 
 def _repaired(it: Block, block: bytes) -> Block:
@@ -158,8 +158,8 @@ def _judge_xmp(at: FoundBlock, extensions: xmp.Extensions, left: Dict[str, bytes
         left.pop(it, None)
     if statements is None:
         return _unreadable(XMP, at, len(at.data), octets.hexdigest(), cause)
-    fields = packed(xmp.fields(statements)) if with_fields else None
-    return Block(XMP, *at[2:5], ACCEPTED, xmp.digest(statements), None, None, len(at.data), octets.hexdigest(), fields)
+    kept = packed(xmp.fields(statements)) if with_fields else None
+    return Block(XMP, *at[2:5], ACCEPTED, xmp.digest(statements), None, None, len(at.data), octets.hexdigest(), kept=kept)
 
 
 def _unreadable(kind: str, at: FoundBlock, length: int, octets: str, cause: str) -> Block:
