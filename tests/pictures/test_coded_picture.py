@@ -62,6 +62,11 @@ DIFFERENT = {
     "JPEG: a byte of the scan": (SMALL_JPEG, SMALL_JPEG[: SCAN + 16] + b"\x11" + SMALL_JPEG[SCAN + 17 :]),
     "JPEG: quantization": (SMALL_JPEG, SMALL_JPEG.replace(b"\xff\xdb\0\x43\0", b"\xff\xdb\0\x43\1", 1)),
     "JPEG: Adobe's colour transform": (jpeg(segment(0xEE, b"Adobe\0d\0\0\0\0\1")), jpeg(segment(0xEE, b"Adobe\0d\0\0\0\0\0"))),
+    "JPEG: a progressive frame, of the same bytes": (SMALL_JPEG, SMALL_JPEG.replace(b"\xff\xc0", b"\xff\xc2", 1)),  # T.81, table B.1
+    "JPEG: tables that another one has swallowed": (
+        jpeg(segment(0xDB, b"\0" * 65), segment(0xC4, b"abcd")),
+        jpeg(segment(0xDB, b"\0" * 65 + b"\xff\xc4abcd")),
+    ),
     "PNG: data": (png(), png().replace(chunk(b"IDAT", zlib.compress(b"\0\0")), chunk(b"IDAT", zlib.compress(b"\0\1")))),
     "PNG: a palette": (png(chunk(b"PLTE", b"abc")), png(chunk(b"PLTE", b"abd"))),
     "PNG: transparency": (png(chunk(b"tRNS", b"ab")), png(chunk(b"tRNS", b"ac"))),
