@@ -14,7 +14,7 @@ import pytest
 from exifnorm_pictures.cli import main
 from exifnorm_pictures.extract import exiftool
 from exifnorm_pictures.fields.listing import MAKER_NOTE, Field, digest_but_note, text_of_fields
-from made_blocks import ASCII, LONG, UNDEFINED, block, entry, table
+from made_blocks import ASCII, LONG, SHORT as SHORT_, UNDEFINED, block, entry, table
 from made_files import app1, app1_xmp, exif, jpeg, title
 from studio import needs
 
@@ -59,6 +59,18 @@ def leading(*more, swapped=False):
     entries = [entry(0x010F, ASCII, 6, at[make]), entry(0x013B, ASCII, 8, at[artist]), entry(0x8769, LONG, 1, 50)]
     note = table([entry(0x0009, ASCII, 8, 68)])
     return jpeg(app1(block(entries) + table([entry(0x927C, UNDEFINED, len(note), 82)]) + first + second + note), *more)
+
+
+def directed(swapped=False):
+    """A picture whose MakerNote has a directory in the value of a field: in that of another one if these have changed places, which means the
+    same. One value is an empty directory, and the other one is no directory."""
+    make, empty, none = b"OLYMPUS\0", bytes(8), b"\xff" * 8
+    first, second = (none, empty) if swapped else (empty, none)
+    at = {first: 88, second: 96}
+    fields = [entry(0xC000, UNDEFINED, 8, at[empty]), entry(0xC001, UNDEFINED, 8, at[none])]
+    note = b"OLYMP\0\1\0" + table([entry(0x0201, SHORT_, 1, 2 << 16), entry(0x2010, LONG, 1, 88)])
+    main_directory = block([entry(0x010F, ASCII, 8, 80), entry(0x8769, LONG, 1, 62), *fields])
+    return jpeg(app1(main_directory + table([entry(0x927C, UNDEFINED, len(note), 104)]) + make + first + second + note))
 
 
 SHORT = table([entry(0x0009, ASCII, 4, short(b"Eva"))])
@@ -322,6 +334,16 @@ def test_notes_in_doubt(put, same, called, pair):
     assert "2 pictures may be the same as others but for MakerNotes: ExifTool warns of the MakerNote, or reads nothing of it" in printed
     status, printed, _ = called("compare", "p/a.jpg", "p/b.jpg")
     assert status == (1 if "warned of" in pair else 2) and "reads the same (ExifTool)" not in printed and "ExifTool" in printed
+
+
+@needs("exiftool")
+def test_a_new_warning(put, same, run):
+    """A MakerNote has the same bytes at the same place, and no value differs, but ExifTool only warns of one. So it isn't said that they are
+    the same."""
+    put(a=directed(), b=directed(swapped=True))
+    assert same()[1] == []
+    status, (answer,) = run("compare", "p/a.jpg", "p/b.jpg")
+    assert status == 2 and answer["fields"] == [] and "Bad EquipmentIFD directory" in answer["note"], answer
 
 
 @needs("exiftool")
