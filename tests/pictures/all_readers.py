@@ -1,5 +1,6 @@
-"""What a reader of any format keeps to: its limits, and that each block has bytes of the file."""
+"""What a reader of any format keeps to: what it finds and leaves, its limits, and that each block has bytes of the file."""
 
+import hashlib
 import io
 from unittest import mock
 
@@ -12,6 +13,24 @@ from exifnorm_pictures.extract.formats.found import Broken, LeftToOthers
 def stream_of(octets):
     """A stream with a budget of its own."""
     return mock.Mock(wraps=io.BytesIO(octets), budget=budgets.Budget())
+
+
+def blocks_of(found):
+    """The kind, the name and the bytes of each block."""
+    return [(it.kind, it.name, it.data) for it in found.found]
+
+
+def check_left(found, parts):
+    """These parts were not read, each with the digest of its bytes, or without one if they are None."""
+    expected = [(what, "" if data is None else hashlib.sha256(data).hexdigest()) for what, data in parts]
+    assert [tuple(it) for it in found.not_read] == expected
+
+
+def check_broken(read, octets, why):
+    """A file is refused for this reason."""
+    with pytest.raises(Broken) as caught:
+        read(io.BytesIO(octets))
+    assert str(caught.value) == why
 
 
 def check_limit(read, octets, what, spent=None):

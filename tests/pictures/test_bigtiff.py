@@ -9,8 +9,8 @@ from hypothesis import given, settings
 from hypothesis import strategies as st
 from made_blocks import ASCII, LONG, SHORT, UNDEFINED
 from made_files import K, T, page, tiff
+from pairs import DIFFERENT, SAME, UNDECIDED, Pair, of_pairs
 from studio import needs, run, write
-from test_never_the_same import DIFFERENT, SAME, UNDECIDED, Pair, of_pairs
 
 from exifnorm_pictures.extract import budgets, coded_picture
 from exifnorm_pictures.extract.formats import bigtiff

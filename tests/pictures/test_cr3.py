@@ -4,26 +4,25 @@ ExifTool and exiv2 read the same tags of the files that are made here. What one 
 the same fields.
 """
 
-import hashlib
 import io
 import os
 import struct
 
 import pytest
+from all_readers import blocks_in, check_broken, check_left, check_limit
 from beside import blocks_of_exiftool, changed, hidden_by_one_byte, tags_of_exiftool
 from hypothesis import given
 from made_blocks import ASCII, LONG, SHORT, UNDEFINED
 from made_boxes import CANON, box, cr3
 from made_files import T_OTHERWISE, app1, jpeg, tiff, title
-from all_readers import blocks_in, check_limit
+from pairs import DIFFERENT, SAME, UNDECIDED
 from studio import needs, run
 
 from exifnorm_pictures.extract import budgets, extraction, judge, structure
 from exifnorm_pictures.extract.formats import cr3 as cr3_, jpeg as jpeg_
-from exifnorm_pictures.extract.formats.found import Broken, LeftToOthers
+from exifnorm_pictures.extract.formats.found import LeftToOthers
 
 T, U = title("one"), title("two")
-SAME, DIFFERENT, UNDECIDED = 0, 1, 2
 MAIN = [(0x010F, ASCII, b"Canon\0"), (0x0112, SHORT, 6), (0x013B, ASCII, b"Lena Brandt\0")]
 INTEROP = (0xA005, LONG, [(0x0001, ASCII, b"R98\0")])
 EXIF = [(0x8827, SHORT, 200), (0x9003, ASCII, b"2026:11:26 10:00:00\0"), INTEROP, (0xA431, ASCII, b"0123456789\0")]
@@ -169,19 +168,14 @@ def test_a_value_out_of_its_box():
 def test_what_is_left(name):
     octets, parts = LEFT[name]
     found = found_in(octets)
-    assert [tuple(it) for it in found.not_read] == [
-        (what, hashlib.sha256(data).hexdigest() if data is not None else "") for what, data in parts
-    ]
+    check_left(found, parts)
     assert [(it.kind, it.name) for it in found.found] == [("exif", "Exif"), ("xmp", "XMP")]
     assert found.found[1].data == T
 
 
 @pytest.mark.parametrize("name", BROKEN)
 def test_broken(name):
-    octets, why = BROKEN[name]
-    with pytest.raises(Broken) as caught:
-        found_in(octets)
-    assert str(caught.value) == why
+    check_broken(cr3_.read, *BROKEN[name])
 
 
 def test_room_for_xmp():

@@ -1,22 +1,20 @@
 """GIF: the blocks, what is left, what is broken, and pairs that are the same or never are. ExifTool reads the same XMP of the made files."""
 
-import hashlib
 import io
 
 import pytest
+from all_readers import blocks_in, blocks_of, check_broken, check_left, check_limit
 from beside import blocks_of_exiftool, changed, hidden_by_one_byte, is_of
 from hypothesis import given
 from made_files import T_OTHERWISE, app1_xmp, app13, exif, iim, jpeg, resource, title
 from made_more_files import application, blocks_of_data, gif, gif_xmp
-from all_readers import blocks_in, check_limit
+from pairs import DIFFERENT, SAME, UNDECIDED
 from studio import needs
 
 from exifnorm_pictures.extract import budgets
 from exifnorm_pictures.extract.formats import gif as gif_
-from exifnorm_pictures.extract.formats.found import Broken
 
 A, K, L, T, U = exif(b"Abc"), iim(b"one"), iim(b"k" * 600), title("one"), title("two")
-SAME, DIFFERENT, UNDECIDED = 0, 1, 2
 X, I = gif_xmp(T), application(b"MGKIPTC0000", K)
 R = application(b"MGK8BIM0000", resource(0x0404, K) + resource(0x0422, A) + resource(0x0424, T))
 BOTH = [("iim", "IPTC", K), ("xmp", "XMP", T)]
@@ -65,7 +63,7 @@ BROKEN = {
 def test_blocks(name):
     octets, blocks = READ[name]
     found = gif_.read(io.BytesIO(octets))
-    assert sorted((it.kind, it.name, it.data) for it in found.found) == sorted(blocks)
+    assert sorted(blocks_of(found)) == sorted(blocks)
     assert (found.not_read, found.type) == ([], "GIF")
 
 
@@ -73,23 +71,20 @@ def test_blocks(name):
 def test_what_is_left(name):
     octets, parts = LEFT[name]
     found = gif_.read(io.BytesIO(octets))
-    assert [tuple(it) for it in found.not_read] == [(what, hashlib.sha256(data).hexdigest()) for what, data in parts]
-    assert [(it.kind, it.name, it.data) for it in found.found] == BOTH[1:]
+    check_left(found, parts)
+    assert blocks_of(found) == BOTH[1:]
 
 
 @pytest.mark.parametrize("name", BROKEN)
 def test_broken(name):
-    octets, why = BROKEN[name]
-    with pytest.raises(Broken) as caught:
-        gif_.read(io.BytesIO(octets))
-    assert str(caught.value) == why
+    check_broken(gif_.read, *BROKEN[name])
 
 
 def test_where_a_piece_of_the_file_ends():
     """The file is read in pieces of 8,192 bytes: wherever one ends, the blocks are the same."""
     for before in range(8192 - 60, 8192 + 20, 3):
         octets = gif(b"\x21\xfe" + blocks_of_data(bytes(before), 1 + before % 200), I, X)
-        assert [(it.kind, it.name, it.data) for it in gif_.read(io.BytesIO(octets)).found] == BOTH
+        assert blocks_of(gif_.read(io.BytesIO(octets))) == BOTH
 
 
 @needs("exiftool")

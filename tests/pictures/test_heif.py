@@ -3,7 +3,6 @@
 The files are made here by the rules of ISO/IEC 14496-12 and 23008-12, so what is in them is known; ExifTool and exiv2 read the same of them.
 """
 
-import hashlib
 import io
 import os
 import struct
@@ -11,19 +10,18 @@ import zlib
 from unittest import mock
 
 import pytest
+from all_readers import blocks_in, blocks_of, check_broken, check_left, check_limit, stream_of
 from hypothesis import given
 from beside import blocks_of_exiftool, changed, hidden_by_one_byte, is_of, makers_of_exiv2
 from made_boxes import CANON, PICTURE, RDF, XMP_UUID, Item, box, full, heif, item_exif, mime
 from made_files import T_OTHERWISE, exif, title, turned
-from all_readers import blocks_in, check_limit, stream_of
+from pairs import DIFFERENT, SAME, UNDECIDED
 from studio import needs
 
 from exifnorm_pictures.extract import budgets, extraction
 from exifnorm_pictures.extract.formats import heif as heif_
-from exifnorm_pictures.extract.formats.found import Broken
 
 A, B, C, T, U = exif(b"Abc"), exif(b"Xyz"), exif(b"Pqr"), title("one"), title("two")
-SAME, DIFFERENT, UNDECIDED = 0, 1, 2
 
 
 def of_exif(block, describes=(), before=b"Exif\0\0", **more):
@@ -129,15 +127,11 @@ LEFT = {
 }
 
 
-def blocks_of(octets):
-    return [(it.kind, it.name, it.data) for it in heif_.read(io.BytesIO(octets)).found]
-
-
 @pytest.mark.parametrize("name", [*READ, "idat"])
 def test_blocks(name):
     octets, blocks = READ.get(name, IN_IDAT)
     found = heif_.read(io.BytesIO(octets))
-    assert sorted((it.kind, it.name, it.data) for it in found.found) == sorted(blocks)
+    assert sorted(blocks_of(found)) == sorted(blocks)
     assert (found.not_read, found.type) == ([], "AVIF" if name == "AVIF" else "HEIC")
 
 
@@ -145,10 +139,8 @@ def test_blocks(name):
 def test_what_is_left(name):
     octets, parts = LEFT[name]
     found = heif_.read(io.BytesIO(octets))
-    assert [tuple(it) for it in found.not_read] == [
-        (what, hashlib.sha256(data).hexdigest() if data is not None else "") for what, data in parts
-    ]
-    assert [(it.kind, it.name, it.data) for it in found.found] == IN_ONE
+    check_left(found, parts)
+    assert blocks_of(found) == IN_ONE
 
 
 @needs("exiftool")
@@ -219,15 +211,12 @@ def test_offsets_past_4_gb(tmp_path):
         file.seek(far)
         file.write(T)
     found = extraction.blocks_of(os.fsencode(tmp_path / "a.heic"))
-    assert [(it.kind, it.name, it.data) for it in found.found] == IN_ONE[1:] and found.not_read == []
+    assert blocks_of(found) == IN_ONE[1:] and found.not_read == []
 
 
 @pytest.mark.parametrize("name", BROKEN)
 def test_broken(name):
-    octets, why = BROKEN[name]
-    with pytest.raises(Broken) as caught:
-        heif_.read(io.BytesIO(octets))
-    assert str(caught.value) == why
+    check_broken(heif_.read, *BROKEN[name])
 
 
 def test_limits():

@@ -5,19 +5,18 @@ import hashlib
 import io
 
 import pytest
+from all_readers import blocks_in, blocks_of, check_broken, check_left, check_limit
 from beside import blocks_of_exiftool, changed, hidden_by_one_byte, makers_of_exiv2
 from hypothesis import given
 from made_boxes import SMALL_J2C, XMP_UUID, box, jp2, uuid, wide
 from made_files import T_OTHERWISE, app1, app1_xmp, app13, exif, iim, jpeg, page, resource, tiff, title, turned
-from all_readers import blocks_in, check_limit
+from pairs import DIFFERENT, SAME, UNDECIDED
 from studio import needs
 
 from exifnorm_pictures.extract import budgets
 from exifnorm_pictures.extract.formats import jp2 as jp2_
-from exifnorm_pictures.extract.formats.found import Broken
 
 A, B, K, L, T, U = exif(b"Abc"), exif(b"Xyz"), iim(b"one"), iim(b"four"), title("one"), title("two")
-SAME, DIFFERENT, UNDECIDED = 0, 1, 2
 JPG_TIFF_EXIF = b"JpgTiffExif->JP2".hex()
 PHOTOSHOPS_EXIF, PHOTOSHOPS_IPTC = "0537cdab9d0c4431a72afa561f2a113e", "09a14e97c0b442e0bebf36df6f0ce36f"
 IPTC, PHOTOSHOP = "33c7a4d2b81d4723a0baf1a3e097ad38", "2c4c0100850440b9a03e562148d6dfeb"
@@ -75,7 +74,7 @@ BROKEN = {
 def test_blocks(name):
     octets, blocks = READ.get(name, XML)
     found = jp2_.read(io.BytesIO(octets))
-    assert sorted((it.kind, it.name, it.data) for it in found.found) == blocks
+    assert sorted(blocks_of(found)) == blocks
     assert (found.not_read, found.type) == ([], "J2C" if name == "bare" else "JP2")
 
 
@@ -92,8 +91,8 @@ def test_geotiff():
 def test_what_is_left(name):
     octets, parts = LEFT[name]
     found = jp2_.read(io.BytesIO(octets))
-    assert [tuple(it) for it in found.not_read] == [(what, hashlib.sha256(data).hexdigest()) for what, data in parts]
-    assert [(it.kind, it.name, it.data) for it in found.found] == ALL
+    check_left(found, parts)
+    assert blocks_of(found) == ALL
 
 
 def test_the_greatest_depth():
@@ -102,10 +101,7 @@ def test_the_greatest_depth():
 
 @pytest.mark.parametrize("name", BROKEN)
 def test_broken(name):
-    octets, why = BROKEN[name]
-    with pytest.raises(Broken) as caught:
-        jp2_.read(io.BytesIO(octets))
-    assert str(caught.value) == why
+    check_broken(jp2_.read, *BROKEN[name])
 
 
 @needs("exiftool")

@@ -1,23 +1,21 @@
 """JPEG XL: the blocks, what is left, what is broken, and pairs that are the same or never are. ExifTool reads the same of the made files."""
 
-import hashlib
 import io
 
 import pytest
+from all_readers import blocks_in, blocks_of, check_broken, check_left, check_limit
 from beside import blocks_of_exiftool, changed, hidden_by_one_byte
 from hypothesis import given
 from made_boxes import XMP_UUID, box, item_exif, jxl, wide
 from made_files import T_OTHERWISE, app1, app1_xmp, exif, jpeg, title, turned
-from all_readers import blocks_in, check_limit
+from pairs import DIFFERENT, SAME, UNDECIDED
 from studio import needs
 
 from exifnorm_pictures.extract import budgets, judge
 from exifnorm_pictures.extract.formats import jxl as jxl_
-from exifnorm_pictures.extract.formats.found import Broken
 from exifnorm_pictures.refusals import explain
 
 A, B, T, U = exif(b"Abc"), exif(b"Xyz"), title("one"), title("two")
-SAME, DIFFERENT, UNDECIDED = 0, 1, 2
 E, X = box(b"Exif", item_exif(A, b"")), box(b"xml ", T)
 BOTH = [("exif", "Exif", A), ("xmp", "XMP", T)]
 BARE = b"\xff\x0a\x00\x00"
@@ -70,14 +68,14 @@ BROKEN = {
 def test_blocks(name):
     octets, blocks = READ[name]
     found = jxl_.read(io.BytesIO(octets))
-    assert [(it.kind, it.name, it.data) for it in found.found] == blocks
+    assert blocks_of(found) == blocks
     assert (found.not_read, found.type) == ([], "JXL")
 
 
 def test_compressed_blocks():
     """Nobody says that such a picture has no Exif or XMP."""
     found = jxl_.read(io.BytesIO(jxl(BROB_E, BROB_X)))
-    assert [(it.kind, it.name, it.data) for it in found.found] == [("exif", "Exif", b"brobExif\1\2"), ("xmp", "XMP", b"brobxml \3\4")]
+    assert blocks_of(found) == [("exif", "Exif", b"brobExif\1\2"), ("xmp", "XMP", b"brobxml \3\4")]
     judged = judge.judge_all(found)
     assert [(it.kind, it.line, it.digest) for it in judged] == [
         ("exif", "unreadable: Compressed", None),
@@ -91,16 +89,13 @@ def test_compressed_blocks():
 def test_what_is_left(name):
     octets, parts = LEFT[name]
     found = jxl_.read(io.BytesIO(octets))
-    assert [tuple(it) for it in found.not_read] == [(what, hashlib.sha256(data).hexdigest()) for what, data in parts]
-    assert [(it.kind, it.name, it.data) for it in found.found] == BOTH
+    check_left(found, parts)
+    assert blocks_of(found) == BOTH
 
 
 @pytest.mark.parametrize("name", BROKEN)
 def test_broken(name):
-    octets, why = BROKEN[name]
-    with pytest.raises(Broken) as caught:
-        jxl_.read(io.BytesIO(octets))
-    assert str(caught.value) == why
+    check_broken(jxl_.read, *BROKEN[name])
 
 
 @needs("exiftool")

@@ -4,28 +4,11 @@ The bytes are made here by the formats' rules, so what differs is known without 
 """
 
 import struct
-from typing import NamedTuple
 
 import pytest
 from made_blocks import ASCII, LONG, MAKE, UNDEFINED, block, entry, segment, table
 from made_files import app1, app1_xmp, app13, exif, extension, iim, jpeg, mpf, page, png, chunk, resource, tiff, title, webp, xmp
-
-SAME, DIFFERENT, UNDECIDED = 0, 1, 2  # the statuses of `changed`
-
-
-class Pair(NamedTuple):
-    """Two files, and the status of their comparison."""
-
-    name: str
-    before: bytes
-    after: bytes
-    status: int
-
-
-def of_pairs(*makers):
-    """The pairs of some makers as parameters of a test."""
-    return pytest.mark.parametrize("pair", [it for make in makers for it in make()], ids=lambda it: it.name)
-
+from pairs import DIFFERENT, SAME, UNDECIDED, Pair, of_pairs
 
 # Parts of a file
 

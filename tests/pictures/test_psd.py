@@ -3,24 +3,22 @@
 The files are made here by Adobe's specification, so what is in them is known; ExifTool and exiv2 read the same of them.
 """
 
-import hashlib
 import io
 import os
 
 import pytest
+from all_readers import blocks_in, blocks_of, check_broken, check_left, check_limit, stream_of
 from beside import blocks_of_exiftool, changed, hidden_by_one_byte, makers_of_exiv2
 from hypothesis import given
 from made_files import T_OTHERWISE, exif, iim, jpeg, app1, resource, title, turned
 from made_more_files import named, psd
-from all_readers import blocks_in, check_limit, stream_of
+from pairs import DIFFERENT, SAME, UNDECIDED
 from studio import needs
 
 from exifnorm_pictures.extract import budgets, extraction
 from exifnorm_pictures.extract.formats import psd as psd_
-from exifnorm_pictures.extract.formats.found import Broken
 
 A, B, K, L, T, U = exif(b"Abc"), exif(b"Xyz"), iim(b"one"), iim(b"four"), title("one"), title("two")
-SAME, DIFFERENT, UNDECIDED = 0, 1, 2
 E, I, X = resource(0x0422, A), resource(0x0404, K), resource(0x0424, T)
 OTHER = resource(0x040C, b"thumbnail")
 ALL = [("exif", "Exif", A), ("iim", "IPTC", K), ("xmp", "XMP", T)]
@@ -86,7 +84,7 @@ BROKEN = {
 def test_blocks(name):
     octets, blocks = READ[name]
     found = psd_.read(io.BytesIO(octets))
-    assert sorted((it.kind, it.name, it.data) for it in found.found) == blocks
+    assert sorted(blocks_of(found)) == blocks
     assert (found.not_read, found.type, found.has_more) == ([], "PSB" if "PSB" in name else "PSD", False)
 
 
@@ -94,19 +92,14 @@ def test_blocks(name):
 def test_what_is_left(name):
     octets, parts = LEFT[name]
     found = psd_.read(io.BytesIO(octets))
-    assert [tuple(it) for it in found.not_read] == [
-        (what, hashlib.sha256(data).hexdigest() if data is not None else "") for what, data in parts
-    ]
-    assert sorted((it.kind, it.name, it.data) for it in found.found) == ALL
+    check_left(found, parts)
+    assert sorted(blocks_of(found)) == ALL
     assert found.has_more == ("FotoStation" in str(parts)), "ExifTool may find blocks in a trailer that it knows"
 
 
 @pytest.mark.parametrize("name", BROKEN)
 def test_broken(name):
-    octets, why = BROKEN[name]
-    with pytest.raises(Broken) as caught:
-        psd_.read(io.BytesIO(octets))
-    assert str(caught.value) == why
+    check_broken(psd_.read, *BROKEN[name])
 
 
 @needs("exiftool")
@@ -146,7 +139,7 @@ def test_layers_past_4_gb(tmp_path):
         file.seek(at + length)
         file.write(made[at:])
     found = extraction.blocks_of(os.fsencode(tmp_path / "a.psb"))
-    assert sorted((it.kind, it.name, it.data) for it in found.found) == ALL
+    assert sorted(blocks_of(found)) == ALL
     assert [tuple(it) for it in found.not_read] == [("Photoshop's layers", "")]
 
 

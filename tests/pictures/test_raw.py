@@ -28,8 +28,8 @@ from made_raw import (
     srw,
     whole_raf,
 )
+from pairs import DIFFERENT, SAME, UNDECIDED, Pair, of_pairs
 from studio import needs, run, write
-from test_never_the_same import DIFFERENT, SAME, UNDECIDED, Pair, of_pairs
 
 
 NOT_SAME = -1  # different, or not decided: ExifTool finds less in a damaged file
