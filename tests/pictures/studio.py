@@ -138,6 +138,14 @@ def write(path, octets):
         file.write(octets)
 
 
+def put(folder, files):
+    """Writes files, by their names below a folder."""
+    for name, octets in files.items():
+        path = os.path.join(folder, name)
+        os.makedirs(os.path.dirname(path), exist_ok=True)
+        write(path, octets)
+
+
 def read(path):
     with open(path, "rb") as file:
         return file.read()

@@ -13,7 +13,7 @@ import pytest
 from made_blocks import ASCII, LONG, SHORT, segment
 from made_files import A, B, Placed, app1, app1_xmp, app13, chunk, iim, jpeg, mpf, page, png, png_xmp, profile, resource, tiff, title, webp
 from made_raw import dng
-from studio import SMALL_JPEG, needs, tool, write
+from studio import SMALL_JPEG, needs, put, tool, write
 
 from exifnorm_pictures.extract import coded_picture
 from exifnorm_pictures.extract.budgets import BYTES_READ, Budget, TooMuch
@@ -192,13 +192,6 @@ def test_beside_exiftool(tmp_path):
 
 # The commands
 
-
-def put(folder, files):
-    for name, octets in files.items():
-        (folder / name).parent.mkdir(parents=True, exist_ok=True)
-        write(folder / name, octets)
-
-
 OTHER = SMALL_JPEG[: SCAN + 16] + b"\x11" + SMALL_JPEG[SCAN + 17 :]
 
 
@@ -235,46 +228,51 @@ def test_a_catalogue_without_digests(folder, called_lines):
     assert called_lines("same", "--catalogue", "c", "--kind", "pixels")[0] == 0
 
 
-def moved(called_lines):
-    status, lines, _ = called_lines("changed", "b", "a", "--pixels", "--json", "--no-exiftool")
-    found = [json.loads(it) for it in lines]
-    return status, {it["path"]: (it["result"], (it["moved_to"] or {}).get("path")) for it in found if "path" in it}
+@pytest.fixture
+def moved(changes):
+    """Runs `changed --pixels`: the status, and the result and the new path of each picture that isn't the same."""
+
+    def call():
+        status, found = changes("b", "a", "--pixels")
+        return status, {path: (it["result"], (it["moved_to"] or {}).get("path")) for path, it in found.items()}
+
+    return call
 
 
 class TestChanged:
-    def test_moved_and_edited(self, folder, called_lines):
+    def test_moved_and_edited(self, folder, called_lines, moved):
         put(folder, {"b/x.jpg": jpeg(app1(A)), "b/y.jpg": jpeg(app1(A), base=OTHER)})
         put(folder, {"a/new/x.jpg": jpeg(app1(B)), "a/z.jpg": jpeg(app1(B), base=OTHER)})
-        assert moved(called_lines) == (1, {"x.jpg": ("moved and edited", "new/x.jpg"), "y.jpg": ("moved and edited", "z.jpg")})
+        assert moved() == (1, {"x.jpg": ("moved and edited", "new/x.jpg"), "y.jpg": ("moved and edited", "z.jpg")})
         lines = called_lines("changed", "b", "a", "--pixels", "--each", "--no-exiftool")[1]
         assert lines[0].startswith("x.jpg: moved and edited to new/x.jpg (the coded picture is the same; Exif is different"), lines
         assert "Abc" in lines[1] and "Xyz" in lines[1], lines
         without = called_lines("changed", "b", "a", "--each", "--no-exiftool")[1][-1]
         assert "moved" not in without and "2 missing after" in without, without
 
-    def test_written_again_with_the_same_metadata(self, folder, called_lines):
+    def test_written_again_with_the_same_metadata(self, folder, moved):
         put(folder, {"b/x.jpg": jpeg(app1(A)), "a/y.jpg": jpeg(segment(0xFE, b"comment"), app1(A))})
-        assert moved(called_lines)[1] == {"x.jpg": ("moved", "y.jpg")}
+        assert moved()[1] == {"x.jpg": ("moved", "y.jpg")}
 
-    def test_a_copy_is_not_guessed(self, folder, called_lines):
+    def test_a_copy_is_not_guessed(self, folder, moved):
         """With two pictures that it may be, a picture is missing; unless one of them has its name."""
         put(folder, {"b/x.jpg": jpeg(app1(A)), "a/y.jpg": jpeg(app1(B)), "a/z.jpg": jpeg(app1(B))})
-        assert moved(called_lines)[1] == {
+        assert moved()[1] == {
             "x.jpg": ("missing after", None),
             "y.jpg": ("missing before", None),
             "z.jpg": ("missing before", None),
         }
         put(folder, {"a/new/x.jpg": jpeg(app1(B))})
-        assert moved(called_lines)[1]["x.jpg"] == ("moved and edited", "new/x.jpg")
+        assert moved()[1]["x.jpg"] == ("moved and edited", "new/x.jpg")
 
-    def test_another_picture_in_its_place(self, folder, called_lines):
+    def test_another_picture_in_its_place(self, folder, moved):
         put(folder, {"b/x.jpg": jpeg(app1(A)), "a/y.jpg": jpeg(app1(B), base=OTHER)})
-        assert moved(called_lines)[1] == {"x.jpg": ("missing after", None), "y.jpg": ("missing before", None)}
+        assert moved()[1] == {"x.jpg": ("missing after", None), "y.jpg": ("missing before", None)}
 
-    def test_names_come_first(self, folder, called_lines):
+    def test_names_come_first(self, folder, moved):
         """A picture under its own name is compared there, even if its coded picture is elsewhere now."""
         put(folder, {"b/x.jpg": jpeg(app1(A)), "a/x.jpg": jpeg(app1(A), base=OTHER), "a/y.jpg": jpeg(app1(B))})
-        assert moved(called_lines)[1] == {"y.jpg": ("missing before", None)}
+        assert moved()[1] == {"y.jpg": ("missing before", None)}
 
 
 def test_same_beside_what_was_indexed_without(folder, called_lines):

@@ -10,7 +10,7 @@ import shutil
 
 import pytest
 from made_files import A, app1, app1_xmp, jpeg, title
-from studio import write
+from studio import put, write
 
 from exifnorm_pictures.extract import sidecars
 from exifnorm_pictures.extract.budgets import LIMITS, PACKET_BYTES, XMP_BYTES
@@ -18,14 +18,6 @@ from exifnorm_pictures.extract.formats.found import Blocks
 
 ONE, OTHER = title("one"), title("two")
 PICTURE = jpeg(app1(A))
-
-
-def put(folder, **files):
-    """Writes files into a folder; of a name `__` is a dot."""
-    folder.mkdir(parents=True, exist_ok=True)
-    for name, octets in files.items():
-        write(folder / name.replace("__", "."), octets)
-
 
 FOLDERS = [
     ("a.jpg a.jpg.xmp", {"a.jpg": ["a.jpg.xmp"]}),
@@ -69,7 +61,7 @@ def test_names_of_blocks():
 @pytest.mark.parametrize("is_racy", [True, False])
 def test_a_sidecar_that_may_be_edited_again(folder, is_racy):
     """By its times, where an edit could leave them: it gets a mark that differs, so the next run reads it again, and it is still recognised."""
-    put(folder, a__jpg=PICTURE, a__jpg__xmp=ONE)
+    put(folder, {"a.jpg": PICTURE, "a.jpg.xmp": ONE})
     path, now, asked = os.fsencode(folder / "a.jpg"), os.stat(folder / "a.jpg.xmp"), []
     own = sidecars.Folder([b"a.jpg", b"a.jpg.xmp"]).of(b"a.jpg")
     found = sidecars.marks(path, own, lambda *times: asked.append(times) or is_racy)
@@ -78,25 +70,30 @@ def test_a_sidecar_that_may_be_edited_again(folder, is_racy):
     assert sidecars.Folders().is_marked_as(path, found)
 
 
-def test_a_file_by_itself(folder, called_lines):
+def test_a_file_by_itself(folder, results):
     head = b"\xef\xbb\xbf<?xml version='1.0'?>\n<!-- a - comment -->\n"
-    put(folder / "b", a__xmp=ONE, c__XMP=head + title("one").partition(b"?>")[2])
-    put(folder / "a", a__xmp=ONE + b"  ", c__XMP=OTHER)
-    assert results(called_lines, "b", "a") == (1, {"c.XMP": "different"})
+    put(folder / "b", {"a.xmp": ONE, "c.XMP": head + title("one").partition(b"?>")[2]})
+    put(folder / "a", {"a.xmp": ONE + b"  ", "c.XMP": OTHER})
+    assert results("b", "a") == (1, {"c.XMP": "different"})
 
 
 @pytest.mark.parametrize("octets", [b"", b"<svg/>", b"no XML", b"<?" * 1000, b"<!--" * 500, ONE.decode().encode("utf-16")])
 def test_a_file_that_does_not_begin_like_a_packet(octets, folder, called_lines):
     """It is left to ExifTool, and never the same as another with other bytes."""
-    put(folder / "b", a__xmp=octets)
-    put(folder / "a", a__xmp=octets + b" ")
+    put(folder / "b", {"a.xmp": octets})
+    put(folder / "a", {"a.xmp": octets + b" "})
     assert called_lines("changed", "b", "a", "--no-exiftool")[0] != 0
 
 
-def results(called_lines, *words):
-    """The result of each picture that isn't the same, and the status."""
-    status, lines, _ = called_lines("changed", *words, "--json", "--no-exiftool")
-    return status, {it["path"]: it["result"] for it in map(json.loads, lines) if "path" in it}
+@pytest.fixture
+def results(changes):
+    """Runs `changed`: its status, and the result of each picture that isn't the same."""
+
+    def call(*words):
+        status, found = changes(*words)
+        return status, {path: it["result"] for path, it in found.items()}
+
+    return call
 
 
 class TestChanged:
@@ -104,75 +101,75 @@ class TestChanged:
 
     @pytest.fixture(autouse=True)
     def folders(self, folder):
-        put(folder / "b", x__jpg=PICTURE, y__jpg=PICTURE, x__jpg__xmp=ONE, y__xmp=ONE)
+        put(folder / "b", {"x.jpg": PICTURE, "y.jpg": PICTURE, "x.jpg.xmp": ONE, "y.xmp": ONE})
         shutil.copytree(folder / "b", folder / "a")
         self.folder = folder
 
-    def test_the_same(self, called_lines):
-        assert results(called_lines, "b", "a", "--sidecars") == (0, {})
+    def test_the_same(self, results):
+        assert results("b", "a", "--sidecars") == (0, {})
         write(self.folder / "a" / "x.jpg.xmp", ONE.replace(b"?xpacket begin", b"?xpacket  begin") + b" " * 20)
-        assert results(called_lines, "b", "a", "--sidecars") == (0, {}), "other bytes of the same meaning"
+        assert results("b", "a", "--sidecars") == (0, {}), "other bytes of the same meaning"
 
     @pytest.mark.parametrize("name", ["x.jpg.xmp", "y.xmp"])
-    def test_an_edited_sidecar(self, name, called_lines):
+    def test_an_edited_sidecar(self, name, called_lines, results):
         write(self.folder / "a" / name, OTHER)
-        assert results(called_lines, "b", "a", "--sidecars") == (1, {name[0] + ".jpg": "different"})
+        assert results("b", "a", "--sidecars") == (1, {name[0] + ".jpg": "different"})
         status, lines, _ = called_lines("changed", "b", "a", "--sidecars", "--each", "--no-exiftool")
         assert (status, [it.strip()[:2] for it in lines[1:2]]) == (1, ["~ "]) and "sidecar" in lines[1] and "two" in lines[1], lines
 
-    def test_a_lost_sidecar(self, called_lines):
+    def test_a_lost_sidecar(self, results):
         os.remove(self.folder / "a" / "y.xmp")
-        assert results(called_lines, "b", "a", "--sidecars") == (1, {"y.jpg": "different"})
-        assert results(called_lines, "a", "b", "--sidecars") == (1, {"y.jpg": "different"})
+        assert results("b", "a", "--sidecars") == (1, {"y.jpg": "different"})
+        assert results("a", "b", "--sidecars") == (1, {"y.jpg": "different"})
 
-    def test_a_sidecar_is_no_embedded_packet(self, called_lines):
+    def test_a_sidecar_is_no_embedded_packet(self, results):
         write(self.folder / "b" / "y.jpg", jpeg(app1(A), app1_xmp(ONE)))
         os.remove(self.folder / "b" / "y.xmp")
-        assert results(called_lines, "b", "a", "--sidecars") == (1, {"y.jpg": "different"})
+        assert results("b", "a", "--sidecars") == (1, {"y.jpg": "different"})
 
-    def test_a_moved_picture_takes_it_along(self, called_lines):
+    def test_a_moved_picture_takes_it_along(self, results):
         write(self.folder / "a" / "y.xmp", OTHER)
         write(self.folder / "b" / "y.xmp", OTHER)
         (self.folder / "a" / "new").mkdir()
         for name in ("y.jpg", "y.xmp"):
             os.rename(self.folder / "a" / name, self.folder / "a" / "new" / name)
-        assert results(called_lines, "b", "a", "--sidecars") == (1, {"y.jpg": "moved"})
+        assert results("b", "a", "--sidecars") == (1, {"y.jpg": "moved"})
 
-    def test_a_moved_picture_with_another_sidecar(self, called_lines):
+    def test_a_moved_picture_with_another_sidecar(self, results):
         (self.folder / "a" / "new").mkdir()
         os.rename(self.folder / "a" / "y.jpg", self.folder / "a" / "new" / "y.jpg")
         os.rename(self.folder / "b" / "y.jpg", self.folder / "b" / "z.jpg")
         os.link(self.folder / "a" / "new" / "y.jpg", self.folder / "b" / "y.jpg")  # the same file by its marks
         os.remove(self.folder / "b" / "z.jpg")
-        status, found = results(called_lines, "b", "a", "--sidecars")
+        status, found = results("b", "a", "--sidecars")
         assert (status, found["y.jpg"]) == (1, "missing after"), found
 
-    def test_by_another_name(self, called_lines):
+    def test_by_another_name(self, results):
         for side, name in (("b", "y"), ("a", "z")):
             if name == "z":
                 os.rename(self.folder / side / "y.jpg", self.folder / side / "z.jpg")
                 os.rename(self.folder / side / "y.xmp", self.folder / side / "z.xmp")
-        assert results(called_lines, "b", "a", "--sidecars")[1] == {"y.jpg": "moved"}
+        assert results("b", "a", "--sidecars")[1] == {"y.jpg": "moved"}
 
-    def test_what_cannot_be_read(self, called_lines):
+    def test_what_cannot_be_read(self, results):
         for side in ("b", "a"):
             os.remove(self.folder / side / "y.xmp")
             os.mkfifo(self.folder / side / "y.xmp")
-        status, found = results(called_lines, "b", "a", "--sidecars")
+        status, found = results("b", "a", "--sidecars")
         assert (status, found) == (2, {"y.jpg": "not wholly read"})
 
-    def test_what_is_no_xmp(self, called_lines):
+    def test_what_is_no_xmp(self, results):
         for side in ("b", "a"):
             write(self.folder / side / "y.xmp", b"<x:xmpmeta" + side.encode())
-        assert results(called_lines, "b", "a", "--sidecars") == (2, {"y.jpg": "unreadable"})
+        assert results("b", "a", "--sidecars") == (2, {"y.jpg": "unreadable"})
 
-    def test_of_a_file_that_is_no_picture(self, called_lines):
+    def test_of_a_file_that_is_no_picture(self, results):
         """What can be compared of it is its bytes, and those of its sidecar."""
         for side in ("b", "a"):
             write(self.folder / side / "y.jpg", b"<html>")
-        assert results(called_lines, "b", "a", "--sidecars") == (0, {})
+        assert results("b", "a", "--sidecars") == (0, {})
         write(self.folder / "a" / "y.xmp", OTHER)
-        assert results(called_lines, "b", "a", "--sidecars") == (1, {"y.jpg": "no picture, different bytes"})
+        assert results("b", "a", "--sidecars") == (1, {"y.jpg": "no picture, different bytes"})
 
 
 class TestCatalogue:
@@ -180,7 +177,7 @@ class TestCatalogue:
 
     @pytest.fixture(autouse=True)
     def catalogue(self, folder, called_lines):
-        put(folder / "p", x__jpg=PICTURE, y__jpg=PICTURE, x__jpg__xmp=ONE, y__xmp=ONE, z__xmp=ONE)
+        put(folder / "p", {"x.jpg": PICTURE, "y.jpg": PICTURE, "x.jpg.xmp": ONE, "y.xmp": ONE, "z.xmp": ONE})
         self.folder = folder
         assert called_lines("index", "p", "--catalogue", "c", "--sidecars", "--quiet")[:2] == (0, ["3 accepted"])
 
