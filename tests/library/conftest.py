@@ -10,7 +10,8 @@ from pathlib import Path
 import pytest
 
 import exifnorm
-from compiling import HERE, HEADERS, TOP, run
+from commands import TOP, run
+from compiling import HERE, HEADERS
 from exifnorm import _calls, _library, _reading
 from small_blocks import outcome
 

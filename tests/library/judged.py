@@ -6,7 +6,7 @@ from dataclasses import dataclass
 from pathlib import Path
 
 from cases import Sweep, read_all
-from compiling import TOP
+from commands import TOP
 from meanings import LIMIT, Record
 from reading import CAUSES, Fault, said
 

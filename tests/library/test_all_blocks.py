@@ -10,7 +10,8 @@ from hypothesis import strategies as st
 
 import exifnorm
 from blocks import Blocks
-from compiling import C99, HERE, need, run
+from commands import run
+from compiling import C99, HERE, need
 from judged import CASES, all_judged, judged, pairs, write_jobs
 from kinds import small_kinds
 from reading import Fault, said

@@ -16,7 +16,8 @@ from unittest import mock
 
 import pytest
 
-from compiling import HEADERS, TOP, need, run
+from commands import TOP, run
+from compiling import HEADERS, need
 from peer_headers import PEER_HEADERS
 from small_blocks import ONE
 

@@ -8,7 +8,8 @@ from random import Random
 import pytest
 
 import orders
-from compiling import C99, HERE, need, run
+from commands import run
+from compiling import C99, HERE, need
 from kinds import LARGE_MAKERS, ORIENTATION, OfStrips, bad_orders, many_datasets, random_records, small_kinds
 from meanings import RATIONAL, SHORT, Exif, Layout, Record, Value, laid
 from proved import bounds

@@ -14,7 +14,8 @@ from pathlib import Path
 import pytest
 
 import made_by_tools
-from compiling import HERE, TOP, run
+from commands import TOP, run
+from compiling import HERE
 from exifnorm import _calls, _library
 from meanings import ASCII, SHORT, Exif, Layout, Record, Value, laid
 from small_blocks import CAPTION, LOOP, ONE, long_form, outcome

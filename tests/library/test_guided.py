@@ -12,7 +12,8 @@ from crates import Crates
 from fuzz import write_files
 from fuzz_target import KINDS, NotBuilt
 
-from compiling import HEADERS, HERE, need, run
+from commands import run
+from compiling import HEADERS, HERE, need
 
 KEPT = HERE / "fuzz" / "corpus.zip"
 RUNS, SEED = 1_500_000, 1  # about a minute of a processor

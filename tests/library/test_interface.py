@@ -8,7 +8,8 @@ import shlex
 import pytest
 
 import exifnorm
-from compiling import HEADERS, HERE, STRICT, need, run, text_of
+from commands import run, text_of
+from compiling import HEADERS, HERE, STRICT, need
 from exifnorm import _jpeg, _library
 from judged import NAMES
 from meanings import LIMIT

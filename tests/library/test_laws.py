@@ -12,7 +12,8 @@ from dataclasses import dataclass, field
 
 import pytest
 
-from compiling import HEADERS, HERE, run, text_of
+from commands import run, text_of
+from compiling import HEADERS, HERE
 from fuzz import write_corpus
 from reading import CAUSES
 

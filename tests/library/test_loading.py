@@ -9,7 +9,7 @@ import sys
 import pytest
 
 import exifnorm
-from compiling import TOP
+from commands import TOP
 from exifnorm import _library
 from small_blocks import ONE
 

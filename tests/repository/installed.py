@@ -5,50 +5,20 @@ from __future__ import annotations
 import os
 import re
 import stat
-import subprocess
 from dataclasses import dataclass, field
 from pathlib import Path
 
 import pytest
+from commands import TOP, run, text_of
 
-TOP = Path(__file__).resolve().parent.parent.parent
 EXAMPLES = TOP / "tests" / "library" / "examples"
 DEBIAN_PYTHON = "/usr/bin/python3"
 VERSION = re.search(r'VERSION: &str = "(.*)";', (TOP / "crates/px_engine/src/version.rt").read_text(encoding="utf-8"))[1]
 PROGRAM, FILE, FOLDER = 0o755, 0o644, 0o755
 # How make is called over a built tree. It doesn't look whether the proofs are up to date, which takes a second; it links what has to be.
 MAKE = ("make", "--old-file=program", "--old-file=out/proved/libpx_c.a")
-
-
-def text_of(*path: str) -> str:
-    return TOP.joinpath(*path).read_text(encoding="utf-8")
-
-
 HEADER = text_of("crates", "px_c", "include", "exifnorm.h")
 CALLS = sorted(set(re.findall(r"\b(exifnorm_\w+)\(", HEADER)))
-
-
-def run(*words: str | Path, folder: Path = TOP, status: int = 0, mask: int = 0o022, **environment: str) -> str:
-    """Runs a command, which must end with a status, and returns what it prints.
-
-    >>> run("echo", "a")
-    'a\\n'
-    """
-    ran = subprocess.run(
-        [str(it) for it in words],
-        cwd=folder,
-        env={**os.environ, **environment},
-        stdin=subprocess.DEVNULL,
-        stdout=subprocess.PIPE,
-        stderr=subprocess.STDOUT,
-        umask=mask,
-        timeout=4 * 3600,  # a guard alone, also on a very busy machine
-        check=False,
-    )
-    said = ran.stdout.decode("utf-8", "replace")
-    if ran.returncode != status:
-        raise AssertionError(f"{' '.join(map(str, words))[:200]} ended with status {ran.returncode}: {said[-2000:].strip()}")
-    return said
 
 
 def kind_of(path: Path) -> int | str:
