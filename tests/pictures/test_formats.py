@@ -488,6 +488,11 @@ def plain_search(octets, at):
 class Harm(unittest.TestCase):
     """Files made to cost time or memory: what is read of them is counted."""
 
+    def setUp(self):
+        clock = mock.patch.object(budgets, "SECONDS", 3600.0)  # a slow machine comes first to that limit
+        clock.start()
+        self.addCleanup(clock.stop)
+
     def broken(self, octets, most=None):
         from exifnorm_pictures.extract.formats.found import Broken
 
@@ -591,11 +596,9 @@ class Opened(WithPictures):
         self.assertEqual(self.by_itself(text), ["NotAFile", "LinkToNothing", "NotAFile"])
 
     def by_itself(self, text):
-        """The output of a Python program about this folder, which must end soon: after three seconds of processor time it is ended."""
-        begin = (
-            "import os, resource, sys\nresource.setrlimit(resource.RLIMIT_CPU, (3, 3))\nfrom exifnorm_pictures.extract import extraction\n"
-        )
-        done = run([sys.executable, "-c", begin + text], self.folder, seconds=15)
+        """The output of a Python program about this folder, which must end: after 30 seconds of processor time it is ended."""
+        begin = "import os, resource, sys\nresource.setrlimit(resource.RLIMIT_CPU, (30, 30))\nfrom exifnorm_pictures.extract import extraction\n"
+        done = run([sys.executable, "-c", begin + text], self.folder)
         self.assertEqual(done.returncode, 0, done.stderr)
         return done.stdout.decode().split()
 

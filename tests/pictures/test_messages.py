@@ -309,7 +309,7 @@ class Messages(WithPictures):
             self.assertEqual(
                 self.raised(programs.Failed, programs.run, [shutil.which("sleep"), "60"]), "sleep took longer than 0.05 seconds"
             )
-            words = [shutil.which("sh"), "-c", "exec >&-; exec sleep 3"]  # it ends its output, but not itself
+            words = [shutil.which("sh"), "-c", "exec >&-; exec sleep 60"]  # it ends its output, but not itself
             self.assertEqual(self.raised(programs.Failed, programs.run, words), "sh took longer than 0.05 seconds")
         with mock.patch.object(workers, "ProcessPoolExecutor", mock.Mock(side_effect=OSError(11, "Resource temporarily unavailable"))):
             self.assertEqual(

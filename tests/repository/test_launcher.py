@@ -587,7 +587,7 @@ def stopped(room: Room, how: int) -> None:
     out, why = started.communicate(timeout=300)
     assert (started.returncode, out) == (70, ""), (started.returncode, out, why)
     assert why.endswith("left)\nexifnorm: the build was stopped\n"), (started.returncode, out, why)
-    wait_until(lambda: was_asked_to_end(working) and was_asked_to_end(below), "the compiler runs on, or what it started", 5)
+    wait_until(lambda: was_asked_to_end(working) and was_asked_to_end(below), "the compiler runs on, or what it started")
     require_end(working, below)
     (room.folder / "holds-px_cli").unlink()
     (room.folder / "starts-px_cli").unlink()
