@@ -1,18 +1,14 @@
 // px_engine: two files in memory at once, captions as a list, and flushes: each run that writes flushes once
 // after the last byte and reports a failed flush. No run of the program shows that.
+use crate::built::{CAPTION, EXIF};
 use px_bytes::Watched;
 use px_devices::KeepsBack;
 use px_engine::{Fault, Label, captions, captions_of, normalise, normalise_both, read_any, show};
 use std::process::Abort;
 use std::test::Fail;
 
-// One field: Orientation, SHORT 1.
-const EXIF: &[u8] =
-    b"MM\x00\x2a\x00\x00\x00\x08\x00\x01\x01\x12\x00\x03\x00\x00\x00\x01\x00\x01\x00\x00\x00\x00\x00\x00";
-
-const IIM: &[u8] = b"\x1c\x02\x78\x00\x03abc";
-
-const IIM_EXTENDED: &[u8] = b"\x1c\x02\x78\x80\x04\x00\x00\x00\x03abc";
+// `CAPTION` with a length of four bytes.
+const EXTENDED: &[u8] = b"\x1c\x02\x78\x80\x04\x00\x00\x00\x03abc";
 
 // An empty by-line title, and a caption; the charset is declared.
 const LABELLED: &[u8] =
@@ -20,8 +16,8 @@ const LABELLED: &[u8] =
 
 #[test]
 fn two_files_are_normalised(rt: HostRuntime) -> Result<(), Fail> {
-    let forms = normalise_both(rt.alloc(), IIM_EXTENDED, LABELLED)?;
-    assert_eq!(rt; forms.first.as_slice(), IIM);
+    let forms = normalise_both(rt.alloc(), EXTENDED, LABELLED)?;
+    assert_eq!(rt; forms.first.as_slice(), CAPTION);
     assert_eq!(rt; forms.second.len(), 20);
     Ok(())
 }
@@ -56,20 +52,20 @@ fn a_flush_follows_the_form_of_an_exif_block(rt: HostRuntime) {
 #[test]
 fn a_flush_follows_the_form_of_a_record(rt: HostRuntime) {
     let mut writer = Watched::new(KeepsBack::new());
-    let fault = normalise(rt.alloc(), &mut Watched::new(IIM), &mut writer).err();
+    let fault = normalise(rt.alloc(), &mut Watched::new(CAPTION), &mut writer).err();
     check_flushed(&rt, fault, writer, 8);
 }
 
 #[test]
 fn a_flush_follows_a_listing(rt: HostRuntime) {
     let mut writer = Watched::new(KeepsBack::new());
-    let fault = show(rt.alloc(), &mut Watched::new(IIM), &mut writer).err();
+    let fault = show(rt.alloc(), &mut Watched::new(CAPTION), &mut writer).err();
     check_flushed(&rt, fault, writer, 20);
 }
 
 #[test]
 fn a_flush_follows_captions(rt: HostRuntime) {
     let mut writer = Watched::new(KeepsBack::new());
-    let fault = captions(rt.alloc(), &mut Watched::new(IIM), &mut writer).err();
+    let fault = captions(rt.alloc(), &mut Watched::new(CAPTION), &mut writer).err();
     check_flushed(&rt, fault, writer, 39);
 }

@@ -1,10 +1,9 @@
 // px_iim: a record that is built, one that is appended, and the data of one number of a group.
+use crate::built::CAPTION;
 use px_iim::{Iim, append_iim, normal_len, read_iim, same_iim};
 use std::test::Fail;
 
 const CAPTION_EXTENDED: &[u8] = b"\x1c\x02\x78\x80\x04\x00\x00\x00\x03abc\x00";
-
-const CAPTION: &[u8] = b"\x1c\x02\x78\x00\x03abc";
 
 // A by-line and its title, which share a group.
 const BY_LINE: &[u8] = b"\x1c\x02\x50\x00\x01L\x1c\x02\x55\x00\x02St";

@@ -1,12 +1,11 @@
 // px_jobs: each line of the program is flushed, and the status reports a failed flush. No run of the program
 // shows that.
+use crate::built::CAPTION;
 use px_bytes::{Memory, Watched};
 use px_devices::KeepsBack;
 use px_jobs::{Job, run_compare_in, run_one_in, say_text};
 use std::io;
 use std::process::Abort;
-
-const CAPTION: &[u8] = b"\x1C\x02\x78\x00\x03abc";
 
 // Checks that so many bytes were taken, one flush was called, and its failure was reported.
 fn check_kept_back(rt: &impl Abort, status: u8, lines: Watched<KeepsBack>, bytes: usize) {

@@ -1,0 +1,80 @@
+// px_jpeg: what the C library doesn't call: the pieces of a head, and where a piece of extended XMP belongs.
+use crate::built::{CAPTION, EXIF};
+use crate::pictures::{APP1, APP13, RESOURCE, picture};
+use px_jpeg::{Extended, Kind, Part, Piece, read_extended, read_head, store_pieces};
+use std::test::Fail;
+
+// A packet of XMP, of four bytes. XMP part 3, 1.1.3.
+const XMP: &[u8] = b"\xff\xe1\x00\x23http://ns.adobe.com/xap/1.0/\x00<x/>";
+
+// Of extended XMP: the identifier, the length of the text, which is 65536, the offset of the piece, which is 65500,
+// and the piece. XMP part 3, 1.1.3.1.
+const EXTENDED: &[u8] = b"0123456789ABCDEF0123456789ABCDEF\x00\x01\x00\x00\x00\x00\xff\xdc<x/>";
+
+// A piece, with its kind, whether it begins a block, its offset and its size.
+fn piece(kind: Kind, begins: bool, start: usize, size: usize) -> Piece {
+    Piece {
+        kind,
+        begins,
+        start,
+        size,
+    }
+}
+
+#[test]
+fn the_pieces_of_a_head_are_stored(rt: HostRuntime) -> Result<(), Fail> {
+    let segments = [
+        APP1, EXIF, APP13, RESOURCE, CAPTION, APP13, RESOURCE, CAPTION, XMP,
+    ];
+    let file = picture(rt.alloc(), &segments)?;
+    let head = read_head(&file)?;
+    let first = piece(Kind::Exif, true, 12, 26);
+    let expected = [
+        first,
+        piece(Kind::Photoshop, true, 56, 20),
+        piece(Kind::Photoshop, false, 94, 20),
+        piece(Kind::Xmp, true, 147, 4),
+    ];
+    let mut stored = [first; 4];
+    assert_eq!(rt; store_pieces(&head, &mut stored), Some(4));
+    assert!(rt; stored == expected);
+    assert_eq!(rt; head.pieces().next(), Some(first));
+    let mut few = [first; 3];
+    assert_eq!(rt; store_pieces(&head, &mut few), None);
+    Ok(())
+}
+
+#[test]
+fn a_head_has_its_bytes_and_its_parts(rt: HostRuntime) -> Result<(), Fail> {
+    let file = picture(rt.alloc(), &[APP1, EXIF])?;
+    let head = read_head(&file)?;
+    assert_eq!(rt; head.bytes().len(), 40);
+    let mut parts = head.parts();
+    let exif = Part {
+        code: 0xe1,
+        start: 6,
+        size: 32,
+    };
+    assert_eq!(rt; parts.next(), Some(exif));
+    let end = Part {
+        code: 0xd9,
+        start: 40,
+        size: 0,
+    };
+    assert_eq!(rt; parts.next(), Some(end));
+    assert_eq!(rt; parts.next(), None);
+    Ok(())
+}
+
+#[test]
+fn extended_xmp_has_a_length_and_an_offset(rt: HostRuntime) {
+    let belongs = Extended {
+        total: 65_536,
+        offset: 65_500,
+    };
+    assert_eq!(rt; read_extended(EXTENDED), Some(belongs));
+    assert_eq!(rt;
+        read_extended(b"0123456789ABCDEF0123456789ABCDEF\x00\x01\x00\x00\x00\x00\xff"),
+        None
+    );
+}
