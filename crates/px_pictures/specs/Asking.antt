@@ -7,7 +7,7 @@ use Rattle.px_pictures.specs.Metadata.{Blocks, HasBlocks}
 
 -- to join the pieces of a picture of n bytes: none of them is outside the picture
 abbrev pub join_request : ℕ → ℕ
-join_request n = 2 * n
+join_request n = n
 
 -- to read each of these blocks once
 abbrev pub exif_requests : List (List ℕ) → ℕ

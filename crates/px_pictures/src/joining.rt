@@ -1,5 +1,5 @@
 // Joins the pieces of a head.
-ghost use Rattle.std.specs.Prelude.{◌≡◌, ◌≤◌, ◌<◌, ◌*◌, None, flat_map, IfOk, MatchOption};
+ghost use Rattle.std.specs.Prelude.{◌≡◌, ◌≤◌, ◌<◌, None, flat_map, IfOk, MatchOption};
 ghost use Rattle.px_bytes.specs.Lacking.{Lacks, AsksAtMost};
 ghost use Rattle.px_jpeg.specs.Blocks.{piece_octets};
 ghost use Rattle.px_jpeg.specs.Pieces.{pieces};
@@ -37,7 +37,7 @@ pub(crate) fn join_in(memory: &mut Memory, head: &Head, size: usize) -> Result<V
     ensures joined { IfOk result (λ v. v.items
         ≡ flat_map (piece_octets head.now.octets) (pieces head.now.octets None head.now.parts)) }
     ensures memory { Lacks result memory.old memory.new }
-    ensures asked { AsksAtMost (2 * size) memory.old memory.new }
+    ensures asked { AsksAtMost size memory.old memory.new }
 {
     let bytes = head.bytes();
     let mut octets = memory.list();

@@ -9,7 +9,7 @@ invariant-loop-piece l = record {
   joined : l.octets.items ++ flat_map (piece_octets l.bytes) l.left ≡ flat_map (piece_octets l.bytes) l.initial.left;
   refusals : l.memory.refusals ≡ l.initial.memory.refusals;
   room : vec_len l.octets + sizes l.left ≤ vec_capacity l.octets;
-  asked : l.memory.asked + sizes l.left ≤ l.initial.memory.asked + sizes l.initial.left;
+  asked : l.memory.asked ≡ l.initial.memory.asked;
 }
 
 abbrev pub decreases-loop-piece : goal.decreases-loop-piece
