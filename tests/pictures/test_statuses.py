@@ -106,6 +106,8 @@ def test_a_name_of_a_list_below_a_folder(called, folder):
     (folder / "list").write_text("a.jpg\nb.jpg\n")
     status, _, message = called("changed", "p", "p", "--files-from", "list")
     assert (status, message) == (0, "exifnorm-pictures: note: 1 name of the list is no picture's: b.jpg\n")
+    (folder / "list").write_text("e\nd\nc\nb\n")
+    assert called("changed", "p", "p", "--files-from", "list")[2].endswith("4 names of the list are no picture's: b, c, d, ..\n")
 
 
 @pytest.mark.parametrize("names", [("p", "q"), ("q", "p")])
