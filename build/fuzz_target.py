@@ -41,7 +41,7 @@ exec {clang} "$@"
 """
 ATTRIBUTE = '"probe-stack"='  # each function of the module has it
 COUNTERS = "-fsanitize-coverage=inline-8bit-counters,pc-table,trace-cmp"
-LAWS = ["fuzz.c", "fuzz/laws.c", "fuzz/heads.c", "fuzz/memory.c"]
+LAWS = ["fuzz.c", "fuzz/laws.c", "fuzz/heads.c", "fuzz/pictures.c", "fuzz/memory.c"]
 FLAGS = ["-g", "-O2", "-DLIBFUZZER", "-DWRAPPED", f"-I{TOP}/crates/px_c/include"]
 WRAPS = [f"-Wl,--wrap={it}" for it in ("malloc", "calloc", "realloc", "free")]
 # The toolchain's clang calls them for the thread sanitizer. That of Debian's older clang lacks them, but watches those of the C library.

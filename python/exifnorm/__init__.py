@@ -1,7 +1,7 @@
 """The meaning of a picture's metadata block, its normal form, and whether two blocks mean the same.
 
 A block is an Exif block, perhaps after the six bytes ``Exif\\0\\0`` that precede it in a JPEG file, or a block of IPTC-NAA IIM
-DataSets. `jpeg_blocks` takes the blocks out of a JPEG's bytes. No picture file is opened. Two blocks have the same normal form, byte
+DataSets. `jpeg_blocks` takes the blocks out of a JPEG's bytes, and `jpeg_same` compares those of two. No picture file is opened. Two blocks have the same normal form, byte
 for byte, exactly if they mean the same. A block that breaks the rules raises `Refused`, with the first fault and its byte offset; it
 is never repaired.
 
@@ -24,9 +24,9 @@ objects is tested, but not proved.
 
 from ._calls import Block, digest, kind, normal, same, show, version
 from ._captions import Caption, captions
-from ._errors import LIMIT, HeadRefused, LibraryMissing, NormalTooLong, Refused, TooMany
+from ._errors import LIMIT, HeadRefused, LibraryMissing, NormalTooLong, PictureRefused, Refused, TooMany
 from ._fields import Field, Ratio, Values
-from ._jpeg import JpegBlock, JpegPart, Resource, jpeg_blocks, jpeg_parts, photoshop_resources
+from ._jpeg import JpegBlock, JpegPart, Resource, jpeg_blocks, jpeg_parts, jpeg_same, photoshop_resources
 from ._library import Status
 from ._reading import fields
 
@@ -42,6 +42,7 @@ __all__ = [
     "LIMIT",
     "LibraryMissing",
     "NormalTooLong",
+    "PictureRefused",
     "Ratio",
     "Refused",
     "Resource",
@@ -53,6 +54,7 @@ __all__ = [
     "fields",
     "jpeg_blocks",
     "jpeg_parts",
+    "jpeg_same",
     "kind",
     "normal",
     "photoshop_resources",

@@ -54,6 +54,30 @@ class HeadRefused(Refused):
         """The parts before the fault. Each is whole."""
 
 
+class PictureRefused(Refused):
+    """Of two JPEGs that are compared, one has no head of a JPEG, or a block that breaks the rules: the first fault.
+
+    >>> import exifnorm
+    >>> try:
+    ...     exifnorm.jpeg_same(bytes.fromhex("ffd8 ffd9"), bytes.fromhex("ffd8 ffe1000a 457869660000 4d4d ffd9"))
+    ... except exifnorm.PictureRefused as refusal:
+    ...     print(refusal)
+    HeaderCut at 2 in block 1 of Exif, picture 2
+    """
+
+    def __init__(self, cause: str, place: int, side: int, kind: str = "", index: int = 0) -> None:
+        super().__init__(cause, place, side)
+        self.args = cause, place, side, kind, index  # by which it is pickled
+        self.kind = kind
+        """The kind of the block, "exif" or "iim"; "" if the picture has no head. Then the offset counts from the picture's first byte."""
+        self.index = index
+        """The index of the block among those of its kind in the picture, from 0."""
+
+    def __str__(self) -> str:
+        names = {"": "the head", "exif": f"block {self.index + 1} of Exif", "iim": f"block {self.index + 1} of IPTC"}
+        return f"{self.cause} at {self.place} in {names[self.kind]}, picture {self.side}"
+
+
 class TooMany(ValueError):
     """There are more parts or resources than the call was allowed to return.
 

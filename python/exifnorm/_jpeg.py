@@ -1,4 +1,4 @@
-"""The head of a JPEG, which is all before its first scan: its parts, and the blocks in them."""
+"""The head of a JPEG, which is all before its first scan: its parts, the blocks in them, and whether two JPEGs have the same."""
 
 from __future__ import annotations
 
@@ -6,13 +6,14 @@ import operator
 from typing import Any, Dict, Iterator, List, NamedTuple, NoReturn, Optional, Tuple
 
 from ._calls import Block
-from ._errors import HeadRefused, TooMany
-from ._library import PART, RESOURCE, Status, library
+from ._errors import HeadRefused, PictureRefused, TooMany
+from ._library import PART, RESOURCE, PictureFailure, Status, library
 
-KINDS = ("", "exif", "photoshop", "xmp", "extended xmp")  # by the library's numbers
+KINDS = ("", "exif", "photoshop", "xmp", "extended xmp")  # of parts, by the library's numbers
+BLOCK_KINDS = ("", "exif", "iim")  # the same of blocks
 Row = Tuple[int, int, int, int, int]
 _IPTC = 0x0404  # the number of the resource
-CAUSES: Dict[int, str] = {101: "NoStart", 102: "NoMarker", 103: "LengthForm", 104: "HeadCut"}
+CAUSES: Dict[int, str] = {101: "NoStart", 102: "NoMarker", 103: "LengthForm", 104: "HeadCut", 105: "TooLong"}
 
 
 class JpegPart(NamedTuple):
@@ -161,3 +162,38 @@ def jpeg_blocks(picture: Block) -> List[JpegBlock]:
             rows = photoshop_resources(data)
             found += [JpegBlock("iim", data[start : start + size]) for number, start, size in rows if number == _IPTC and size]
     return found
+
+
+def _raise_for_pair(failure: PictureFailure) -> NoReturn:
+    """Raises the exception for a status of a comparison."""
+    status, cause, kind, number, place = failure
+    if status in (Status.REFUSED, Status.SECOND_REFUSED):
+        side = 2 if status == Status.SECOND_REFUSED else 1
+        if kind:
+            raise PictureRefused(library().cause_name(cause), place, side, BLOCK_KINDS[kind], number)
+        raise PictureRefused(CAUSES[cause], place, side)
+    if status == Status.NO_MEMORY:
+        raise MemoryError
+    raise AssertionError(f"libexifnorm answered the status {status}")
+
+
+def jpeg_same(first: Block, second: Block) -> bool:
+    """Whether two JPEGs have the same Exif and IPTC: as many blocks of each kind as `jpeg_blocks` finds, which mean the same, pair by pair,
+    in their order. So two JPEGs without metadata are the same. XMP, pixels, and what follows the head are not compared.
+
+    The bytes may be whole files or only their first bytes. Raises PictureRefused, with the first fault, if one of them doesn't begin with
+    the whole head of a JPEG, or has a block that breaks the rules; MemoryError and LibraryMissing.
+
+    >>> def picture(block: str) -> bytes:
+    ...     data = b"Exif\\0\\0" + bytes.fromhex(block)
+    ...     return bytes.fromhex("ffd8 ffe1") + (2 + len(data)).to_bytes(2, "big") + data + bytes.fromhex("ffd9")
+    >>> upright = picture("4d4d002a00000008 0001 0112 0003 00000001 00010000 00000000")
+    >>> turned = picture("4d4d002a00000008 0001 0112 0003 00000001 00060000 00000000")
+    >>> written_anew = picture("49492a0008000000 0100 1201 0300 01000000 06000000 00000000")
+    >>> jpeg_same(turned, written_anew), jpeg_same(turned, upright)
+    (True, False)
+    """
+    found = library().jpeg_same(_bytes_of(first), _bytes_of(second))
+    if isinstance(found, tuple):
+        _raise_for_pair(found)
+    return found == 1

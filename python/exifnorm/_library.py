@@ -13,7 +13,7 @@ returns a `Failure` instead:
 
 The calls for JPEGs take a number too, the most rows that they may return, and return these as the bytes of the library's structs, of which
 `PART` and `RESOURCE` have the form. Their failure also has the rows before a fault; if there are too many rows, it has their number in
-place of the offset.
+place of the offset. The comparison of two JPEGs returns a `PictureFailure` in place of a `Failure`.
 """
 
 from __future__ import annotations
@@ -45,7 +45,11 @@ NAME_ROOM = 32  # bytes of the longest constant text of the library
 Failure = Tuple[int, int, int]
 """The status of a call that returns no result, and the number of the cause and the byte offset if a block is refused."""
 
+PictureFailure = Tuple[int, int, int, int, int]
+"""The same of two JPEGs: the status, the number of the cause, the number of the block's kind or 0, its index, and the byte offset."""
+
 Number = Union[int, Failure]
+Pair = Union[int, PictureFailure]
 Text = Union[bytes, Failure]
 Rows = Union[bytes, Tuple[int, int, int, bytes]]
 
@@ -80,6 +84,12 @@ class JpegFault(ctypes.Structure):
     _fields_ = [("cause", ctypes.c_uint32), ("place", ctypes.c_size_t)]
 
 
+class PictureFault(ctypes.Structure):
+    """Why two JPEGs are not compared: the number of the cause, the kind of the block or 0, its index, and the byte offset."""
+
+    _fields_ = [("cause", ctypes.c_uint32), ("kind", ctypes.c_uint32), ("number", ctypes.c_size_t), ("place", ctypes.c_size_t)]
+
+
 class Part(ctypes.Structure):
     """A part of a JPEG's head."""
 
@@ -104,6 +114,7 @@ _FEW = 64  # rows for which there is room at first: more than most pictures have
 _BLOCK = [ctypes.c_char_p, ctypes.c_size_t]
 _OUT = [ctypes.POINTER(ctypes.c_char), ctypes.c_size_t, ctypes.POINTER(ctypes.c_size_t)]
 _NUMBER, _FAULT, _JPEG_FAULT = ctypes.POINTER(ctypes.c_uint32), ctypes.POINTER(Fault), ctypes.POINTER(JpegFault)
+_PICTURE_FAULT = ctypes.POINTER(PictureFault)
 _ROOM = [ctypes.c_size_t, ctypes.POINTER(ctypes.c_size_t)]
 
 # The arguments of the calls (exifnorm.h). Those that the extension module makes come first, in the order in which it takes them.
@@ -115,10 +126,11 @@ ARGUMENTS = {
     "exifnorm_captions": [*_BLOCK, *_OUT, _FAULT],
     "exifnorm_jpeg_parts": [*_BLOCK, ctypes.POINTER(Part), *_ROOM, _JPEG_FAULT],
     "exifnorm_photoshop_resources": [*_BLOCK, ctypes.POINTER(Resource), *_ROOM],
+    "exifnorm_jpeg_same": [*_BLOCK, *_BLOCK, _NUMBER, _PICTURE_FAULT],
     "exifnorm_cause_name": [ctypes.c_uint32, *_OUT],
     "exifnorm_version": _OUT,
 }
-_OF_EXTENSION = list(ARGUMENTS)[:7]
+_OF_EXTENSION = list(ARGUMENTS)[:8]
 
 
 class Room:
@@ -177,6 +189,12 @@ class ByCtypes:
     def photoshop_resources(self, octets: bytes, most: int) -> Rows:
         return self._rows(self._library.exifnorm_photoshop_resources, octets, most, Resource)
 
+    def jpeg_same(self, first: bytes, second: bytes) -> Pair:
+        same, fault = ctypes.c_uint32(), PictureFault()
+        pictures = first, len(first), second, len(second)
+        status = self._library.exifnorm_jpeg_same(*pictures, ctypes.byref(same), ctypes.byref(fault))
+        return same.value if status == _DONE else (status, fault.cause, fault.kind, fault.number, fault.place)
+
     def _rows(self, call: Callable[..., int], octets: bytes, most: int, kind: Type[ctypes.Structure]) -> Rows:
         """The rows of a call, which is made again if they are more than a few, and not more than so many."""
         try:
@@ -215,14 +233,18 @@ class Library:
     captions: Callable[[bytes], Text]
     jpeg_parts: Callable[[bytes, int], Rows]
     photoshop_resources: Callable[[bytes, int], Rows]
+    jpeg_same: Callable[[bytes, bytes], Pair]
 
     def __init__(self, place: str) -> None:
         self._library = _opened(place)
         self.by_ctypes = it = ByCtypes(self._library)
-        functions = it.check, it.normalise, it.compare, it.show, it.captions, it.jpeg_parts, it.photoshop_resources
+        blocks: Any = it.check, it.normalise, it.compare, it.show, it.captions
+        jpegs: Any = it.jpeg_parts, it.photoshop_resources, it.jpeg_same
         if _native:
-            functions = _native.functions(*(_address(getattr(self._library, name)) for name in _OF_EXTENSION))
-        self.check, self.normalise, self.compare, self.show, self.captions, self.jpeg_parts, self.photoshop_resources = functions
+            made = _native.functions(*(_address(getattr(self._library, name)) for name in _OF_EXTENSION))
+            blocks, jpegs = made[:5], made[5:]
+        self.check, self.normalise, self.compare, self.show, self.captions = blocks
+        self.jpeg_parts, self.photoshop_resources, self.jpeg_same = jpegs
 
     def cause_name(self, cause: int) -> str:
         """The name of a cause."""

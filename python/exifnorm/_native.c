@@ -22,6 +22,7 @@ typedef uint32_t (*compare_call)(const unsigned char *, size_t, const unsigned c
 typedef uint32_t (*text_call)(const unsigned char *, size_t, unsigned char *, size_t, size_t *, struct exifnorm_fault *);
 typedef uint32_t (*parts_call)(const unsigned char *, size_t, struct exifnorm_jpeg_part *, size_t, size_t *, struct exifnorm_jpeg_fault *);
 typedef uint32_t (*resources_call)(const unsigned char *, size_t, struct exifnorm_photoshop_resource *, size_t, size_t *);
+typedef uint32_t (*same_call)(const unsigned char *, size_t, const unsigned char *, size_t, uint32_t *, struct exifnorm_picture_fault *);
 
 /* The module's state. */
 struct state {
@@ -37,6 +38,7 @@ struct calls {
     text_call captions;
     parts_call jpeg_parts;
     resources_call photoshop_resources;
+    same_call jpeg_same;
 };
 
 /* The bytes of a bytes object. They can't change or move while a call reads them without Python's lock. */
@@ -86,16 +88,22 @@ static PyObject *check(PyObject *capsule, PyObject *argument)
     return number_or_failure(status, kind, &fault);
 }
 
+/* Returns -1 with an exception if the arguments are not two objects of bytes. */
+static int get_pair(PyObject *arguments, const char *name, struct bytes *first, struct bytes *second)
+{
+    PyObject *one, *other;
+
+    return PyArg_UnpackTuple(arguments, name, 2, 2, &one, &other) && get_bytes(one, first) == 0 && get_bytes(other, second) == 0 ? 0 : -1;
+}
+
 static PyObject *compare(PyObject *capsule, PyObject *arguments)
 {
     struct calls *calls = PyCapsule_GetPointer(capsule, NULL);
     struct exifnorm_fault fault = {0, 0};
     struct bytes first, second;
-    PyObject *one, *other;
     uint32_t status, same = 0;
 
-    if (calls == NULL || !PyArg_UnpackTuple(arguments, "compare", 2, 2, &one, &other) || get_bytes(one, &first) < 0 ||
-        get_bytes(other, &second) < 0) {
+    if (calls == NULL || get_pair(arguments, "compare", &first, &second) < 0) {
         return NULL;
     }
     Py_BEGIN_ALLOW_THREADS
@@ -286,6 +294,26 @@ static PyObject *photoshop_resources(PyObject *capsule, PyObject *arguments)
     return rows_of(capsule, arguments, get_resources, sizeof(struct exifnorm_photoshop_resource));
 }
 
+static PyObject *jpeg_same(PyObject *capsule, PyObject *arguments)
+{
+    struct calls *calls = PyCapsule_GetPointer(capsule, NULL);
+    struct exifnorm_picture_fault fault = {0, 0, 0, 0};
+    struct bytes first, second;
+    uint32_t status, same = 0;
+
+    if (calls == NULL || get_pair(arguments, "jpeg_same", &first, &second) < 0) {
+        return NULL;
+    }
+    Py_BEGIN_ALLOW_THREADS
+    status = calls->jpeg_same(first.start, first.length, second.start, second.length, &same, &fault);
+    Py_END_ALLOW_THREADS
+    if (status == EXIFNORM_DONE) {
+        return PyLong_FromUnsignedLong(same);
+    }
+    return Py_BuildValue("(IIInn)", (unsigned int)status, (unsigned int)fault.cause, (unsigned int)fault.kind, (Py_ssize_t)fault.number,
+                         (Py_ssize_t)fault.place);
+}
+
 static PyMethodDef of_library[] = {
     {"check", check, METH_O, "The number of a block's kind."},
     {"normalise", normalise, METH_O, "The normal form of a block."},
@@ -294,6 +322,7 @@ static PyMethodDef of_library[] = {
     {"captions", captions, METH_O, "The text with the captions of a block."},
     {"jpeg_parts", jpeg_parts, METH_VARARGS, "The parts of a JPEG's head, at most so many."},
     {"photoshop_resources", photoshop_resources, METH_VARARGS, "Photoshop's image resources, at most so many."},
+    {"jpeg_same", jpeg_same, METH_VARARGS, "1 if two JPEGs have the same Exif and IPTC, else 0."},
 };
 #define COUNT ((Py_ssize_t)(sizeof of_library / sizeof of_library[0]))
 
@@ -318,6 +347,7 @@ static PyObject *capsule_of(const Py_ssize_t *at)
     calls->captions = (text_call)at[4];
     calls->jpeg_parts = (parts_call)at[5];
     calls->photoshop_resources = (resources_call)at[6];
+    calls->jpeg_same = (same_call)at[7];
     capsule = PyCapsule_New(calls, NULL, free_calls);
     if (capsule == NULL) {
         PyMem_Free(calls);
@@ -346,7 +376,7 @@ static PyObject *functions(PyObject *module, PyObject *arguments)
     Py_ssize_t at[COUNT];
     PyObject *capsule, *made;
 
-    if (!PyArg_ParseTuple(arguments, "nnnnnnn:functions", &at[0], &at[1], &at[2], &at[3], &at[4], &at[5], &at[6])) {
+    if (!PyArg_ParseTuple(arguments, "nnnnnnnn:functions", &at[0], &at[1], &at[2], &at[3], &at[4], &at[5], &at[6], &at[7])) {
         return NULL;
     }
     for (Py_ssize_t i = 0; i < COUNT; i++) {
@@ -394,9 +424,10 @@ static PyObject *normal(PyObject *module, PyObject *arguments, PyObject *named)
 
 static PyMethodDef methods[] = {
     {"functions", functions, METH_VARARGS,
-     "The functions check, normalise, compare, show, captions, jpeg_parts and photoshop_resources that call the library's functions at "
-     "these seven addresses. Each takes bytes, the last two also the most rows, and returns its result, or a tuple of the status, the "
-     "number of the cause and the offset, with jpeg_parts also the rows before the fault."},
+     "The functions check, normalise, compare, show, captions, jpeg_parts, photoshop_resources and jpeg_same that call the library's "
+     "functions at these eight addresses. Each takes bytes, jpeg_parts and photoshop_resources also the most rows, and returns its result, "
+     "or a tuple of the status, the number of the cause and the offset, with jpeg_parts also the rows before the fault, and with jpeg_same "
+     "the kind and the index of the block before the offset."},
     {"normal", (PyCFunction)(void (*)(void))normal, METH_VARARGS | METH_KEYWORDS,
      "normal($module, /, block)\n"
      "--\n\n"
@@ -425,5 +456,6 @@ PyMODINIT_FUNC PyInit__native(void)
     (void)sizeof(1 ? ((struct calls *)0)->captions : exifnorm_captions);
     (void)sizeof(1 ? ((struct calls *)0)->jpeg_parts : exifnorm_jpeg_parts);
     (void)sizeof(1 ? ((struct calls *)0)->photoshop_resources : exifnorm_photoshop_resources);
+    (void)sizeof(1 ? ((struct calls *)0)->jpeg_same : exifnorm_jpeg_same);
     return PyModuleDef_Init(&definition);
 }

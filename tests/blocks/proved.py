@@ -12,6 +12,7 @@ SPECS = (
     "px_iim/specs/Asking.antt",
     "px_tree/specs/Asking.antt",
     "px_engine/specs/Asking.antt",
+    "px_pictures/specs/Asking.antt",
 )
 DEFINITION = re.compile(r"^(\w+_(?:request|bytes)) ?(n|end|) = ((?!.*\bmax\b)[\w ()+*/]+)$", re.M)
 

@@ -78,7 +78,7 @@ def watched_library(session_folder):
 class Watch:
     """The counts of watched.c."""
 
-    CALLS = ("check", "normalise", "compare", "show", "captions", "cause_name", "version", "jpeg_parts", "photoshop_resources")
+    CALLS = ("check", "normalise", "compare", "show", "captions", "cause_name", "version", "jpeg_parts", "photoshop_resources", "jpeg_same")
 
     def __init__(self, path):
         self.library = ctypes.CDLL(str(path))

@@ -1,5 +1,5 @@
-/* What one call of the library costs: cost CALL FILE, where CALL is check, normalise, show, captions, compare (with itself), jpeg_parts or
- * photoshop_resources. It prints the most bytes that the call has allocated at once, the number of its allocations, how many of these made
+/* What one call of the library costs: cost CALL FILE, where CALL is check, normalise, show, captions, compare (with itself), jpeg_parts,
+ * photoshop_resources or jpeg_same (with itself). It prints the most bytes that the call has allocated at once, the number of its allocations, how many of these made
  * something longer, the bytes that they asked for, and the length of the output. test_costs.py runs it, also under callgrind, which counts the
  * instructions of the call. */
 #include "fuzz/memory.h"
@@ -34,6 +34,7 @@ static struct block read_file(const char *name) {
 static uint32_t called(const char *name, struct block block, void *out, size_t room, size_t *written) {
     struct exifnorm_fault fault;
     struct exifnorm_jpeg_fault of_head;
+    struct exifnorm_picture_fault of_picture;
     uint32_t number;
     if (!strcmp(name, "check"))
         return exifnorm_check(block.bytes, block.length, &number, &fault);
@@ -49,6 +50,8 @@ static uint32_t called(const char *name, struct block block, void *out, size_t r
         return exifnorm_jpeg_parts(block.bytes, block.length, out, room / sizeof(struct exifnorm_jpeg_part), written, &of_head);
     if (!strcmp(name, "photoshop_resources"))
         return exifnorm_photoshop_resources(block.bytes, block.length, out, room / sizeof(struct exifnorm_photoshop_resource), written);
+    if (!strcmp(name, "jpeg_same"))
+        return exifnorm_jpeg_same(block.bytes, block.length, block.bytes, block.length, &number, &of_picture);
     exit(2);
 }
 

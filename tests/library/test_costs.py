@@ -180,6 +180,43 @@ def test_no_call_for_a_large_block_asks_for_more_than_is_proved(costs, make):
         see_that_proofs_hold(costs, kind.blocks[0])
 
 
+def segment(marker, data):
+    return bytes((0xFF, marker)) + (len(data) + 2).to_bytes(2, "big") + data
+
+
+def picture(*pieces):
+    return b"\xff\xd8" + b"".join(pieces) + b"\xff\xd9"
+
+
+def of_exif(block):
+    return segment(0xE1, b"Exif\0\0" + block)
+
+
+def of_record(block):
+    resource = b"8BIM\4\4\0\0" + len(block).to_bytes(4, "big") + block + bytes(len(block) % 2)
+    return segment(0xED, b"Photoshop 3.0\0" + resource)
+
+
+SHORT_BLOCKS = [it for kind in small_kinds() for it in kind.blocks if len(it) < 60_000]
+RECORDS, EXIFS = ([it for it in SHORT_BLOCKS if (it[:1] == b"\x1c") == is_record] for is_record in (True, False))
+BIG = b"MM\0\x2a"
+
+
+def test_no_comparison_of_pictures_asks_for_more_than_is_proved(costs):
+    """Pictures with each block, whole and in two pieces, and with two blocks of each kind. The costs are those of a picture beside itself."""
+    for exif, record in zip(EXIFS, RECORDS * (len(EXIFS) // len(RECORDS) + 1)):
+        exif = exif[6:] if exif.startswith(b"Exif") else exif
+        pieces = [of_exif(exif[:8]), of_exif(exif[8:])] if exif[8:12] not in (BIG, b"II*\0") else [of_exif(exif)]
+        for blocks, octets in (
+            ([(exif, record)], picture(of_exif(exif), of_record(record))),
+            ([(exif, record)], picture(*pieces, of_record(record))),
+            ([(exif, record)] * 2, picture(of_exif(exif), of_record(record), of_exif(exif), of_record(record))),
+        ):
+            once = sum(2 * bounds().exif_request(len(one)) + bounds().iim_request(len(other)) for one, other in blocks)
+            asked = costs.counts("jpeg_same", octets).asked
+            assert asked <= 2 * (bounds().join_request(len(octets)) + once), f"{len(octets)} bytes ask for {asked}"
+
+
 # ---- instructions
 
 
@@ -251,30 +288,29 @@ def test_instructions_for_each_byte_of_a_form(costs, meaning, most):
     assert most / 2 <= each <= most, f"{each:.3f} instructions for each byte"
 
 
-def segment(marker, data):
-    return bytes((0xFF, marker)) + (len(data) + 2).to_bytes(2, "big") + data
-
-
 # Parts of a head, and Photoshop's resources, each with the instructions for one of them at most: an eighth more than now. A call goes over
 # the parts three times, and looks at no more of the data than at the mark and at a header of TIFF.
 PARTS = {
-    "markers that stand alone": ("jpeg_parts", b"\xff\xd0", 165),
+    "markers that stand alone": ("jpeg_parts", b"\xff\xd0", 199),
     "fill bytes": ("jpeg_parts", b"\xff" * 1000 + b"\xff\xd0", 20_400),
-    "comments": ("jpeg_parts", segment(0xFE, b"comment"), 206),
-    "long comments": ("jpeg_parts", segment(0xFE, bytes(10_000)), 206),
-    "pieces of Exif": ("jpeg_parts", segment(0xE1, b"Exif\0\0MM\0*" + bytes(100)), 234),
+    "comments": ("jpeg_parts", segment(0xFE, b"comment"), 240),
+    "long comments": ("jpeg_parts", segment(0xFE, bytes(10_000)), 240),
+    "pieces of Exif": ("jpeg_parts", segment(0xE1, b"Exif\0\0MM\0*" + bytes(100)), 272),
     "extended XMP": ("jpeg_parts", segment(0xE1, b"http://ns.adobe.com/xmp/extension/\0" + bytes(100)), 320),
     "resources": ("photoshop_resources", b"8BIM\4\4\0\0\0\0\0\x02ab", 139),
+    "comments in two pictures": ("jpeg_same", segment(0xFE, b"comment"), 1_430),
+    "resources in two pictures": ("jpeg_same", segment(0xED, b"Photoshop 3.0\0" + b"8BIM\4\x22\0\0\0\0\0\x02ab"), 2_841),
+    "XMP in two pictures": ("jpeg_same", segment(0xE1, b"http://ns.adobe.com/xap/1.0/\0" + bytes(100)), 3_480),
     "long resources": ("photoshop_resources", b"MeSa\4\4\0\0\0\0\x10\0" + bytes(4096), 184),
 }
 
 
 @pytest.mark.parametrize("call, one, most", PARTS.values(), ids=PARTS)
 def test_instructions_for_each_part(costs, call, one, most):
-    """However many there are, and with no allocation."""
-    ends = (b"\xff\xd8", b"\xff\xd9") if call == "jpeg_parts" else (b"", b"")
+    """However many there are; and with no allocation, but for the pieces of two pictures."""
+    ends = (b"", b"") if call == "photoshop_resources" else (b"\xff\xd8", b"\xff\xd9")
     few, many = (ends[0] + one * count + ends[1] for count in (100, 1100))
     counts = costs.counts(call, many)
-    assert (counts.peak, counts.allocations, counts.asked) == (0, 0, 0)
+    assert (counts.peak, counts.allocations, counts.asked) == (0, 0, 0) or call == "jpeg_same"
     each = (costs.instructions(call, many) - costs.instructions(call, few)) / 1000
     assert most / 2 <= each <= most, f"{each:.1f} instructions for each"

@@ -57,6 +57,19 @@ JPEGS = {
 }
 
 
+def picture(block):
+    """A JPEG with an Exif block."""
+    return b"\xff\xd8\xff\xe1" + (len(block) + 8).to_bytes(2, "big") + b"Exif\0\0" + block + b"\xff\xd9"
+
+
+PICTURES = {
+    "a picture": picture(ONE),
+    "without metadata": JPEGS["a head"],
+    "a refused block": picture(LOOP),
+    "no head": b"x",
+}
+
+
 @pytest.fixture
 def loaded(native, shared, monkeypatch):
     """The loaded library, whose calls are those of the extension module."""
@@ -112,13 +125,19 @@ def test_rows_are_those_of_ctypes(loaded, octets, most):
         assert unpacked(name, getattr(loaded, name)(octets, most)) == unpacked(name, getattr(loaded.by_ctypes, name)(octets, most)), name
 
 
+@pytest.mark.parametrize("first", PICTURES.values(), ids=PICTURES)
+def test_comparisons_of_pictures_are_those_of_ctypes(loaded, first):
+    for second in PICTURES.values():
+        assert loaded.jpeg_same(first, second) == loaded.by_ctypes.jpeg_same(first, second)
+
+
 @pytest.mark.parametrize("wrong", [None, 5, "MM", bytearray(ONE), memoryview(ONE)], ids=lambda it: type(it).__name__)
 def test_arguments_of_calls(loaded, wrong):
     for name in OF_ONE_BLOCK:
         assert outcome(getattr(loaded, name), wrong)[0] == "TypeError"
         assert outcome(getattr(loaded, name))[0] == "TypeError"
     for wrong_pair in ((wrong, ONE), (ONE, wrong), (ONE,), (ONE, ONE, ONE)):
-        assert outcome(loaded.compare, *wrong_pair)[0] == "TypeError"
+        assert outcome(loaded.compare, *wrong_pair)[0] == outcome(loaded.jpeg_same, *wrong_pair)[0] == "TypeError"
     for name in OF_JPEGS:
         for words in ((wrong, 1), (ONE, "1"), (ONE, 1.5), (ONE,), (ONE, 1, 1)):
             assert outcome(getattr(loaded, name), *words)[0] == "TypeError"
@@ -128,12 +147,12 @@ def test_arguments_of_calls(loaded, wrong):
 @pytest.mark.parametrize(
     "wrong, error",
     [
-        ((0, 1, 1, 1, 1, 1, 1), "ValueError"),
-        ((1, 1, 1, 1, 1, 1, 0), "ValueError"),
-        ((1, 1, 1, 1, 1, 1), "TypeError"),
-        ((1, 1, 1, 1, 1, 1, None), "TypeError"),
-        ((1, 1, 1, 1, 1, 1, 1.5), "TypeError"),
-        ((1, 1, 1, 1, 1, 1, 1 << 70), "OverflowError"),
+        ((0, 1, 1, 1, 1, 1, 1, 1), "ValueError"),
+        ((1, 1, 1, 1, 1, 1, 1, 0), "ValueError"),
+        ((1, 1, 1, 1, 1, 1, 1), "TypeError"),
+        ((1, 1, 1, 1, 1, 1, 1, None), "TypeError"),
+        ((1, 1, 1, 1, 1, 1, 1, 1.5), "TypeError"),
+        ((1, 1, 1, 1, 1, 1, 1, 1 << 70), "OverflowError"),
     ],
 )
 def test_addresses(native, wrong, error):
@@ -156,13 +175,14 @@ for name in sys.argv[3:]:
     for call in (calls.check, calls.normalise, calls.show, calls.captions):
         call(block)
     calls.compare(block, block)
+    calls.jpeg_same(block, block)
     for call in (calls.jpeg_parts, calls.photoshop_resources):
         for most in (1, 64, 100_000):
             call(block, most)
 print("all")
 """
     files = []
-    for at, block in enumerate([*BLOCKS.values(), *JPEGS.values()]):
+    for at, block in enumerate([*BLOCKS.values(), *JPEGS.values(), *PICTURES.values()]):
         files.append(folder / str(at))
         files[-1].write_bytes(block)
     words = [sys.executable, "-B", "-c", code, TOP / "python", extension, *files]
@@ -204,9 +224,20 @@ def test_memory_after_many_calls_for_jpegs(loaded, name, octets):
         assert resident() - before < 1_000_000 and abs(sys.getrefcount(octets) - count) < 100
 
 
+@pytest.mark.parametrize("second", PICTURES.values(), ids=PICTURES)
+def test_memory_after_many_comparisons_of_pictures(loaded, second):
+    first, times = PICTURES["a picture"], 50_000
+    for _ in range(times // 50):
+        loaded.jpeg_same(first, second)
+    before, count = resident(), sys.getrefcount(second)
+    for _ in range(times):
+        loaded.jpeg_same(first, second)
+    assert resident() - before < 1_000_000 and abs(sys.getrefcount(second) - count) < 100
+
+
 def addresses(loaded):
     """Those of the library's functions, as the extension module takes them."""
-    names = ("check", "normalise", "compare", "show", "captions", *OF_JPEGS)
+    names = ("check", "normalise", "compare", "show", "captions", *OF_JPEGS, "jpeg_same")
     return [ctypes.cast(getattr(loaded._library, f"exifnorm_{it}"), ctypes.c_void_p).value for it in names]
 
 
@@ -275,6 +306,13 @@ def test_allocations_of_a_comparison_that_fail(loaded, refusing):
     for second in (ONE, CAPTION, LOOP):
         *failed, last = outcomes(refusing, lambda first: loaded.compare(first, second), ONE)
         assert failed == [("MemoryError",)] * len(failed) and last == loaded.compare(ONE, second)
+
+
+def test_allocations_of_a_comparison_of_pictures_that_fail(loaded, refusing):
+    first = PICTURES["a picture"]
+    for second in PICTURES.values():
+        *failed, last = outcomes(refusing, lambda it, other=second: loaded.jpeg_same(it, other), first)
+        assert failed == [("MemoryError",)] * len(failed) and last == loaded.jpeg_same(first, second)
 
 
 @pytest.mark.parametrize("name", OF_JPEGS)

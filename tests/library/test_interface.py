@@ -20,6 +20,7 @@ PAGE = text_of("docs", "exifnorm.3")
 VERSION = re.search(r'VERSION: &str = "(.*)";', text_of("crates", "px_engine", "src", "version.rt"))[1]
 STATUSES = dict(re.findall(r"pub const (\w+): u32 = (\d+);", text_of("crates", "px_c", "src", "statuses.rt")))
 OF_JPEG = text_of("crates", "px_c", "src", "jpeg.rt")
+OF_PICTURES = text_of("crates", "px_c", "src", "pictures.rt")
 
 
 def prototypes(text):
@@ -43,7 +44,8 @@ def in_capitals(name):
 def numbers_of_jpegs():
     """Those of the kinds and causes of a JPEG's head."""
     found = re.findall(r"^ +(?:Kind|Cause)::(\w+) => (\d+),$", OF_JPEG, re.M)
-    return {"OTHER": 0, **{in_capitals(name): int(number) for name, number in found}}
+    too_long = int(re.search(r"^const TOO_LONG: u32 = (\d+);$", OF_PICTURES, re.M)[1])
+    return {"OTHER": 0, **{in_capitals(name): int(number) for name, number in found}, "TOO_LONG": too_long}
 
 
 def numbers_of_the_sources():
@@ -62,7 +64,7 @@ TYPES = {"u32": ctypes.c_uint32, "usize": ctypes.c_size_t}
 
 def structs_of_the_sources():
     """The size of each struct and the offsets of its members, from the sources in Rattle."""
-    text = text_of("crates", "px_c", "src", "faults.rt") + OF_JPEG
+    text = text_of("crates", "px_c", "src", "faults.rt") + OF_JPEG + OF_PICTURES
     for name, body in re.findall(r"^#\[repr\(C\)\]\n[^\n]*\npub struct (\w+) \{\n(.*?)^\}", text, re.M | re.S):
         members = [(member, TYPES[kind]) for member, kind in re.findall(r"^ +pub (\w+): (\w+),$", body, re.M)]
         struct = type(name, (ctypes.Structure,), {"_fields_": members})
@@ -135,6 +137,7 @@ def test_python_has_the_same_numbers_and_structs_of_jpegs():
         "jpeg_part": _library.Part,
         "photoshop_resource": _library.Resource,
         "jpeg_fault": _library.JpegFault,
+        "picture_fault": _library.PictureFault,
         "fault": _library.Fault,
     }
     found = {
@@ -157,6 +160,7 @@ IN_PYTHON = {
     "struct exifnorm_jpeg_part *": "LP_Part",
     "struct exifnorm_jpeg_fault *": "LP_JpegFault",
     "struct exifnorm_photoshop_resource *": "LP_Resource",
+    "struct exifnorm_picture_fault *": "LP_PictureFault",
 }
 
 

@@ -69,6 +69,9 @@ FINDS = {
     "HEAD_ROOM": "HEAD_ROOM_FILLED HEAD_ROOM_COUNT",
     "RESOURCES": "RESOURCES_CUT RESOURCE_LONG",
     "RESOURCES_ROOM": "RESOURCES_ROOM_COUNT",
+    "PICTURES": "PICTURES_ALWAYS_SAME PICTURES_NEVER_SAME PICTURES_SAME_ONE_WAY",
+    "PICTURE_FAULT": "PICTURE_OF_FIRST PICTURE_OF_NO_NUMBER PICTURE_OF_NO_KIND PICTURE_SETS",
+    "PICTURE_MEMORY": "PICTURE_IGNORES_NULL PICTURE_SETS_WITHOUT_MEMORY",
 }
 
 
@@ -104,7 +107,7 @@ class Fuzz:
         self.shared, self.corpus, self.program, self.wrong = shared, folder / "corpus", folder / "fuzz", folder / "wrong"
         write_corpus(self.corpus)
         self.wrong.mkdir()
-        sources = [HERE / it for it in ("fuzz.c", "fuzz/laws.c", "fuzz/heads.c", "fuzz/changes.c", "fuzz/memory.c")]
+        sources = [HERE / it for it in ("fuzz.c", "fuzz/laws.c", "fuzz/heads.c", "fuzz/pictures.c", "fuzz/changes.c", "fuzz/memory.c")]
         run(*CC, "-rdynamic", "-o", self.program, *sources, shared)
         wrong = self.wrong / "libexifnorm.so.1"
         run(*CC, "-shared", "-fPIC", "-Wl,-soname,libexifnorm.so.1", "-o", wrong, HERE / "fuzz" / "wrong.c", "-ldl")

@@ -14,8 +14,9 @@
 #include <string.h>
 #include <time.h>
 
-/* How often each call was made: check, normalise, compare, show, captions, cause_name, version, jpeg_parts, photoshop_resources. */
-unsigned long watched_calls[9];
+/* How often each call was made: check, normalise, compare, show, captions, cause_name, version, jpeg_parts, photoshop_resources,
+ * jpeg_same. */
+unsigned long watched_calls[10];
 /* The length of the output of the calls for texts: of the last one, and of all together. */
 unsigned long watched_room, watched_rooms;
 /* The most threads that were inside such a call at once. */
@@ -124,6 +125,16 @@ uint32_t exifnorm_photoshop_resources(const unsigned char *bytes, size_t length,
     need(bytes, resources, count, count);
     *(void **)&call = dlsym(right, "exifnorm_photoshop_resources");
     return has_status(&status) ? status : call(bytes, length, resources, room, count);
+}
+
+uint32_t exifnorm_jpeg_same(const unsigned char *first, size_t first_length, const unsigned char *second, size_t second_length, uint32_t *same,
+                            struct exifnorm_picture_fault *fault) {
+    uint32_t (*call)(const unsigned char *, size_t, const unsigned char *, size_t, uint32_t *, struct exifnorm_picture_fault *);
+    uint32_t status;
+    count_call(9);
+    need(first, second, same, fault);
+    *(void **)&call = dlsym(right, "exifnorm_jpeg_same");
+    return has_status(&status) ? status : call(first, first_length, second, second_length, same, fault);
 }
 
 uint32_t exifnorm_cause_name(uint32_t cause, char *out, size_t room, size_t *written) {

@@ -3,6 +3,7 @@ what a picture costs, and a library that fails."""
 
 import hashlib
 import io
+import itertools
 import os
 import random
 import struct
@@ -14,15 +15,16 @@ from in_memory import Counting
 from jpeg_walk import Walk
 from made_blocks import segment
 from made_files import A, B, EXTENSION_HEAD, K, L, T, U
-from made_files import app1, app1_xmp, app13, extension, jpeg, mpf, resource
+from made_files import app1, app1_xmp, app13, extension, jpeg, mpf, resource, turned
 from studio import SMALL_JPEG
 
 import exifnorm
 from exifnorm import _jpeg
-from exifnorm_pictures.extract import coded_picture, extraction
+from exifnorm_pictures.compare import verdicts
+from exifnorm_pictures.extract import coded_picture, extraction, judge
 from exifnorm_pictures.extract.budgets import Budget
 from exifnorm_pictures.extract.formats import jpeg as jpeg_
-from exifnorm_pictures.extract.formats.found import Blocks, Broken
+from exifnorm_pictures.extract.formats.found import EXIF, IPTC, Blocks, Broken
 from exifnorm_pictures.scan import looking
 from exifnorm_pictures.scan.batches import How
 from exifnorm_pictures.scan.walk import FoundFile
@@ -172,6 +174,45 @@ def test_what_ends_as_a_picture_does():
         assert [it.what for it in jpeg_.read(io.BytesIO(octets)).not_read] == [what]
     octets = jpeg(app13(resource(0x0404, b"odd") + b"rest"))
     assert jpeg_.read(io.BytesIO(octets)).not_read[0].digest == hashlib.sha256(b"rest").hexdigest()
+
+
+# Blocks that are written anew, or split, or refused, beside those above.
+COMPARED = [
+    *(
+        pieces
+        for name, pieces in PIECES.items()
+        if name in ("Exif", "Exif in two pieces", "two blocks of Exif", "IPTC", "IPTC in two pieces", "XMP", "tables")
+    ),
+    [app1(turned(A)), app13(resource(0x0404, K + b"\0"))],
+    [app13(resource(0x0404, K)), app1(A)],
+    [app1(B), app1(A)],
+    [app1(turned(A)), app1(turned(B))],
+    [app13(resource(0x0404, K + b"\0"), resource(0x0404, L))],
+    [app1(A[:-1])],
+    [app1(A), app13(resource(0x0404, K + b"x"))],
+]
+
+
+def test_pictures_are_the_same_exactly_if_the_library_says_so(folder):
+    """Of Exif and IPTC: the verdicts on digests, beside the one call for two pictures."""
+    sides = []
+    for number, pieces in enumerate(COMPARED):
+        path = folder / f"{number}.jpg"
+        path.write_bytes(jpeg(*pieces))
+        judged = judge.judge_all(extraction.blocks_of(os.fsencode(path)))
+        sides.append((path.read_bytes(), {kind: verdicts.side(kind, judged) for kind in verdicts.NAMES}))
+    met = set()
+    for (one, first), (other, second) in itertools.product(sides, repeat=2):
+        found = {it.result for it in verdicts.verdicts(first, second, (EXIF, IPTC))}
+        try:
+            expected = exifnorm.jpeg_same(one, other)
+        except exifnorm.PictureRefused:
+            assert found - {verdicts.ABSENT, verdicts.SAME, verdicts.DIFFERENT}, "a block is refused"
+            expected = None
+        else:
+            assert found <= {verdicts.ABSENT, verdicts.SAME} if expected else verdicts.DIFFERENT in found
+        met.add(expected)
+    assert met == {True, False, None}
 
 
 def test_segments_of_a_coded_picture():

@@ -1,5 +1,5 @@
-/* exifnorm.h: the meaning of a picture's metadata block: its one normal form, and whether two blocks mean the same; and where the
- * blocks of a JPEG picture are.
+/* exifnorm.h: the meaning of a picture's metadata block: its one normal form, and whether two blocks mean the same; where the blocks
+ * of a JPEG picture are, and whether two pictures have the same.
  *
  * A block is an Exif block or a block of IPTC-NAA IIM DataSets. An Exif block may begin with the six bytes "Exif\0\0" that
  * precede it in a JPEG file. The calls open no picture file: they read a block in memory, and don't copy it. Two blocks that mean
@@ -7,13 +7,13 @@
  * rules is refused, with its first fault and the byte offset of that fault. Blocks are never repaired.
  *
  * The head of a JPEG picture is what precedes its first scan: markers, and segments of data (ITU-T T.81, B.1.1). Two calls find the
- * segments that contain blocks, without reading the blocks.
+ * segments that contain blocks, without reading the blocks. A third compares the blocks of two pictures.
  *
  * For every call:
  *
  *   Pointers   No pointer may be NULL, even if a length is 0. Each must point to as many bytes, or elements, as its length argument
  *              gives. What a call writes to (out, written, kind, same, fault, parts, resources, count) must not overlap any other
- *              argument. The two blocks of a comparison may overlap or be the same, since blocks are only read.
+ *              argument. The two blocks or pictures of a comparison may overlap or be the same, since they are only read.
  *   Ownership  The caller keeps ownership of all arguments. A call keeps no pointer after it returns, and frees what it allocated.
  *   Threads    Calls share nothing and keep no state. Any number of threads may call at once, and may read the same block, if each
  *              has its own output arguments. Nobody may write to a block while a call reads it.
@@ -44,7 +44,7 @@ extern "C" {
 enum {
     /* Success. */
     EXIFNORM_DONE = 0,
-    /* The block is refused; of two blocks, the first. Or the bytes are no head of a JPEG picture. fault has the cause. */
+    /* The block is refused; of two blocks or pictures, the first. Or the bytes are no head of a JPEG picture. fault has the cause. */
     EXIFNORM_REFUSED = 2,
     /* The block is valid, but its normal form is longer than EXIFNORM_LIMIT. */
     EXIFNORM_TOO_LONG = 3,
@@ -52,7 +52,8 @@ enum {
     EXIFNORM_NO_MEMORY = 4,
     /* out is too short, and written is the number of bytes needed; or an array is, and count is the number of elements needed. */
     EXIFNORM_TOO_LITTLE_ROOM = 5,
-    /* The first of two blocks is valid, and the second is refused. fault has the cause. */
+    /* The first of two blocks is valid, and the second is refused; or the first fault of two pictures is in the second. fault has
+       the cause. */
     EXIFNORM_SECOND_REFUSED = 6
 };
 
@@ -162,7 +163,8 @@ enum {
     EXIFNORM_JPEG_NO_START = 101,    /* they don't begin with FF D8 */
     EXIFNORM_JPEG_NO_MARKER = 102,   /* a part doesn't begin with FF, or 0 follows its bytes FF */
     EXIFNORM_JPEG_LENGTH_FORM = 103, /* a segment's length is less than 2 */
-    EXIFNORM_JPEG_HEAD_CUT = 104     /* the bytes end before the head does */
+    EXIFNORM_JPEG_HEAD_CUT = 104,    /* the bytes end before the head does */
+    EXIFNORM_JPEG_TOO_LONG = 105     /* the data of its kinds have more than 16 times EXIFNORM_LIMIT bytes; exifnorm_jpeg_same alone */
 };
 
 /* A part of a head: a marker, with the data of its segment if it has one. */
@@ -210,6 +212,33 @@ struct exifnorm_photoshop_resource {
 uint32_t exifnorm_photoshop_resources(const unsigned char *bytes, size_t length,                   /* the block */
                                       struct exifnorm_photoshop_resource *resources, size_t room, /* receives the resources */
                                       size_t *count);                                             /* is set to their number */
+
+/* Why two pictures are not compared: the first fault of a head, or of a block. */
+struct exifnorm_picture_fault {
+    uint32_t cause; /* of a head EXIFNORM_JPEG_NO_START, ..; of a block EXIFNORM_CAUSE_LOOP, .. */
+    uint32_t kind;  /* of a head 0; of a block EXIFNORM_EXIF or EXIFNORM_IIM */
+    size_t number;  /* of a head 0; of a block how many of its kind come before it in the picture */
+    size_t place;   /* of a head the byte offset of the part that has the fault, or 0 for EXIFNORM_JPEG_TOO_LONG; of a block the byte
+                       offset in it, as exifnorm_check returns it */
+};
+
+/* Compares the Exif and the IPTC of two JPEG pictures: same is 1 if they have as many blocks of Exif and as many of IPTC, and these
+ * mean the same, pair by pair, in their order; else 0. So two pictures without metadata are the same. Exif is what the segments APP1
+ * contain, and IPTC is Photoshop's resource 0x0404 in segments APP13; one without a byte is no block. XMP, Photoshop's resource 0x0422,
+ * pixels, and what follows the head are not looked at. The first bytes of a file may be enough, as for exifnorm_jpeg_parts.
+ *
+ * Both heads are read first. Then all blocks of the first picture are checked, and then those of the second: in each picture the Exif
+ * blocks before the IPTC blocks.
+ *
+ *   DONE            same is set.
+ *   REFUSED         fault is set, and describes the first picture.
+ *   SECOND_REFUSED  fault is set, and describes the second picture.
+ *   NO_MEMORY       nothing is set.
+ */
+uint32_t exifnorm_jpeg_same(const unsigned char *first, size_t first_length,   /* a picture, or its first bytes */
+                            const unsigned char *second, size_t second_length, /* the other picture */
+                            uint32_t *same,                                    /* is set to 1 or 0 */
+                            struct exifnorm_picture_fault *fault);             /* is set to the cause of a refusal */
 
 /* Writes the name of a cause, as "Overlap", and a zero byte to the beginning of out. A number that is no cause has the empty name.
  * EXIFNORM_NAME_ROOM bytes are always enough.

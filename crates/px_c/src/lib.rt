@@ -1,5 +1,5 @@
 //! The engine for C: the kind of a block in memory, its normal form, its texts, whether two blocks mean the
-//! same, and where the blocks of a JPEG picture are. No call copies a block. Each call returns one of the
+//! same, where the blocks of a JPEG picture are, and whether those of two pictures mean the same. Each call returns one of the
 //! statuses of `statuses`. Its contract states for each status when it comes, what the call has written to
 //! its output arguments, and what is unchanged. For each input exactly one status other than `NO_MEMORY` is
 //! possible. `NO_MEMORY` is returned instead exactly if an allocation failed: each call that allocates is
@@ -17,9 +17,11 @@ ghost use Rattle.px_engine.specs.Files.{Said};
 ghost use Rattle.px_engine.specs.Hand.{PutsForm, IsUnwritten};
 ghost use Rattle.px_engine.specs.Input.{IsSaid};
 ghost use Rattle.px_engine.specs.Prints.{caption_text, listing};
+ghost use Rattle.px_pictures.specs.declared.faults.Side.TheVariants.{First, Second};
 ghost use Rattle.px_c.specs.Jpeg.{StoresHead, StoresFront, LacksRoom, StoresResources, LacksRoomForResources};
 ghost use Rattle.px_c.specs.Numbers.{cause_name};
 ghost use Rattle.px_c.specs.Outcomes.{Refuses, PutsText, PutsSaid, IsOfKind, AreCompared};
+ghost use Rattle.px_c.specs.Pictures.{ArePicturesCompared, RefusesPicture};
 ghost use Rattle.px_c.specs.Numbers as status;
 
 mod faults;
@@ -27,6 +29,7 @@ mod giving;
 mod jpeg;
 mod names;
 mod over_memory;
+mod pictures;
 pub mod statuses;
 
 pub use faults::ExifnormFault;
@@ -34,7 +37,8 @@ use giving::give_text;
 pub use jpeg::{ExifnormJpegFault, ExifnormJpegPart, ExifnormPhotoshopResource};
 use jpeg::{head_cause, put_parts, store_resources};
 use names::cause_name;
-use over_memory::{captions_in, check_in, compare_in, normalise_in, show_in};
+use over_memory::{captions_in, check_in, compare_in, jpeg_same_in, normalise_in, show_in};
+pub use pictures::ExifnormPictureFault;
 use px_bytes::Memory;
 use px_engine::VERSION;
 use px_jpeg::{find_resources, read_head};
@@ -194,6 +198,32 @@ pub extern "C" fn exifnorm_jpeg_parts(
             REFUSED
         }
     }
+}
+
+/// Stores in `same` whether two pictures have the same Exif and IPTC: 1 if they have as many blocks of each kind, and
+/// these mean the same, pair by pair, in order; otherwise 0. Exif is that of APP1, IPTC that of Photoshop's resource
+/// 0x0404, of which one without a byte is no block. Each picture may be its first bytes, as far as its head goes.
+/// Allocates what `same_metadata_in` of px_pictures does: the bytes of pieces, and the meanings of two blocks at a time.
+///
+/// `REFUSED`: `fault` is in the first picture; `SECOND_REFUSED`: in the second. It is the first fault: that of the first
+/// head, then of the second head, then of a block of the first picture, then of the second. `NO_MEMORY`: an allocation
+/// failed. Only success changes `same`, and only a refusal changes `fault`.
+#[unsafe(no_mangle)]
+pub extern "C" fn exifnorm_jpeg_same(
+    alloc: Global,
+    first: &[u8],
+    second: &[u8],
+    same: &mut u32,
+    fault: &mut ExifnormPictureFault,
+) -> u32
+    ensures known { (result ≡ status.done) ⊎ (result ≡ status.refused) ⊎ (result ≡ status.no_memory) ⊎ (result ≡ status.second_refused) }
+    ensures done { result ≡ status.done → ArePicturesCompared first.now second.now same.new }
+    ensures refused { result ≡ status.refused → RefusesPicture First first.now second.now fault.new }
+    ensures second { result ≡ status.second_refused → RefusesPicture Second first.now second.now fault.new }
+    ensures same { result ≢ status.done → same.new ≡ same.old }
+    ensures fault { result ≢ status.refused → result ≢ status.second_refused → fault.new ≡ fault.old }
+{
+    jpeg_same_in(&mut Memory::new(alloc), first, second, same, fault)
 }
 
 /// Stores Photoshop's image resources at the start of these bytes at the start of `resources`, and their number in

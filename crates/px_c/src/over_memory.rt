@@ -8,14 +8,19 @@ ghost use Rattle.px_engine.specs.Files.{Said};
 ghost use Rattle.px_engine.specs.Hand.{PutsForm, IsUnwritten};
 ghost use Rattle.px_engine.specs.Input.{IsSaid};
 ghost use Rattle.px_engine.specs.Prints.{caption_text, listing};
+ghost use Rattle.px_pictures.specs.Asking.{AsksForBoth};
+ghost use Rattle.px_pictures.specs.declared.faults.Side.TheVariants.{First, Second};
 ghost use Rattle.px_c.specs.Outcomes.{Refuses, PutsSaid, IsOfKind, AreCompared};
+ghost use Rattle.px_c.specs.Pictures.{ArePicturesCompared, RefusesPicture};
 ghost use Rattle.px_c.specs.Numbers as status;
 
 use crate::faults::{ExifnormFault, fault_from};
 use crate::giving::give;
+use crate::pictures::{ExifnormPictureFault, seen_fault};
 use crate::statuses::{DONE, NO_MEMORY, REFUSED, SECOND_REFUSED, TOO_LITTLE_ROOM, TOO_LONG};
 use px_bytes::Memory;
 use px_engine::{BlockKind, Fault, Given, Side};
+use px_pictures::Side as PictureSide;
 
 // The kind of the block in a file.
 pub(crate) fn check_in(
@@ -199,5 +204,46 @@ pub(crate) fn captions_in(
         Err(Fault::NormalTooLong) => unreachable!(),
         Err(Fault::ReadFailed) => unreachable!(),
         Err(Fault::WriteFailed) => unreachable!(),
+    }
+}
+
+// Whether two JPEG pictures have the same Exif and IPTC.
+pub(crate) fn jpeg_same_in(
+    memory: &mut Memory,
+    first: &[u8],
+    second: &[u8],
+    same: &mut u32,
+    fault: &mut ExifnormPictureFault,
+) -> u32
+    ensures known { (result ≡ status.done) ⊎ (result ≡ status.refused) ⊎ (result ≡ status.no_memory) ⊎ (result ≡ status.second_refused) }
+    ensures done { result ≡ status.done → ArePicturesCompared first.now second.now same.new }
+    ensures refused { result ≡ status.refused → RefusesPicture First first.now second.now fault.new }
+    ensures second { result ≡ status.second_refused → RefusesPicture Second first.now second.now fault.new }
+    ensures same { result ≢ status.done → same.new ≡ same.old }
+    ensures fault { result ≢ status.refused → result ≢ status.second_refused → fault.new ≡ fault.old }
+    ensures lacking { result ≡ status.no_memory → memory.new.refusals ≡ memory.old.refusals + 1 }
+    ensures memory { result ≢ status.no_memory → memory.new.refusals ≡ memory.old.refusals }
+    ensures asked { AsksForBoth first.now second.now memory.old memory.new }
+{
+    match px_pictures::same_metadata_in(memory, first, second) {
+        Ok(true) => {
+            *same = 1;
+            DONE
+        }
+        Ok(false) => {
+            *same = 0;
+            DONE
+        }
+        Err(e) => match (seen_fault(e.fault), e.side) {
+            (None, _) => NO_MEMORY,
+            (Some(seen), PictureSide::First) => {
+                *fault = seen;
+                REFUSED
+            }
+            (Some(seen), PictureSide::Second) => {
+                *fault = seen;
+                SECOND_REFUSED
+            }
+        },
     }
 }

@@ -75,7 +75,8 @@ static int open_area(struct area *area, size_t size) {
 }
 
 int open_room(void) {
-    return open_area(&block_area, 2 * LONGEST + 64) && open_area(&other_area, 2 * LONGEST + 64) && open_area(&out_area, ROOM) && open_heads();
+    return open_area(&block_area, 2 * LONGEST + 64) && open_area(&other_area, 2 * LONGEST + 64) && open_area(&out_area, ROOM) && open_heads() &&
+           open_pictures();
 }
 
 /* Appends one part to another. */
@@ -403,6 +404,8 @@ unsigned judge(const unsigned char *given, size_t length) {
     }
     if (seen.blocks % 8 == 0)
         judge_refused_memory(block, length);
+    if (seen.blocks % 4 == 0)
+        judge_pictures(block, length, first.status == EXIFNORM_REFUSED ? first.fault.cause : 0, first.fault.place);
     judge_heads(block, length);
     holds(LAW_READ_ONLY, memcmp(block, given, length) == 0);
     return first.status == EXIFNORM_REFUSED ? first.fault.cause : 0;

@@ -49,7 +49,10 @@
     LAW(HEAD_MORE, "bytes after a head change nothing") \
     LAW(HEAD_ROOM, "for an array that is too short for the parts their number is returned, and nothing is written") \
     LAW(RESOURCES, "Photoshop's resources are those that were made, whatever follows them") \
-    LAW(RESOURCES_ROOM, "for an array that is too short for them their number is returned, and nothing is written")
+    LAW(RESOURCES_ROOM, "for an array that is too short for them their number is returned, and nothing is written") \
+    LAW(PICTURES, "two pictures are the same exactly if they have as many blocks, and these mean the same") \
+    LAW(PICTURE_FAULT, "a picture with a refused block is refused, with the block's kind, number, cause and offset, on either side") \
+    LAW(PICTURE_MEMORY, "a failed allocation while pictures are compared is NO_MEMORY, and sets nothing")
 
 #define LAW_NUMBER(name, text) LAW_##name,
 enum { LAWS(LAW_NUMBER) LAW_COUNT };
@@ -74,9 +77,13 @@ int holds(int law, int is_so);
 /* Allocates the buffers in which blocks are judged; 0 if there is no memory. */
 int open_room(void);
 int open_heads(void);
+int open_pictures(void);
 
 /* Judges a head and Photoshop's resources that are made from the bytes of a block. */
 void judge_heads(const unsigned char *block, size_t length);
+
+/* Judges pictures that are made of a block, whose check returned this cause, or 0, and this offset. */
+void judge_pictures(const unsigned char *block, size_t length, uint32_t cause, uint32_t place);
 
 /* The longest block that is judged here. */
 size_t longest_block(void);

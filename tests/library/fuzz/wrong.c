@@ -79,7 +79,16 @@
     MISTAKE(HEAD_READS_BEHIND, "a byte after the picture is read") \
     MISTAKE(RESOURCE_LONG, "the data of a resource have their padding") \
     MISTAKE(RESOURCES_CUT, "the last of Photoshop's resources is missing") \
-    MISTAKE(RESOURCES_ROOM_COUNT, "for an array that is too short for resources its own length is returned")
+    MISTAKE(RESOURCES_ROOM_COUNT, "for an array that is too short for resources its own length is returned") \
+    MISTAKE(PICTURES_ALWAYS_SAME, "all pictures are the same") \
+    MISTAKE(PICTURES_NEVER_SAME, "no two pictures are the same") \
+    MISTAKE(PICTURES_SAME_ONE_WAY, "a longer first picture is never the same") \
+    MISTAKE(PICTURE_OF_FIRST, "a fault of the second picture is returned as one of the first") \
+    MISTAKE(PICTURE_OF_NO_NUMBER, "a refused block is always the first of its kind") \
+    MISTAKE(PICTURE_OF_NO_KIND, "a refused block is always Exif") \
+    MISTAKE(PICTURE_SETS, "the result is set although a picture is refused") \
+    MISTAKE(PICTURE_IGNORES_NULL, "pictures are different if an allocation failed") \
+    MISTAKE(PICTURE_SETS_WITHOUT_MEMORY, "the fault is set although an allocation failed")
 
 #define MISTAKE(name, text) name,
 enum { NONE, MISTAKES COUNT };
@@ -93,12 +102,14 @@ typedef uint32_t Text(const unsigned char *, size_t, unsigned char *, size_t, si
 typedef uint32_t Parts(const unsigned char *, size_t, struct exifnorm_jpeg_part *, size_t, size_t *, struct exifnorm_jpeg_fault *);
 typedef uint32_t Resources(const unsigned char *, size_t, struct exifnorm_photoshop_resource *, size_t, size_t *);
 typedef uint32_t Compare(const unsigned char *, size_t, const unsigned char *, size_t, uint32_t *, struct exifnorm_fault *);
+typedef uint32_t Same(const unsigned char *, size_t, const unsigned char *, size_t, uint32_t *, struct exifnorm_picture_fault *);
 
 static Check *right_check;
 static Text *right_normalise, *right_show, *right_captions;
 static Compare *right_compare;
 static Parts *right_parts;
 static Resources *right_resources;
+static Same *right_same;
 static int wrong;
 static const char *alone;
 static unsigned long calls;
@@ -109,6 +120,7 @@ Text its_normalise, its_show, its_captions;
 Compare its_compare;
 Parts its_jpeg_parts;
 Resources its_photoshop_resources;
+Same its_jpeg_same;
 #define ITS(type, name) its_##name
 #define FIND_RIGHT()
 #else
@@ -132,6 +144,7 @@ __attribute__((constructor)) static void open_right(void) {
     right_compare = ITS(Compare, compare);
     right_parts = ITS(Parts, jpeg_parts);
     right_resources = ITS(Resources, photoshop_resources);
+    right_same = ITS(Same, jpeg_same);
     while (wrong < COUNT && strcmp(names[wrong], name) != 0)
         wrong++;
     if (wrong == COUNT)
@@ -468,4 +481,29 @@ uint32_t exifnorm_photoshop_resources(const unsigned char *bytes, size_t length,
     if (wrong == RESOURCES_CUT && *count > 0)
         --*count;
     return status;
+}
+
+uint32_t exifnorm_jpeg_same(const unsigned char *first, size_t first_length, const unsigned char *second, size_t second_length, uint32_t *same, struct exifnorm_picture_fault *fault) {
+    if (is_right("jpeg_same"))
+        return right_same(first, first_length, second, second_length, same, fault);
+    if (wrong == NONE_OF_THEM_ANSWERS)
+        return EXIFNORM_DONE;
+    uint32_t status = right_same(first, first_length, second, second_length, same, fault);
+    if (status == EXIFNORM_NO_MEMORY && wrong == PICTURE_IGNORES_NULL)
+        return *same = 0, EXIFNORM_DONE;
+    if (status == EXIFNORM_NO_MEMORY && wrong == PICTURE_SETS_WITHOUT_MEMORY)
+        fault->cause = 0;
+    if (status == EXIFNORM_DONE && wrong == PICTURES_ALWAYS_SAME)
+        *same = 1;
+    if (status == EXIFNORM_DONE && (wrong == PICTURES_NEVER_SAME || (wrong == PICTURES_SAME_ONE_WAY && first_length > second_length)))
+        *same = 0;
+    if (status != EXIFNORM_REFUSED && status != EXIFNORM_SECOND_REFUSED)
+        return status;
+    if (wrong == PICTURE_OF_NO_NUMBER)
+        fault->number = 0;
+    if (wrong == PICTURE_OF_NO_KIND)
+        fault->kind = EXIFNORM_EXIF;
+    if (wrong == PICTURE_SETS)
+        *same = 0;
+    return wrong == PICTURE_OF_FIRST ? EXIFNORM_REFUSED : status;
 }

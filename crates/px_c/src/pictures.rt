@@ -1,0 +1,67 @@
+// Why two JPEG pictures are not compared, as numbers.
+ghost use Rattle.std.specs.Prelude.{◌≡◌, MatchOption};
+ghost use Rattle.px_pictures.specs.declared.faults.Fault.TheVariants.{OutOfMemory};
+ghost use Rattle.px_c.specs.Pictures.{IsSeenFault, block_kind};
+
+use crate::jpeg::head_cause;
+use px_pictures::{BlockKind, Fault};
+
+// The cause of a picture whose pieces of metadata have too many bytes.
+const TOO_LONG: u32 = 105;
+
+/// Why two pictures are not compared: the first fault of a head, or of a block.
+#[repr(C)]
+#[derive(Clone, Copy, Drop)]
+pub struct ExifnormPictureFault {
+    /// The number of a `Cause`, 1 to 19, for a block. For a head that of an `ExifnormJpegFault`, or 105 if the pieces of
+    /// its metadata have more than 16 times `LIMIT` bytes.
+    pub cause: u32,
+    /// The kind of the block: 1 for Exif, 2 for IPTC. 0 for a head.
+    pub kind: u32,
+    /// How many blocks of this kind are before it. 0 for a head.
+    pub number: usize,
+    /// The byte offset, in the block or in the picture. 0 if the pieces have too many bytes.
+    pub place: usize,
+}
+
+// The kind of a block as a number.
+fn block_kind(kind: BlockKind) -> u32
+    ensures { result ≡ block_kind kind }
+{
+    match kind {
+        BlockKind::Exif => 1,
+        BlockKind::Iptc => 2,
+    }
+}
+
+// A fault as numbers; `None` if an allocation failed.
+pub(crate) fn seen_fault(fault: Fault) -> Option<ExifnormPictureFault>
+    ensures { MatchOption result (fault ≡ OutOfMemory) (IsSeenFault fault) }
+{
+    match fault {
+        Fault::Head(head) => Some(ExifnormPictureFault {
+            cause: head_cause(head.cause),
+            kind: 0,
+            number: 0,
+            place: head.place,
+        }),
+        Fault::TooLong => Some(ExifnormPictureFault {
+            cause: TOO_LONG,
+            kind: 0,
+            number: 0,
+            place: 0,
+        }),
+        Fault::Block {
+            kind,
+            number,
+            cause,
+            place,
+        } => Some(ExifnormPictureFault {
+            cause: cause.number(),
+            kind: block_kind(kind),
+            number,
+            place: place as usize,
+        }),
+        Fault::OutOfMemory => None,
+    }
+}

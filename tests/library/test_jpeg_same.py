@@ -1,0 +1,299 @@
+"""exifnorm_jpeg_same, from C and by the package: pictures whose blocks are known, each kind of fault on either side, and thousands of pairs that
+are made by chance, beside the independent readers of heads and of blocks."""
+
+import ctypes
+import pickle
+from random import Random
+from struct import Struct
+
+import pytest
+
+import exifnorm
+import jpegs
+from exifnorm import PictureRefused, _library
+from kinds import small_kinds
+from meanings import Record
+from reading import CAUSES, Fault, datasets, exif_block
+from small_blocks import CAPTION, LOOP, ONE, outcome
+
+DONE, REFUSED, NO_MEMORY, SECOND_REFUSED = 0, 2, 4, 6
+HEADS = {"NoStart": 101, "NoMarker": 102, "LengthForm": 103, "HeadCut": 104}
+NUMBERS = {name: number for number, name in enumerate(CAUSES, 1)}
+KINDS = ["", "exif", "iim"]
+FAULT, FILLER, UNSET = Struct("IINN"), 0xA5, 0x5EED5EED
+SEED, PAIRS = 1, 20_000
+
+START, END = b"\xff\xd8", b"\xff\xd9"
+EXIF, PHOTOSHOP, XMP = (mark for _, mark, _ in jpegs.MARKS[:3])
+TURNED = bytes.fromhex("49492a0008000000 0100 1201 0300 01000000 06000000 00000000")  # means what ONE means
+UPRIGHT = bytes.fromhex("4d4d002a00000008 0001 0112 0003 00000001 00010000 00000000")
+LONG_CAPTION = b"\x1c\x02\x78\x80\x04\0\0\0\x04Vase\0"  # means what CAPTION means
+URN = b"\x1c\x02\x78\x00\x03Urn"
+
+
+def segment(marker, data):
+    return bytes((0xFF, marker)) + (len(data) + 2).to_bytes(2, "big") + data
+
+
+def resource(number, data):
+    return b"8BIM" + number.to_bytes(2, "big") + b"\0\0" + len(data).to_bytes(4, "big") + data + bytes(len(data) % 2)
+
+
+def exif(data):
+    return segment(0xE1, EXIF + data)
+
+
+def iptc(data):
+    return photoshop(resource(0x0404, data))
+
+
+def photoshop(data):
+    return segment(0xED, PHOTOSHOP + data)
+
+
+COMMENT, SCAN = segment(0xFE, b"comment"), segment(0xDA, b"scan")
+
+
+def picture(*pieces, end=END):
+    return START + b"".join(pieces) + end
+
+
+@pytest.fixture
+def compared(shared):
+    """The call in C: its status, and the result or the fault. What a status doesn't name must be unchanged."""
+    library = ctypes.CDLL(str(shared))
+
+    def call(first, second):
+        same, fault = ctypes.c_uint32(UNSET), ctypes.create_string_buffer(bytes((FILLER,)) * FAULT.size, FAULT.size)
+        sizes = ctypes.c_size_t(len(first)), ctypes.c_size_t(len(second))
+        status = library.exifnorm_jpeg_same(first, sizes[0], second, sizes[1], ctypes.byref(same), fault)
+        assert (same.value == UNSET) == (status != DONE), "the result"
+        assert (fault.raw == bytes((FILLER,)) * FAULT.size) == (status not in (REFUSED, SECOND_REFUSED)), "the fault"
+        return status, same.value if status == DONE else FAULT.unpack(fault.raw) if status != NO_MEMORY else None
+
+    return call
+
+
+@pytest.fixture
+def see(compared, way):
+    """Sees that the call in C and that of the package give the expected result: whether two pictures are the same, or the fault."""
+
+    def check(first, second, expected):
+        found = compared(first, second)
+        if isinstance(expected, bool):
+            assert found == (DONE, int(expected))
+            assert exifnorm.jpeg_same(first, second) is expected
+            return
+        cause, place, side, kind, index = expected
+        number = (NUMBERS if kind else HEADS)[cause]
+        assert found == (SECOND_REFUSED if side == 2 else REFUSED, (number, KINDS.index(kind), index, place))
+        with pytest.raises(PictureRefused) as raised:
+            exifnorm.jpeg_same(first, second)
+        it = raised.value
+        assert (it.cause, it.place, it.side, it.kind, it.index) == expected
+        again = pickle.loads(pickle.dumps(it))
+        assert (again.args, str(again), again.kind, again.index) == (it.args, str(it), kind, index), "pickled"
+
+    return check
+
+
+# ---- pictures whose blocks are known
+
+SAME = {
+    "no metadata": (picture(), picture(COMMENT, end=SCAN + b"data" + END)),
+    "both byte orders": (picture(exif(ONE)), picture(exif(TURNED))),
+    "a resource in another form": (picture(iptc(CAPTION)), picture(iptc(LONG_CAPTION))),
+    "both kinds, in either order": (picture(exif(ONE), iptc(CAPTION)), picture(iptc(LONG_CAPTION), COMMENT, exif(TURNED))),
+    "a block in three pieces": (picture(exif(ONE[:9]), exif(ONE[9:20]), exif(ONE[20:])), picture(exif(TURNED))),
+    "resources in two pieces": (
+        picture(photoshop(resource(0x0404, CAPTION)[:13]), photoshop(resource(0x0404, CAPTION)[13:])),
+        picture(iptc(CAPTION)),
+    ),
+    "two blocks of each kind": (
+        picture(exif(ONE), exif(UPRIGHT), photoshop(resource(0x0404, CAPTION) + resource(0x0404, URN))),
+        picture(exif(TURNED), iptc(LONG_CAPTION), exif(UPRIGHT), COMMENT, iptc(URN)),
+    ),
+    "an empty resource is no block": (picture(iptc(b"")), picture()),
+    "XMP and the Exif of Photoshop": (
+        picture(segment(0xE1, XMP + b"<x/>"), photoshop(resource(0x0422, ONE) + resource(0x0424, b"<x/>"))),
+        picture(),
+    ),
+    "what is behind the head": (picture(end=SCAN + exif(ONE)), picture(end=SCAN)),
+}
+DIFFERENT = {
+    "another value": (picture(exif(ONE)), picture(exif(UPRIGHT))),
+    "another caption": (picture(iptc(CAPTION)), picture(iptc(URN))),
+    "only one has Exif": (picture(exif(ONE), iptc(CAPTION)), picture(iptc(CAPTION))),
+    "only one has IPTC": (picture(exif(ONE), iptc(CAPTION)), picture(exif(ONE))),
+    "a block more": (picture(exif(ONE), exif(ONE)), picture(exif(ONE))),
+    "a caption more": (picture(iptc(CAPTION), COMMENT, iptc(CAPTION)), picture(iptc(CAPTION))),
+    "another order of blocks": (picture(exif(ONE), exif(UPRIGHT)), picture(exif(UPRIGHT), exif(ONE))),
+    "the second of two": (picture(exif(ONE), exif(ONE)), picture(exif(ONE), exif(UPRIGHT))),
+}
+# Each with a picture that is whole: the fault's cause and offset, the kind of the block, and how many of its kind are before it.
+FAULTS = {
+    "no picture": (b"\x89PNG", ("NoStart", 0, "", 0)),
+    "no bytes": (b"", ("NoStart", 0, "", 0)),
+    "a cut head": (picture(exif(ONE), end=b"")[:-1], ("HeadCut", 2, "", 0)),
+    "another byte": (picture(COMMENT, end=b"x"), ("NoMarker", 2 + len(COMMENT), "", 0)),
+    "a short length": (picture(COMMENT, end=b"\xff\xe1\0\1"), ("LengthForm", 2 + len(COMMENT), "", 0)),
+    "Exif": (picture(exif(LOOP)), ("Loop", 22, "exif", 0)),
+    "Exif without a byte": (picture(exif(b"")), ("UnknownKind", 0, "exif", 0)),
+    "a second mark of Exif": (picture(exif(EXIF + ONE)), ("UnknownKind", 0, "exif", 0)),
+    "DataSets where Exif belongs": (picture(exif(CAPTION)), ("UnknownKind", 0, "exif", 0)),
+    "Exif where DataSets belong": (picture(iptc(ONE)), ("NoMarker", 0, "iim", 0)),
+    "the third block": (picture(exif(ONE), exif(TURNED), exif(LOOP)), ("Loop", 22, "exif", 2)),
+    "IPTC": (picture(exif(ONE), iptc(CAPTION[:-1])), ("DataSetCut", 0, "iim", 0)),
+    "the second IPTC": (picture(iptc(CAPTION), COMMENT, iptc(URN + URN[:-1])), ("DataSetCut", len(URN), "iim", 1)),
+    "Exif before IPTC": (picture(iptc(CAPTION[:-1]), exif(LOOP)), ("Loop", 22, "exif", 0)),
+    "a head before its blocks": (picture(exif(LOOP), end=b"x"), ("NoMarker", 2 + len(exif(LOOP)), "", 0)),
+}
+
+
+@pytest.mark.parametrize("first, second", SAME.values(), ids=SAME)
+def test_the_same(see, first, second):
+    for pair in ((first, second), (second, first), (first, first), (second, second)):
+        see(*pair, True)
+
+
+@pytest.mark.parametrize("first, second", DIFFERENT.values(), ids=DIFFERENT)
+def test_different(see, first, second):
+    see(first, second, False)
+    see(second, first, False)
+
+
+@pytest.mark.parametrize("broken, fault", FAULTS.values(), ids=FAULTS)
+def test_faults(see, broken, fault):
+    """The first fault: of the first head, of the second head, of a block of the first picture, of the second."""
+    cause, place, kind, index = fault
+    whole, refused, headless = picture(exif(ONE)), picture(exif(b"MM\0\x2a\0\0")), b"\xff\xd8"
+    see(broken, whole, (cause, place, 1, kind, index))
+    see(whole, broken, (cause, place, 2, kind, index))
+    see(broken, broken, (cause, place, 1, kind, index))
+    see(headless, broken, ("HeadCut", 2, 1, "", 0))
+    see(broken, headless, (cause, place, 1, kind, index) if not kind else ("HeadCut", 2, 2, "", 0))
+    see(refused, broken, (cause, place, 2, kind, index) if not kind else ("HeaderCut", 6, 1, "exif", 0))
+
+
+# ---- pairs that are made by chance
+
+
+def blocks_of(octets):
+    """The Exif and the IPTC blocks of a head, by the walk in Python."""
+    found, last = ([], []), None
+    parts, fault = jpegs.parts(octets)
+    if fault:
+        return found, fault
+    runs = []
+    for _, kind, begins, start, size in parts:
+        if kind in ("exif", "photoshop"):
+            if begins:
+                runs.append((kind, []))
+            last = runs[-1][1]
+            last.append(octets[start : start + size])
+    for kind, pieces in runs:
+        data = b"".join(pieces)
+        if kind == "exif":
+            found[0].append(data)
+        else:
+            found[1].extend(it for number, it in jpegs.resources(data)[0] if number == 0x0404 and it)
+    return found, None
+
+
+def expected_of(first, second):
+    """The result by the independent readers."""
+    pictures = [blocks_of(it) for it in (first, second)]
+    for side, (_, fault) in enumerate(pictures, 1):
+        if fault:
+            return (*fault, side, "", 0)
+    forms = []
+    for side, (blocks, _) in enumerate(pictures, 1):
+        meant = []
+        for kind, those, read in zip(KINDS[1:], blocks, (exif_block, lambda it: Record(datasets(it)))):
+            for index, block in enumerate(those):
+                try:
+                    meant.append((kind, read(block).normal()))
+                except Fault as why:
+                    return (*why.args, side, kind, index)
+        forms.append(meant)
+    return forms[0] == forms[1]
+
+
+KNOWN = [block for kind in small_kinds() for block in kind.blocks if len(block) < 3000]
+EXIFS = [it for it in KNOWN if it[:1] != b"\x1c"] + [ONE, TURNED, UPRIGHT] * 20 + [LOOP, b""]
+RECORDS = [it for it in KNOWN if it[:1] == b"\x1c"] + [CAPTION, LONG_CAPTION, URN] * 20 + [b"", CAPTION[:-1]]
+
+
+def made(chance):
+    """A picture with up to four pieces."""
+    pieces = []
+    for _ in range(chance.randint(0, 4)):
+        way = chance.randrange(8)
+        if way < 3:
+            block = chance.choice(EXIFS)
+            at = chance.randrange(4, len(block)) if way == 2 and len(block) > 4 else len(block)
+            pieces += [exif(block[:at])] + ([exif(block[at:])] if at < len(block) else [])
+        elif way < 6:
+            data = b"".join(resource(chance.choice((0x0404, 0x0404, 0x0422)), chance.choice(RECORDS)) for _ in range(chance.randint(1, 2)))
+            at = chance.randrange(len(data)) if way == 5 else len(data)
+            pieces += [photoshop(data[:at])] + ([photoshop(data[at:])] if at < len(data) else [])
+        else:
+            pieces.append(chance.choice((COMMENT, segment(0xE1, XMP + b"<x/>"), segment(0xE1, b"EXIF\0\0" + ONE))))
+    return picture(*pieces, end=chance.choice((END, SCAN, END, SCAN, END, b"")))
+
+
+def changed(chance, octets):
+    """The same picture, or one with a changed byte, or cut."""
+    way, at = chance.randrange(8), chance.randrange(len(octets) + 1)
+    if way == 0:
+        return octets[:at] + bytes((chance.choice((0, 1, 0xFF, chance.randrange(256))),)) + octets[at + 1 :]
+    return octets[:at] if way == 1 else octets
+
+
+def test_pairs_that_are_made_by_chance(compared):
+    chance, met = Random(SEED), {}
+    for _ in range(PAIRS):
+        first = changed(chance, made(chance))
+        second = changed(chance, first if chance.randrange(2) else made(chance))
+        expected = expected_of(first, second)
+        status, found = compared(first, second)
+        if isinstance(expected, bool):
+            assert (status, found) == (DONE, int(expected)), (first.hex(), second.hex())
+            met[expected] = met.get(expected, 0) + 1
+            continue
+        cause, place, side, kind, index = expected
+        number = (NUMBERS if kind else HEADS)[cause]
+        assert (status, found) == ((REFUSED, SECOND_REFUSED)[side - 1], (number, KINDS.index(kind), index, place)), (
+            first.hex(),
+            second.hex(),
+        )
+        met[side, kind] = met.get((side, kind), 0) + 1
+    assert min(met.get(it, 0) for it in (True, False, *((side, kind) for side in (1, 2) for kind in KINDS))) > PAIRS // 400, met
+
+
+# ---- the package
+
+
+def test_ways_to_give_bytes(way):
+    """A picture may be longer than any block."""
+    long = picture(exif(ONE), end=SCAN) + bytes(17_000_000)
+    for given_as in (bytearray, lambda it: memoryview(b"xx" + it + b"yy")[2:-2]):
+        assert exifnorm.jpeg_same(given_as(long), picture(exif(TURNED))) is True
+        assert exifnorm.jpeg_same(picture(exif(UPRIGHT)), given_as(long)) is False
+    for wrong in (None, 5, "MM"):
+        assert outcome(exifnorm.jpeg_same, wrong, long)[0] == outcome(exifnorm.jpeg_same, long, wrong)[0] == "TypeError"
+    assert outcome(exifnorm.jpeg_same, memoryview(long)[::2], long)[0] == "BufferError"
+
+
+def test_a_library_that_answers_otherwise(way, monkeypatch):
+    for failure, expected in (((4, 0, 0, 0, 0), "MemoryError"), ((3, 0, 0, 0, 0), "AssertionError"), ((7, 0, 0, 0, 0), "AssertionError")):
+        monkeypatch.setattr(_library.library(), "jpeg_same", lambda *_, it=failure: it)
+        assert outcome(exifnorm.jpeg_same, picture(), picture())[0] == expected
+    monkeypatch.setattr(_library.library(), "jpeg_same", lambda *_: (6, 105, 0, 0, 0))
+    with pytest.raises(PictureRefused) as raised:
+        exifnorm.jpeg_same(picture(), picture())
+    assert str(raised.value) == "TooLong at 0 in the head, picture 2"
+
+
+def test_one_call_of_the_library(watch):
+    assert watch.of(exifnorm.jpeg_same, picture(exif(ONE)), picture(exif(TURNED))) == {"jpeg_same": 1}
