@@ -234,10 +234,13 @@ class TestCatalogue:
             (("report", "--catalogue", "c", "--since", "plain", "--json"), 4),
             (("merge", "plain", "--catalogue", "c"), 4),
             (("merge", "c", "--catalogue", "plain"), 4),
+            (("merge", "plain", "c", "--catalogue", "both"), 4),
+            (("merge", "c", "plain", "--catalogue", "both"), 4),
             (("index", "p", "--catalogue", "c", "--scheduler", "tcp://127.0.0.1:1"), 3),
         ):
             found = called_lines(*words)
             assert found[0] == status and "sidecars" in found[2] and "Traceback" not in found[2], (words, found)
+        assert not (self.folder / "both").exists()
         assert called_lines("merge", "c", "--catalogue", "both")[0] == 0
         assert called_lines("changed", "both", "c")[0] == 0
         assert called_lines("changed", "p", "c")[0] == 0, "a folder is read as the catalogue was"

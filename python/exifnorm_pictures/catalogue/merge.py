@@ -2,6 +2,7 @@
 
 from __future__ import annotations
 
+import contextlib
 import os
 from typing import Sequence
 
@@ -10,20 +11,33 @@ from .store import Catalogue, NoCatalogue, check_schema, unlike
 _RUNS = "INSERT INTO main.runs SELECT id + ?, started, ended, exifnorm, exiftool, exiv2, sidecars FROM other.runs"
 
 
-def merge(all_: Catalogue, names: Sequence[str]) -> int:
-    """Adds the pictures of other catalogues. Returns their number afterwards. The last catalogue with a picture replaces the others.
+def merge(name: str, others: Sequence[str]) -> int:
+    """Adds the pictures of other catalogues to the one of this name, which is made if it is missing. Returns their number afterwards. The
+    last catalogue with a picture replaces the others.
 
     Each catalogue is one transaction: a merge that is stopped leaves whole catalogues in it.
     """
-    for name in names:
-        if os.path.exists(name) and os.path.samefile(name, all_.name):
-            raise NoCatalogue(f"{name} is the catalogue to be written")
-        with Catalogue(name) as other:  # it is one, and isn't damaged at first sight
-            if not all_.is_empty() and other.has_sidecars() != all_.has_sidecars():
-                raise unlike(all_, other)
-    for name in names:
-        _add(all_, name)
-    return int(next(all_.rows("SELECT count(*) FROM pictures"))[0])
+    _check(name, others)  # before it is made: a mistyped name would leave a catalogue of no pictures
+    with Catalogue(name, make=True) as all_:
+        for it in others:
+            _add(all_, it)
+        return int(next(all_.rows("SELECT count(*) FROM pictures"))[0])
+
+
+def _check(name: str, others: Sequence[str]) -> None:
+    """Raises `NoCatalogue` unless all are catalogues, not damaged at first sight, and with sidecars or all without."""
+    with contextlib.ExitStack() as open_:
+        first = None
+        if os.path.exists(name) and os.path.getsize(name):
+            all_ = open_.enter_context(Catalogue(name))
+            first = None if all_.is_empty() else all_
+        for it in others:
+            if os.path.exists(it) and os.path.exists(name) and os.path.samefile(it, name):
+                raise NoCatalogue(f"{it} is the catalogue to be written")
+            with Catalogue(it) as other:
+                if first and other.has_sidecars() != first.has_sidecars():
+                    raise unlike(first, other)
+            first = first or open_.enter_context(Catalogue(it))
 
 
 def _add(all_: Catalogue, name: str) -> None:
