@@ -10,7 +10,8 @@ from pathlib import Path
 import pytest
 from made_blocks import BLOCKS, with_exif
 from made_files import app1, app1_xmp, exif, jpeg, xmp
-from studio import SMALL_JPEG, TOP, needs, tool
+from made_more_files import gif
+from studio import SMALL_JPEG, TOP, needs, put, tool
 from test_captions import data_set, with_record, with_texts
 from test_groups import FILES as TWINS, with_short_note
 
@@ -74,6 +75,14 @@ def test_the_samples(exported):
         "SELECT path, label, text FROM captions JOIN pictures ON id = picture WHERE label IN ('title', 'caption') AND standard <> 'Exif'"
     )
     assert set(asked(base, query)) == expected
+
+
+def test_coded_pictures(exported, folder):
+    """Files have the same value exactly if they have the same coded picture, and none if it isn't known."""
+    other = SMALL_JPEG.replace(b"\xff\xdb\0\x43\0", b"\xff\xdb\0\x43\1", 1)  # another table of quantization
+    put(folder / "p", {"a.jpg": jpeg(app1(exif(b"Abc"))), "b.jpg": jpeg(app1(exif(b"Xyz"))), "c.jpg": other, "d.gif": gif()})
+    a, b, c, d = (it for it, in asked(exported("p", words=["--pixels"]), "SELECT coded_picture FROM pictures ORDER BY path"))
+    assert a == b and a != c and c and d is None
 
 
 def test_each_table_has_what_the_other_commands_print(exported, run, folder):

@@ -6,6 +6,7 @@ import json
 import os
 import pprint
 import re
+import sqlite3
 import tempfile
 import unittest
 from collections import Counter
@@ -21,7 +22,7 @@ from exifnorm_pictures.report import contents
 from exifnorm_pictures.catalogue import store
 from exifnorm_pictures.catalogue.store import VERSION, Catalogue, NoCatalogue
 from exifnorm_pictures.extract.formats.found import EXIF, IPTC, NAMES, XMP, NotRead
-from exifnorm_pictures.catalogue.records import Block, PictureRecord, Stamp
+from exifnorm_pictures.catalogue.records import Block, Digests, PictureRecord, Stamp
 from exifnorm_pictures.fields.listing import Field, packed
 
 BASE = {EXIF: "e", IPTC: "i", XMP: "x"}
@@ -511,6 +512,23 @@ class File(WithPictures):
         with Catalogue(self.path("c"), make=True) as made:
             texts = [text for (text,) in made.base.execute("SELECT sql FROM sqlite_master WHERE sql IS NOT NULL ORDER BY name")]
         self.golden("tables.sql", f"-- version {VERSION}\n" + "".join(f"{it};\n" for it in texts))
+
+    def test_each_column(self):
+        """A picture is written, and read again, with each value under its own name."""
+        compared = {it: it for it in Digests._fields}
+        marks = {"size": 1, "modified": 2, "changed": 3, "inode": 4, "device": 5}
+        about = {"path": b"/a/b", "root": b"/a", "type": "JPEG", "extractor": "own", "problem": "TooSlow", "detail": "why"}
+        more = {"file": "file", "coded_picture": "coded", "sidecars": "beside"}
+        record = PictureRecord(**about, **more, stamp=Stamp(**marks), digests=Digests(**compared))
+        with Catalogue(self.path("c"), make=True) as made:
+            run = made.begin_run("2000-01-01T00:00:00Z")
+            made.put(run, [record])
+            made.base.row_factory = sqlite3.Row
+            row = dict(made.base.execute("SELECT * FROM pictures").fetchone())
+            made.base.row_factory = None
+            (picture,) = made.pictures()
+        self.assertEqual(row, {"id": 1, **about, **marks, **compared, **more, "run": run})
+        self.assertEqual(picture._asdict(), {name: value for name, value in row.items() if name != "run"})
 
     def settings(self, made):
         names = ("application_id", "user_version", "foreign_keys", "journal_mode", "synchronous", "cache_size", "busy_timeout")
