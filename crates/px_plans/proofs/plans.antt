@@ -6,3 +6,5 @@ pub mod Pieces
 pub mod Lines
 pub mod Verdicts
 pub mod Holding
+pub mod Asked
+pub mod Sizes

@@ -1,2 +1,3 @@
 pub mod RoundTrip
+pub mod Asking
 pub mod calls

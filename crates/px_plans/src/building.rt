@@ -1,16 +1,16 @@
 // Writes the pieces of a block at their offsets, from the last to the first: the definition takes each byte
 // from the first piece that has it.
-ghost use Rattle.std.specs.Prelude.{◌≡◌, ◌≤◌, ◌<◌, ◌+◌, ◌^◌, [], ◌∷◌, length, replicate, Some, option_map, flat_map, IfSome, OnOk, IfOk};
-ghost use Rattle.px_bytes.specs.Devices.{CanFail, Counts};
-ghost use Rattle.px_bytes.specs.Lacking.{Lacks};
+ghost use Rattle.std.specs.Prelude.{◌≡◌, ◌≤◌, ◌<◌, ◌+◌, ◌*◌, ◌^◌, [], ◌∷◌, length, replicate, Some, option_map, flat_map, IfSome, OnOk};
+ghost use Rattle.std.specs.Prelude.{IfOk};
+ghost use Rattle.px_bytes.specs.Devices.{CanFail, Sends, over};
+ghost use Rattle.px_bytes.specs.Lacking.{Lacks, AsksAtMost};
 ghost use Rattle.px_bytes.specs.Parts.{limit};
 ghost use Rattle.px_bytes.specs.Waiting.{AddsTo};
-ghost use Rattle.std.specs.Io.KnownBytes.{Appends};
 ghost use Rattle.px_meaning.specs.Directory.{dirs};
 ghost use Rattle.px_meaning.specs.Fits.{Fits, items};
 ghost use Rattle.px_meaning.specs.calls.Seen.{thumb_of};
-ghost use Rattle.px_plans.specs.calls.Building.{AreInside, PutsOver, at_places, contents_in, value_pieces, dir_pieces, piece_bytes};
-ghost use Rattle.px_plans.specs.calls.Building.{IsPiece};
+ghost use Rattle.px_plans.specs.calls.Building.{AreInside, PutsOver, at_places, contents_in, value_pieces, dir_pieces};
+ghost use Rattle.px_plans.specs.calls.Building.{IsPiece, piece_bytes, pieces_size};
 ghost use Rattle.px_layout.specs.calls.Items.{item_of, entry_of, IsCounted};
 ghost use Rattle.px_plans.specs.calls.Layouts.{said_plan, said_meaning, header_in, table_in};
 ghost use Rattle.px_layout.specs.Laid.{all_strip_contents, jpeg_contents, strip_contents, thumb_contents, header, laid};
@@ -63,8 +63,7 @@ fn put_piece<W: Sink>(
 fn write_piece<W: Sink>(writer: &mut W, layout: &Layout, piece: Piece) -> Result<(), Failed>
     requires few { CanFail (W.calls writer.old) }
     requires piece { IsPiece piece }
-    ensures bytes { OnOk result (Appends (W.bytes_taken writer.old) (W.bytes_taken writer.new) (piece_bytes layout.now piece.entry)) }
-    ensures count { Counts result (W.calls writer.old) (W.calls writer.new) }
+    ensures { Sends result (over W.calls W.bytes_taken writer.old writer.new) (piece_bytes layout.now piece.entry) }
 {
     let mut space = [0; CAPACITY];
     let mut pending = Pending::new(&mut space);
@@ -77,6 +76,8 @@ fn bytes_of(memory: &mut Memory, layout: &Layout, piece: Piece) -> Result<Vec<u8
     requires { IsPiece piece }
     ensures bytes { IfOk result (λ v. v.items ≡ piece_bytes layout.now piece.entry) }
     ensures memory { Lacks result memory.old memory.new }
+    ensures asked { AsksAtMost (6 * length (piece_bytes layout.now piece.entry) + 131072) memory.old memory.new }
+    ensures paid { OnOk result (AsksAtMost (6 * length (piece_bytes layout.now piece.entry)) memory.old memory.new) }
 {
     let mut writer = Growing::new(memory);
     // A write fails if an allocation failed, which `finish_in` reports.
@@ -156,6 +157,10 @@ fn lay_value(
     requires counted { IsCounted (item_of entry.now.item) }
     requires inside { AreInside (length block.old) (value_pieces layout.now dir (entry_of entry.now ∷ [])) }
     ensures memory { Lacks result memory.old memory.new }
+    ensures asked { AsksAtMost (6 * pieces_size (value_pieces layout.now dir (entry_of entry.now ∷ [])) + 131072)
+        memory.old memory.new }
+    ensures paid { OnOk result (AsksAtMost (6 * pieces_size (value_pieces layout.now dir (entry_of entry.now ∷ [])))
+        memory.old memory.new) }
     ensures len { length block.new ≡ length block.old }
     ensures bytes { OnOk result (PutsOver block.old block.new (value_pieces layout.now dir (entry_of entry.now ∷ []))) }
 {
@@ -179,6 +184,10 @@ fn lay_values(
 ) -> Result<(), Refused>
     requires { AreInside (length block.old) (value_pieces layout.now dir entries.now) }
     ensures memory { Lacks result memory.old memory.new }
+    ensures asked { AsksAtMost (6 * pieces_size (value_pieces layout.now dir entries.now) + 131072)
+        memory.old memory.new }
+    ensures paid { OnOk result (AsksAtMost (6 * pieces_size (value_pieces layout.now dir entries.now))
+        memory.old memory.new) }
     ensures len { length block.new ≡ length block.old }
     ensures bytes { OnOk result (PutsOver block.old block.new (value_pieces layout.now dir entries.now)) }
 {
@@ -199,6 +208,8 @@ fn lay_table(
     requires few { length entries.now < 2 ^ 16 }
     requires inside { place (said_plan layout.now) (Chunk.Table dir) + length (table_in layout.now dir entries.now) ≤ length block.old }
     ensures memory { Lacks result memory.old memory.new }
+    ensures asked { AsksAtMost (6 * length (table_in layout.now dir entries.now) + 131072) memory.old memory.new }
+    ensures paid { OnOk result (AsksAtMost (6 * length (table_in layout.now dir entries.now)) memory.old memory.new) }
     ensures len { length block.new ≡ length block.old }
     ensures bytes { OnOk result (PutsOver block.old block.new
         ((place (said_plan layout.now) (Chunk.Table dir), table_in layout.now dir entries.now) ∷ [])) }
@@ -220,6 +231,12 @@ fn lay_entries(
     requires values { AreInside (length block.old) (value_pieces layout.now dir entries.now) }
     requires table { place (said_plan layout.now) (Chunk.Table dir) + length (table_in layout.now dir entries.now) ≤ length block.old }
     ensures memory { Lacks result memory.old memory.new }
+    ensures asked { AsksAtMost
+        (6 * (length (table_in layout.now dir entries.now) + pieces_size (value_pieces layout.now dir entries.now)) + 131072)
+        memory.old memory.new }
+    ensures paid { OnOk result (AsksAtMost
+        (6 * (length (table_in layout.now dir entries.now) + pieces_size (value_pieces layout.now dir entries.now)))
+        memory.old memory.new) }
     ensures len { length block.new ≡ length block.old }
     ensures bytes { OnOk result (PutsOver block.old block.new
         ((place (said_plan layout.now) (Chunk.Table dir), table_in layout.now dir entries.now) ∷ value_pieces layout.now dir entries.now)) }
@@ -234,6 +251,10 @@ fn lay_dir(memory: &mut Memory, block: &mut [u8], layout: &Layout, dir: Dir) -> 
     requires legal { Legal (said_meaning layout.now) (said_plan layout.now) }
     requires len { length block.old ≡ (said_plan layout.now).length }
     ensures memory { Lacks result memory.old memory.new }
+    ensures asked { AsksAtMost (6 * pieces_size (dir_pieces layout.now (said_meaning layout.now) dir) + 131072)
+        memory.old memory.new }
+    ensures paid { OnOk result (AsksAtMost (6 * pieces_size (dir_pieces layout.now (said_meaning layout.now) dir))
+        memory.old memory.new) }
     ensures len { length block.new ≡ length block.old }
     ensures bytes { OnOk result (PutsOver block.old block.new (dir_pieces layout.now (said_meaning layout.now) dir)) }
 {
@@ -249,6 +270,10 @@ fn lay_dirs(memory: &mut Memory, block: &mut [u8], layout: &Layout) -> Result<()
     requires legal { Legal (said_meaning layout.now) (said_plan layout.now) }
     requires len { length block.old ≡ (said_plan layout.now).length }
     ensures memory { Lacks result memory.old memory.new }
+    ensures asked { AsksAtMost (6 * pieces_size (at_places layout.now (flat_map (contents_in layout.now) dirs)) + 131072)
+        memory.old memory.new }
+    ensures paid { OnOk result (AsksAtMost (6 * pieces_size (at_places layout.now (flat_map (contents_in layout.now) dirs)))
+        memory.old memory.new) }
     ensures len { length block.new ≡ length block.old }
     ensures bytes { OnOk result (PutsOver block.old block.new (at_places layout.now (flat_map (contents_in layout.now) dirs))) }
 {
@@ -262,6 +287,8 @@ fn lay_dirs(memory: &mut Memory, block: &mut [u8], layout: &Layout) -> Result<()
 fn lay_header(memory: &mut Memory, block: &mut [u8], layout: &Layout) -> Result<(), Refused>
     requires { 8 ≤ length block.old }
     ensures memory { Lacks result memory.old memory.new }
+    ensures asked { AsksAtMost (6 * length (header_in layout.now) + 131072) memory.old memory.new }
+    ensures paid { OnOk result (AsksAtMost (6 * length (header_in layout.now)) memory.old memory.new) }
     ensures len { length block.new ≡ length block.old }
     ensures bytes { OnOk result (PutsOver block.old block.new ((0, header_in layout.now) ∷ [])) }
 {
@@ -277,6 +304,7 @@ pub(crate) fn lay_all(memory: &mut Memory, block: &mut [u8], layout: &Layout) ->
     requires len { length block.old ≡ (said_plan layout.now).length }
     requires bare { block.old ≡ replicate (said_plan layout.now).length layout.now.filler }
     ensures memory { Lacks result memory.old memory.new }
+    ensures asked { AsksAtMost (6 * (said_plan layout.now).length + 131072) memory.old memory.new }
     ensures len { length block.new ≡ length block.old }
     ensures bytes { OnOk result (block.new ≡ laid (said_meaning layout.now) (said_plan layout.now) layout.now.order layout.now.filler) }
 {

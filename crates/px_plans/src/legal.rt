@@ -1,12 +1,15 @@
 // Whether a plan is legal.
-ghost use Rattle.std.specs.Prelude.{◌≡◌, ◌≤◌, true, List, ◌∷◌, [], IfOk, OnErr, IsTrue, ◌↔◌};
-ghost use Rattle.px_bytes.specs.Lacking.{Lacks};
+ghost use Rattle.std.specs.Prelude.{◌≡◌, ◌≤◌, true, List, ◌∷◌, [], length, IfOk, OnErr, IsTrue, ◌↔◌};
+ghost use Rattle.px_bytes.specs.Held.{mark_bytes};
+ghost use Rattle.px_bytes.specs.Lacking.{Lacks, AsksAtMost};
 ghost use Rattle.px_bytes.specs.Parts.{limit};
 ghost use Rattle.px_bytes.specs.Range.{Range, range, Agrees};
 ghost use Rattle.px_meaning.specs.Fits.{Fits};
 ghost use Rattle.px_meaning.specs.calls.Seen.{meaning_of};
 ghost use Rattle.px_plans.specs.calls.Planned.{plan_of};
+ghost use Rattle.px_layout.specs.Chunks.{chunks};
 ghost use Rattle.px_layout.specs.Plans.{place, Legal};
+ghost use Rattle.px_plans.specs.Asking.{legal_request};
 ghost use Rattle.px_plans.specs.calls.Judging.{stands, all_stand};
 
 use crate::plan::Plan;
@@ -30,6 +33,8 @@ fn claim(
     ensures free { (taken : List Range) → Agrees taken held.old.ranges →
         IfOk result (λ free. (free ≡ stands (plan_of plan.now) taken (chunk, size))
         × (free ≡ true → Agrees (range (place (plan_of plan.now) chunk) size ∷ taken) held.new.ranges)) }
+    ensures room { held.old.room ≤ held.new.room }
+    ensures fits { (plan_of plan.now).length ≤ held.old.room → memory.new.asked ≡ memory.old.asked }
 {
     let Some(offset) = plan.offset(chunk) else {
         return Ok(false);
@@ -55,6 +60,7 @@ fn claim_all(
     ensures memory { Lacks result memory.old memory.new }
     ensures free { (taken : List Range) → Agrees taken held.old.ranges →
         IfOk result (λ free. free ≡ all_stand (plan_of plan.now) taken chunks.now) }
+    ensures fits { (plan_of plan.now).length ≤ held.old.room → memory.new.asked ≡ memory.old.asked }
 {
     for i in 0..chunks.len() {
         let (chunk, size) = chunks[i];
@@ -71,8 +77,9 @@ fn are_apart(memory: &mut Memory, plan: &Plan, chunks: &[(Chunk, u64)]) -> Resul
     requires { (plan_of plan.now).length ≤ limit }
     ensures memory { Lacks result memory.old memory.new }
     ensures free { IfOk result (λ free. free ≡ all_stand (plan_of plan.now) (range 0 8 ∷ []) chunks.now) }
+    ensures asked { 8 ≤ (plan_of plan.now).length → AsksAtMost (mark_bytes (plan_of plan.now).length) memory.old memory.new }
 {
-    let mut held = Ranges::new_in(memory);
+    let mut held = Ranges::with_room_in(memory, plan.len())?;
     held.add_in(memory, 0, 8)?;
     claim_all(memory, plan, &mut held, chunks)
 }
@@ -91,14 +98,16 @@ pub fn is_legal(alloc: Global, m: &Meaning, plan: &Plan) -> Result<bool, AllocEr
 /// its length is at least 8 and at most `LIMIT`, each chunk is inside it, and no two chunks share a byte, nor
 /// a chunk and the header. TIFF 6.0 section 7, "No Duplicate Pointers".
 ///
-/// Allocates a list of the chunks and their ranges, if the length is legal. The cost grows as n log n with
-/// the number of chunks, and by a word for each 64 of their bytes. `Err`: an allocation failed.
+/// Allocates a list of the chunks, and a bit for each byte of the block, if the length is legal: it asks for at
+/// most 64 bytes for each chunk, and for these bits. The cost grows as n log n with the number of chunks, and by a
+/// word for each 64 of their bytes. `Err`: an allocation failed.
 pub fn is_legal_in(memory: &mut Memory, m: &Meaning, plan: &Plan) -> Result<bool, Refused>
     requires { Fits (meaning_of m.now) }
     ensures legal { IfOk result (λ legal. IsTrue legal ↔ Legal (meaning_of m.now) (plan_of plan.now)) }
     ensures least { OnErr result (8 ≤ (plan_of plan.now).length) }
     ensures most { OnErr result ((plan_of plan.now).length ≤ limit) }
     ensures memory { Lacks result memory.old memory.new }
+    ensures asked { AsksAtMost (legal_request (length (chunks (meaning_of m.now))) (plan_of plan.now).length) memory.old memory.new }
 {
     if plan.len() < 8 {
         return Ok(false);

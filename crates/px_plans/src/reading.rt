@@ -1,11 +1,13 @@
 // Reads a block that a plan laid out.
-ghost use Rattle.std.specs.Prelude.{◌≡◌, ℕ, IfOk, IfErr};
+ghost use Rattle.std.specs.Prelude.{◌≡◌, ℕ, length, IfOk, IfErr};
 ghost use Rattle.px_bytes.specs.declared.Order.{Order};
 ghost use Rattle.px_bytes.specs.Checks.{LacksBlock};
+ghost use Rattle.px_bytes.specs.Lacking.{AsksAtMost};
 ghost use Rattle.px_layout.specs.Laid.{laid};
 ghost use Rattle.px_layout.specs.Plans.{Plan, Legal};
 ghost use Rattle.px_plans.specs.RoundTrip.{ReadsBack};
 ghost use Rattle.px_meaning.specs.Fits.{Fits};
+ghost use Rattle.px_tree.specs.Asking.{exif_request};
 ghost use Rattle.px_tree.specs.Refused.{IsRefused};
 ghost use Rattle.px_meaning.specs.Says.{SaysExif};
 ghost use Rattle.px_meaning.specs.Tree.{Meaning as Tree};
@@ -23,6 +25,7 @@ pub fn read_back_in<'a>(memory: &mut Memory, block: Block<'a>) -> Result<Meaning
     ensures says { IfOk result (λ m. SaysExif block.entry (meaning_of m)) }
     ensures refused { IfErr result (IsRefused block.entry memory.new.refusals) }
     ensures memory { LacksBlock result memory.old memory.new }
+    ensures asked { AsksAtMost (exif_request (length block.entry)) memory.old memory.new }
 {
     read_block_in(memory, block)
 }

@@ -1,7 +1,8 @@
 // The chunks of a meaning, each with its size in bytes.
-ghost use Rattle.std.specs.Prelude.{◌≡◌, ◌++◌, ◌<◌, ◌≤◌, ◌^◌, IfOk, OnOk, IfSome, length, filter_map, option_map};
+ghost use Rattle.std.specs.Prelude.{◌≡◌, [], ◌∷◌, ◌++◌, ◌+◌, ◌*◌, ◌<◌, ◌≤◌, ◌^◌, IfOk, OnOk, IfSome, length, filter_map};
+ghost use Rattle.std.specs.Prelude.{option_map};
 ghost use Rattle.std.specs.Option.{option_to_list};
-ghost use Rattle.px_bytes.specs.Lacking.{Lacks};
+ghost use Rattle.px_bytes.specs.Lacking.{Lacks, AsksAtMost};
 ghost use Rattle.px_bytes.specs.Parts.{limit};
 ghost use Rattle.px_meaning.specs.Entry.{table_size};
 ghost use Rattle.px_meaning.specs.Fits.{Fits, items};
@@ -9,10 +10,26 @@ ghost use Rattle.px_meaning.specs.calls.Seen.{thumb_of, meaning_of};
 ghost use Rattle.px_layout.specs.calls.Items.{item_of, entry_of, IsCounted};
 ghost use Rattle.px_layout.specs.Chunks.{placed_chunk, dir_chunks, chunks_of_dir, jpeg_chunks, strip_chunks, all_strip_chunks};
 ghost use Rattle.px_layout.specs.Chunks.{thumb_chunks, chunks};
+ghost use Rattle.px_plans.specs.Asking.{chunks_request};
+ghost use Rattle.px_plans.specs.calls.Spent.{spent};
 
 use px_bytes::{Memory, Refused};
 use px_layout::{Chunk, Entries, Entry, entries_in, table_len};
 use px_tree::{Dir, Meaning, Strips, Thumb, needs_place};
+
+// Appends a chunk.
+fn push_chunk(
+    memory: &mut Memory,
+    out: &mut Vec<(Chunk, u64)>,
+    chunk: (Chunk, u64),
+) -> Result<(), Refused>
+    ensures chunks { OnOk result (out.new.items ≡ out.old.items ++ chunk ∷ []) }
+    ensures memory { Lacks result memory.old memory.new }
+    ensures asked { memory.new.asked ≤ spent 16 memory.old out.old + 64 }
+    ensures paid { OnOk result (spent 16 memory.new out.new ≤ spent 16 memory.old out.old + 64) }
+{
+    memory.push(out, chunk)
+}
 
 // Appends the chunk of an entry's value if it has one.
 #[tactic(auto, unfolding(px_layout::specs::Chunks::placed_chunk))]
@@ -25,14 +42,17 @@ fn push_value(
     requires { IsCounted (item_of entry.now.item) }
     ensures chunks { OnOk result (out.new.items ≡ out.old.items ++ option_to_list (placed_chunk dir (entry_of entry.now))) }
     ensures memory { Lacks result memory.old memory.new }
+    ensures asked { memory.new.asked ≤ spent 16 memory.old out.old
+        + chunks_request (length (option_to_list (placed_chunk dir (entry_of entry.now)))) }
+    ensures paid { OnOk result (spent 16 memory.new out.new ≤ spent 16 memory.old out.old
+        + chunks_request (length (option_to_list (placed_chunk dir (entry_of entry.now))))) }
 {
     let Entry { tag, item } = *entry;
     let size = item.size();
     if !needs_place(size) {
         return Ok(());
     }
-    memory.push(out, (Chunk::Placed(dir, tag), size))?;
-    Ok(())
+    push_chunk(memory, out, (Chunk::Placed(dir, tag), size))
 }
 
 fn push_values(
@@ -43,6 +63,10 @@ fn push_values(
 ) -> Result<(), Refused>
     ensures chunks { OnOk result (out.new.items ≡ out.old.items ++ filter_map (placed_chunk dir) entries.now) }
     ensures memory { Lacks result memory.old memory.new }
+    ensures asked { memory.new.asked ≤ spent 16 memory.old out.old
+        + chunks_request (length (filter_map (placed_chunk dir) entries.now)) }
+    ensures paid { OnOk result (spent 16 memory.new out.new ≤ spent 16 memory.old out.old
+        + chunks_request (length (filter_map (placed_chunk dir) entries.now))) }
 {
     for i in 0..entries.len() {
         let entry = entries.at(i);
@@ -61,8 +85,12 @@ fn push_entries(
     requires { length entries.now < 2 ^ 16 }
     ensures chunks { OnOk result (out.new.items ≡ out.old.items ++ dir_chunks dir entries.now) }
     ensures memory { Lacks result memory.old memory.new }
+    ensures asked { memory.new.asked ≤ spent 16 memory.old out.old
+        + chunks_request (length (dir_chunks dir entries.now)) }
+    ensures paid { OnOk result (spent 16 memory.new out.new ≤ spent 16 memory.old out.old
+        + chunks_request (length (dir_chunks dir entries.now))) }
 {
-    memory.push(out, (Chunk::Table(dir), table_len(entries.len())))?;
+    push_chunk(memory, out, (Chunk::Table(dir), table_len(entries.len())))?;
     push_values(memory, out, dir, entries)
 }
 
@@ -75,6 +103,10 @@ fn push_dir(
     requires { Fits (meaning_of m.now) }
     ensures chunks { OnOk result (out.new.items ≡ out.old.items ++ chunks_of_dir dir (items (meaning_of m.now) dir)) }
     ensures memory { Lacks result memory.old memory.new }
+    ensures asked { memory.new.asked ≤ spent 16 memory.old out.old
+        + chunks_request (length (chunks_of_dir dir (items (meaning_of m.now) dir))) }
+    ensures paid { OnOk result (spent 16 memory.new out.new ≤ spent 16 memory.old out.old
+        + chunks_request (length (chunks_of_dir dir (items (meaning_of m.now) dir)))) }
 {
     match entries_in(m, dir) {
         Some(entries) => push_entries(memory, out, dir, &entries),
@@ -89,12 +121,15 @@ fn push_jpeg(
 ) -> Result<(), Refused>
     ensures chunks { OnOk result (out.new.items ≡ out.old.items ++ jpeg_chunks (option_map (λ x. x.now) jpeg.entry)) }
     ensures memory { Lacks result memory.old memory.new }
+    ensures asked { memory.new.asked ≤ spent 16 memory.old out.old
+        + chunks_request (length (jpeg_chunks (option_map (λ x. x.now) jpeg.entry))) }
+    ensures paid { OnOk result (spent 16 memory.new out.new ≤ spent 16 memory.old out.old
+        + chunks_request (length (jpeg_chunks (option_map (λ x. x.now) jpeg.entry)))) }
 {
     let Some(jpeg) = jpeg else {
         return Ok(());
     };
-    memory.push(out, (Chunk::Jpeg, jpeg.len() as u64))?;
-    Ok(())
+    push_chunk(memory, out, (Chunk::Jpeg, jpeg.len() as u64))
 }
 
 #[tactic(auto, using(px_layout::specs::lemmas::WalkLaws::strips_done))]
@@ -106,9 +141,17 @@ fn push_strips(
     requires { length strips.now ≤ limit }
     ensures chunks { OnOk result (out.new.items ≡ out.old.items ++ strip_chunks 0 strips.now) }
     ensures memory { Lacks result memory.old memory.new }
+    ensures asked { memory.new.asked ≤ spent 16 memory.old out.old
+        + chunks_request (length (strip_chunks 0 strips.now)) }
+    ensures paid { OnOk result (spent 16 memory.new out.new ≤ spent 16 memory.old out.old
+        + chunks_request (length (strip_chunks 0 strips.now))) }
 {
     for i in 0..strips.len() {
-        memory.push(out, (Chunk::Strip(i as u32), strips.at(i).len() as u64))?;
+        push_chunk(
+            memory,
+            out,
+            (Chunk::Strip(i as u32), strips.at(i).len() as u64),
+        )?;
     }
     Ok(())
 }
@@ -121,6 +164,10 @@ fn push_optional_strips(
     requires { IfSome strips.now (λ s. length s ≤ limit) }
     ensures chunks { OnOk result (out.new.items ≡ out.old.items ++ all_strip_chunks strips.now) }
     ensures memory { Lacks result memory.old memory.new }
+    ensures asked { memory.new.asked ≤ spent 16 memory.old out.old
+        + chunks_request (length (all_strip_chunks strips.now)) }
+    ensures paid { OnOk result (spent 16 memory.new out.new ≤ spent 16 memory.old out.old
+        + chunks_request (length (all_strip_chunks strips.now))) }
 {
     match strips {
         Some(strips) => push_strips(memory, out, strips),
@@ -137,6 +184,10 @@ fn push_thumb(
     requires { IfSome (option_map thumb_of thumb.now) (λ t. IfSome t.strips (λ s. length s ≤ limit)) }
     ensures chunks { OnOk result (out.new.items ≡ out.old.items ++ thumb_chunks (option_map thumb_of thumb.now)) }
     ensures memory { Lacks result memory.old memory.new }
+    ensures asked { memory.new.asked ≤ spent 16 memory.old out.old
+        + chunks_request (length (thumb_chunks (option_map thumb_of thumb.now))) }
+    ensures paid { OnOk result (spent 16 memory.new out.new ≤ spent 16 memory.old out.old
+        + chunks_request (length (thumb_chunks (option_map thumb_of thumb.now)))) }
 {
     let Some(thumb) = thumb else {
         return Ok(());
@@ -150,6 +201,10 @@ fn push_all(memory: &mut Memory, out: &mut Vec<(Chunk, u64)>, m: &Meaning) -> Re
     requires { Fits (meaning_of m.now) }
     ensures chunks { OnOk result (out.new.items ≡ out.old.items ++ chunks (meaning_of m.now)) }
     ensures memory { Lacks result memory.old memory.new }
+    ensures asked { memory.new.asked ≤ spent 16 memory.old out.old
+        + chunks_request (length (chunks (meaning_of m.now))) }
+    ensures paid { OnOk result (spent 16 memory.new out.new ≤ spent 16 memory.old out.old
+        + chunks_request (length (chunks (meaning_of m.now)))) }
 {
     push_dir(memory, out, m, Dir::Main)?;
     push_dir(memory, out, m, Dir::Exif)?;
@@ -164,6 +219,7 @@ pub(crate) fn chunk_sizes(memory: &mut Memory, m: &Meaning) -> Result<Vec<(Chunk
     requires { Fits (meaning_of m.now) }
     ensures chunks { IfOk result (λ v. v.items ≡ chunks (meaning_of m.now)) }
     ensures memory { Lacks result memory.old memory.new }
+    ensures asked { AsksAtMost (chunks_request (length (chunks (meaning_of m.now)))) memory.old memory.new }
 {
     let mut out = memory.list();
     push_all(memory, &mut out, m)?;

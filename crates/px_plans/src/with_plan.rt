@@ -1,11 +1,12 @@
 // A block by the caller's plan.
 ghost use Rattle.std.specs.Prelude.{◌≡◌, IfOk, replicate};
-ghost use Rattle.px_bytes.specs.Lacking.{Lacks, MayAsk};
+ghost use Rattle.px_bytes.specs.Lacking.{Lacks, MayAsk, AsksAtMost};
 ghost use Rattle.px_meaning.specs.Fits.{Fits};
 ghost use Rattle.px_meaning.specs.calls.Seen.{meaning_of};
 ghost use Rattle.px_layout.specs.Laid.{laid};
 ghost use Rattle.px_plans.specs.calls.Planned.{plan_of};
 ghost use Rattle.px_layout.specs.Plans.{Legal};
+ghost use Rattle.px_plans.specs.Asking.{write_request};
 
 use crate::building::lay_all;
 use crate::layout::Layout;
@@ -33,7 +34,8 @@ pub fn write_with(
 /// the byte `filler` in all gaps. It has the plan's length and the given meaning. TIFF 6.0 section 2.
 ///
 /// The caller makes sure that the meaning can be written (`fits`) and that the plan is legal for it
-/// (`is_legal`). Allocates the block, and one chunk at a time. `Err`: an allocation failed.
+/// (`is_legal`). Allocates the block, and one chunk at a time. It asks for at most seven bytes for each byte of the
+/// block, and 131,072. `Err`: an allocation failed.
 pub fn write_with_in(
     memory: &mut Memory,
     m: &Meaning,
@@ -45,6 +47,7 @@ pub fn write_with_in(
     requires legal { Legal (meaning_of m.now) (plan_of plan.now) }
     ensures block { IfOk result (λ block. block.items ≡ laid (meaning_of m.now) (plan_of plan.now) order filler) }
     ensures memory { Lacks result memory.old memory.new }
+    ensures asked { AsksAtMost (write_request (plan_of plan.now).length) memory.old memory.new }
 {
     let layout = Layout {
         m,
@@ -61,6 +64,7 @@ fn filled(memory: &mut Memory, n: usize, filler: u8) -> Result<Vec<u8>, Refused>
     requires { MayAsk n }
     ensures bytes { IfOk result (λ block. block.items ≡ replicate n filler) }
     ensures memory { Lacks result memory.old memory.new }
+    ensures asked { AsksAtMost n memory.old memory.new }
 {
     let mut block = memory.list();
     memory.resize(&mut block, n, filler)?;

@@ -66,7 +66,7 @@ module _ (l : Layout) where
     cut None ys = refl
     cut (Some y) ys = refl
 
-    values_cons : (x : ℕ × Item) (xs : List (ℕ × Item)) → value_pieces l d (x ∷ xs) ≡ value_pieces l d (x ∷ []) ++ value_pieces l d xs
+    pub values_cons : (x : ℕ × Item) (xs : List (ℕ × Item)) → value_pieces l d (x ∷ xs) ≡ value_pieces l d (x ∷ []) ++ value_pieces l d xs
     values_cons x xs = cut (placed_content P o f d x) (filter_map (placed_content P o f d) xs)
 
     pub values_more : (a b c : List ℕ) (xs : List (ℕ × Item)) (j k : ℕ) (x : ℕ × Item) → k ≡ j + 1 → slice_get xs j ≡ Some x
@@ -136,12 +136,12 @@ module _ (l : Layout) where
       all_inside = each_in_map (λ r. r.start + r.size ≤ P.length) piece_range (laid_pieces P o f m)
           (subst (AllByRecursion (λ r. r.start + r.size ≤ P.length)) (sym (ranges_are P o f m fits)) legal.inside)
 
-      split : laid_pieces P o f m ≡ (0, header P o f) ∷ (at_places l (dir_contents dirs) ++ at_places l (thumb_contents m.thumb))
+      pub pieces_split : laid_pieces P o f m ≡ (0, header P o f) ∷ (at_places l (dir_contents dirs) ++ at_places l (thumb_contents m.thumb))
       unfolding laid_pieces contents
-      split = ap (λ t. (0, header P o f) ∷ t) (map-append (λ c. (place P c.0, c.1)) (dir_contents dirs) (thumb_contents m.thumb))
+      pieces_split = ap (λ t. (0, header P o f) ∷ t) (map-append (λ c. (place P c.0, c.1)) (dir_contents dirs) (thumb_contents m.thumb))
 
       parts_inside : AreInside P.length ((0, header P o f) ∷ (at_places l (dir_contents dirs) ++ at_places l (thumb_contents m.thumb)))
-      parts_inside = subst (AreInside P.length) split all_inside
+      parts_inside = subst (AreInside P.length) pieces_split all_inside
 
       pub thumb_inside : AreInside P.length (at_places l (thumb_contents m.thumb))
       thumb_inside =
@@ -228,7 +228,7 @@ module _ (l : Layout) where
           let start : a ≡ made (length a) f [] = ia ∙ none_made P.length f ∙ ap (λ k. made k f []) (sym n) in
           whole f [] start
           ∙ ap₂ (λ k ps. made k f ps) n (append-nil ((0, header P o f) ∷ (at_places l (dir_contents dirs) ++ at_places l
-          (thumb_contents m.thumb))) ∙ sym split)
+          (thumb_contents m.thumb))) ∙ sym pieces_split)
 
 pub parts_over : (l : Layout) (a b c : List ℕ) (t : Thumbnail) → length b ≡ length a
     → PutsOver a b (at_places l (all_strip_contents t.strips)) → PutsOver b c (at_places l (jpeg_contents t.jpeg))

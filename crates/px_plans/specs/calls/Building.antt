@@ -1,5 +1,5 @@
 -- A block that is built piece by piece: a new piece comes first in the list, so it overwrites the others.
-use Rattle.std.specs.Prelude.{◌≡◌, ℕ, ◌+◌, ◌≤◌, ◌<◌, ◌^◌, ⊤, List, ◌++◌, length, map, filter_map}
+use Rattle.std.specs.Prelude.{◌≡◌, ℕ, ◌+◌, ◌≤◌, ◌<◌, ◌^◌, ⊤, List, [], ◌∷◌, ◌++◌, length, map, filter_map}
 use Rattle.std.specs.List.{AllByRecursion, range_with_len}
 use Rattle.px_meaning.specs.declared.Dir.{Dir}
 use Rattle.px_meaning.specs.Tree.{Meaning}
@@ -24,6 +24,11 @@ AreInside n xs = AllByRecursion (λ y. y.0 + length y.1 ≤ n) xs
 -- the pieces were written over those of the block
 abbrev pub PutsOver : List ℕ → List ℕ → List (ℕ × List ℕ) → Type 0
 PutsOver old new xs = (filler : ℕ) (ys : List (ℕ × List ℕ)) → old ≡ made (length old) filler ys → new ≡ made (length old) filler (xs ++ ys)
+
+-- the number of bytes of pieces
+abbrev pub pieces_size : List (ℕ × List ℕ) → ℕ
+pieces_size [] = 0
+pieces_size (x ∷ xs) = length x.1 + pieces_size xs
 
 -- the bytes of a piece
 abbrev pub piece_bytes : Layout → Piece → List ℕ

@@ -1,6 +1,8 @@
-use Rattle.std.proofs.Common.{sym, ◌∙◌, arith, ltb-true, ltb-false}
+use Rattle.std.proofs.Common.{◌<◌, sym, ◌∙◌, arith, ltb-true, ltb-false}
+use Rattle.px_meaning.specs.Fits.{item_size}
 use Rattle.px_layout.specs.calls.Items.{entry_of}
 use Rattle.px_plans.proofs.plans.Pieces.{value_none, value_over, value_room}
+use Rattle.px_plans.proofs.plans.Sizes.{size_placed}
 use Rattle.px_plans.proofs.building.lay_value.Goals as goal
 
 pub returns-then-not-needs_place-clause-bytes : goal.returns-then-not-needs_place-clause-bytes
@@ -20,3 +22,24 @@ returns-clause-bytes c =
     (let s = c.size.ensures in let t = ltb-true 4 _ (sym c.needs_place.ensures ∙ c.if-not-needs_place.false) in omega arith)
     c.place_of-at.result c.deref.result.now c.place_of-at.ensures (c.deref.ensures.value
     ∙ c.in_ok-bytes.ensures.bytes) c.put_at.ensures.bytes
+
+pub returns-in_err-bytes-clause-asked : goal.returns-in_err-bytes-clause-asked
+returns-in_err-bytes-clause-asked c =
+    let s = c.size.ensures in
+    let t = ltb-true 4 _ (sym c.needs_place.ensures ∙ c.if-not-needs_place.false) in
+    let big : 4 < item_size (entry_of c.args.entry.now).1 = omega arith in
+    omega (arith, c.in_err-bytes.ensures.asked, size_placed c.args.layout.now c.args.dir (entry_of c.args.entry.now) big)
+
+pub returns-clause-asked : goal.returns-clause-asked
+returns-clause-asked c =
+    let s = c.size.ensures in
+    let t = ltb-true 4 _ (sym c.needs_place.ensures ∙ c.if-not-needs_place.false) in
+    let big : 4 < item_size (entry_of c.args.entry.now).1 = omega arith in
+    omega (arith, c.in_ok-bytes.ensures.paid, size_placed c.args.layout.now c.args.dir (entry_of c.args.entry.now) big)
+
+pub returns-clause-paid : goal.returns-clause-paid
+returns-clause-paid c =
+    let s = c.size.ensures in
+    let t = ltb-true 4 _ (sym c.needs_place.ensures ∙ c.if-not-needs_place.false) in
+    let big : 4 < item_size (entry_of c.args.entry.now).1 = omega arith in
+    omega (arith, c.in_ok-bytes.ensures.paid, size_placed c.args.layout.now c.args.dir (entry_of c.args.entry.now) big)
