@@ -164,7 +164,7 @@ enum {
     EXIFNORM_JPEG_NO_MARKER = 102,   /* a part doesn't begin with FF, or 0 follows its bytes FF */
     EXIFNORM_JPEG_LENGTH_FORM = 103, /* a segment's length is less than 2 */
     EXIFNORM_JPEG_HEAD_CUT = 104,    /* the bytes end before the head does */
-    EXIFNORM_JPEG_TOO_LONG = 105     /* the data of its kinds have more than 16 times EXIFNORM_LIMIT bytes; exifnorm_jpeg_same alone */
+    EXIFNORM_JPEG_TOO_LONG = 105     /* blocks in several pieces have more than 16 times EXIFNORM_LIMIT bytes; exifnorm_jpeg_same alone */
 };
 
 /* A part of a head: a marker, with the data of its segment if it has one. */

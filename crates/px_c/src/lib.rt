@@ -203,7 +203,7 @@ pub extern "C" fn exifnorm_jpeg_parts(
 /// Stores in `same` whether two pictures have the same Exif and IPTC: 1 if they have as many blocks of each kind, and
 /// these mean the same, pair by pair, in order; otherwise 0. Exif is that of APP1, IPTC that of Photoshop's resource
 /// 0x0404, of which one without a byte is no block. Each picture may be its first bytes, as far as its head goes.
-/// Allocates what `same_metadata_in` of px_pictures does: the bytes of pieces, and the meanings of two blocks at a time.
+/// Allocates what `same_metadata_in` of px_pictures does: the blocks in several pieces, and the meanings of two blocks at a time.
 ///
 /// `REFUSED`: `fault` is in the first picture; `SECOND_REFUSED`: in the second. It is the first fault: that of the first
 /// head, then of the second head, then of a block of the first picture, then of the second. `NO_MEMORY`: an allocation

@@ -6,15 +6,15 @@ ghost use Rattle.px_c.specs.Pictures.{IsSeenFault, block_kind};
 use crate::jpeg::head_cause;
 use px_pictures::{BlockKind, Fault};
 
-// The cause of a picture whose pieces of metadata have too many bytes.
+// The cause of a picture of which too many bytes would be joined.
 const TOO_LONG: u32 = 105;
 
 /// Why two pictures are not compared: the first fault of a head, or of a block.
 #[repr(C)]
 #[derive(Clone, Copy, Drop)]
 pub struct ExifnormPictureFault {
-    /// The number of a `Cause`, 1 to 19, for a block. For a head that of an `ExifnormJpegFault`, or 105 if the pieces of
-    /// its metadata have more than 16 times `LIMIT` bytes.
+    /// The number of a `Cause`, 1 to 19, for a block. For a head that of an `ExifnormJpegFault`, or 105 if the blocks that
+    /// have more than one piece have more than 16 times `LIMIT` bytes in all.
     pub cause: u32,
     /// The kind of the block: 1 for Exif, 2 for IPTC. 0 for a head.
     pub kind: u32,

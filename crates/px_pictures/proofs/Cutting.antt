@@ -1,81 +1,20 @@
--- Blocks that are cut from the joined bytes of the pieces.
-use Rattle.std.proofs.Common.{◌≡◌, ◌≤◌, ◌+◌, ℕ, true, false, inl, inr, Option, Some, None, List, [], ◌∷◌, ◌++◌, length, take, drop}
-use Rattle.std.proofs.Common.{refl, sym, ap, ◌∙◌, arith, length-append, length-drop, length-take, drop-drop, ◌-◌, ap₂, MatchOption}
+-- Blocks that are cut from a picture, and from the joined bytes of those that have more than one piece.
+use Rattle.std.proofs.Common.{◌≡◌, ◌≤◌, ◌+◌, ℕ, Bool, true, false, ◌&&◌, inl, inr, Option, Some, None, List, [], ◌∷◌, ◌++◌, length}
+use Rattle.std.proofs.Common.{take, drop, refl, sym, ap, ap₂, ◌∙◌, arith, length-append, length-drop, length-take, ◌-◌}
+use Rattle.std.proofs.Common.{append_assoc, append-nil, subst}
 use Rattle.std.specs.Prelude.{flat_map}
-use Rattle.std.specs.List.{AllByRecursion}
 use Rattle.std.proofs.lemmas.Bool.{cond-true, cond-false, cases_Bool}
-use Rattle.std.proofs.Math.Seq.{take-add, take-append_seam, drop-append_seam}
+use Rattle.std.proofs.Math.Seq.{take-append_seam, drop-append_seam}
 use Rattle.px_jpeg.specs.declared.Part.{Part}
 use Rattle.px_jpeg.specs.declared.Kind.{Kind}
 use Rattle.px_jpeg.specs.declared.Kind.TheVariants.{Exif, Photoshop, Xmp, ExtendedXmp}
 use Rattle.px_jpeg.specs.declared.Piece.{Piece}
-use Rattle.px_jpeg.specs.Pieces.{AllInside, range, kind_of, begins, mark_len, piece_of, piece_in, pieces}
-use Rattle.px_jpeg.specs.Blocks.{Block, piece_octets, joined, blocks}
-use Rattle.px_pictures.specs.Metadata.{sizes}
-use Rattle.px_pictures.specs.calls.Runs.{cut, run_size, run_rest, runs, ahead_size}
+use Rattle.px_jpeg.specs.Pieces.{AllInside, range, kind_of, begins, mark_len, piece_in, pieces}
+use Rattle.px_jpeg.specs.Blocks.{Block, piece_octets, joined}
+use Rattle.px_pictures.specs.Metadata.{sizes, next_begins, joined_pieces}
+use Rattle.px_pictures.specs.calls.Runs.{AreSized, CanCut, joined_octets, run_size, run_rest}
 
--- ---- cutting
-
-cut_begins : (x : List ℕ) (p : Piece) (ps : List Piece) → p.begins ≡ true
-    → cut x (p ∷ ps)
-    ≡ ([], record { kind = p.kind; octets = take p.size x ++ (cut (drop p.size x) ps).0 } ∷ (cut (drop p.size x) ps).1)
-unfolding cut
-cut_begins x p ps h = cond-true p.begins _ _ h
-
-cut_continues : (x : List ℕ) (p : Piece) (ps : List Piece) → p.begins ≡ false
-    → cut x (p ∷ ps) ≡ (take p.size x ++ (cut (drop p.size x) ps).0, (cut (drop p.size x) ps).1)
-unfolding cut
-cut_continues x p ps h = cond-false p.begins _ _ h
-
-pub runs_cut : (x : List ℕ) (p : Piece) (ps : List Piece) → p.begins ≡ true → (cut x (p ∷ ps)).1 ≡ runs x (Some p) ps
-runs_cut x p ps h = ap (λ (j : List ℕ × List Block). j.1) (cut_begins x p ps h)
-
-cut_nil : (x : List ℕ) → (cut x []).1 ≡ []
-unfolding cut
-cut_nil x = refl
-
-pub cut_front : (x : List ℕ) (ps : List Piece) → (cut x ps).0 ≡ take (run_size ps) x
-unfolding cut run_size
-cut_front x [] = refl
-cut_front x (p ∷ ps) = elim (cases_Bool p.begins) [
-  | inl t ↦
-      ap (λ (j : List ℕ × List Block). j.0) (cut_begins x p ps t)
-      ∙ ap (λ (n : ℕ). take n x) (sym (cond-true p.begins 0 (p.size + run_size ps) t))
-  | inr f ↦
-      ap (λ (j : List ℕ × List Block). j.0) (cut_continues x p ps f)
-      ∙ ap (λ (y : List ℕ). take p.size x ++ y) (cut_front (drop p.size x) ps)
-      ∙ sym (take-add p.size (run_size ps) x)
-      ∙ ap (λ (n : ℕ). take n x) (sym (cond-false p.begins 0 (p.size + run_size ps) f))
-]
-
-pub cut_rest : (x : List ℕ) (ps : List Piece) → (cut x ps).1 ≡ (cut (drop (run_size ps) x) (run_rest ps)).1
-unfolding cut run_size run_rest
-cut_rest x [] = refl
-cut_rest x (p ∷ ps) = elim (cases_Bool p.begins) [
-  | inl t ↦
-      rw (cond-true p.begins 0 (p.size + run_size ps) t, cond-true p.begins (p ∷ ps) (run_rest ps) t)
-  | inr f ↦
-      ap (λ (j : List ℕ × List Block). j.1) (cut_continues x p ps f)
-      ∙ cut_rest (drop p.size x) ps
-      ∙ ap (λ (y : List ℕ). (cut y (run_rest ps)).1) (drop-drop (run_size ps) p.size x)
-      ∙ ap (λ (n : ℕ). (cut (drop n x) (run_rest ps)).1) (sym (cond-false p.begins 0 (p.size + run_size ps) f))
-      ∙ ap (λ (qs : List Piece). (cut (drop (run_size (p ∷ ps)) x) qs).1) (sym (cond-false p.begins (p ∷ ps) (run_rest ps) f))
-]
-
-pub run_sizes : (ps : List Piece) → sizes ps ≡ run_size ps + sizes (run_rest ps)
-unfolding run_size run_rest
-run_sizes [] = refl
-run_sizes (p ∷ ps) = elim (cases_Bool p.begins) [
-  | inl t ↦ rw (cond-true p.begins 0 (p.size + run_size ps) t, cond-true p.begins (p ∷ ps) (run_rest ps) t) (omega arith)
-  | inr f ↦
-      rw (cond-false p.begins 0 (p.size + run_size ps) f, cond-false p.begins (p ∷ ps) (run_rest ps) f)
-      (omega (arith, run_sizes ps))
-]
-
--- ---- joined pieces
-
-abbrev AreSized : List ℕ → List Piece → Type 0
-AreSized b ps = AllByRecursion (λ p. length (piece_octets b p) ≡ p.size) ps
+-- ---- the pieces of a head
 
 ranged : (b : List ℕ) (start size mark : ℕ) → start + size ≤ length b → length (range b (start + mark) (size - mark)) ≡ size - mark
 ranged b start size mark h = omega (arith, length-take (size - mark) (drop (start + mark) b), length-drop (start + mark) b)
@@ -88,103 +27,52 @@ sized b last (q ∷ qs) h = of (kind_of q.code (range b q.start q.size)) (λ l. 
     of None more = more None
     of (Some k) more = (ranged b q.start q.size (mark_len k) h.0, more (Some k))
 
-cut_joined_all : (b : List ℕ) (ps : List Piece) → AreSized b ps → cut (flat_map (piece_octets b) ps) ps ≡ joined b ps
-unfolding cut joined
-cut_joined_all b [] h = refl
-cut_joined_all b (p ∷ ps) h =
-    let x : List ℕ = flat_map (piece_octets b) ps in
-    let front : take p.size (piece_octets b p ++ x) ≡ piece_octets b p =
-    ap (λ (n : ℕ). take n (piece_octets b p ++ x)) (sym h.0) ∙ take-append_seam (piece_octets b p) x in
-    let rest : drop p.size (piece_octets b p ++ x) ≡ x =
-    ap (λ (n : ℕ). drop n (piece_octets b p ++ x)) (sym h.0) ∙ drop-append_seam (piece_octets b p) x in
-    rw (front, rest, cut_joined_all b ps h.1)
-
 sizes_joined : (b : List ℕ) (ps : List Piece) → AreSized b ps → sizes ps ≡ length (flat_map (piece_octets b) ps)
 sizes_joined b [] h = refl
 sizes_joined b (p ∷ ps) h = omega (arith, h.0, sizes_joined b ps h.1, length-append (piece_octets b p) (flat_map (piece_octets b) ps))
 
-first_begins : (k : Kind) (x : List ℕ) → begins k None x ≡ true
-first_begins Exif x = refl
-first_begins Photoshop x = refl
-first_begins Xmp x = refl
-first_begins ExtendedXmp x = refl
+pub sizes_of : (b : List ℕ) (parts : List Part) → AllInside b parts
+    → sizes (pieces b None parts) ≡ length (flat_map (piece_octets b) (pieces b None parts))
+sizes_of b parts h = sizes_joined b (pieces b None parts) (sized b None parts h)
+
+kind_begins : (k : Kind) (x : List ℕ) → begins k None x ≡ true
+kind_begins Exif x = refl
+kind_begins Photoshop x = refl
+kind_begins Xmp x = refl
+kind_begins ExtendedXmp x = refl
 
 -- the first piece of a head begins a block
-begins_first : (b : List ℕ) (qs : List Part) (p : Piece) (ps : List Piece) → pieces b None qs ≡ p ∷ ps → p.begins ≡ true
-begins_first b [] p ps e = absurd (nil_no e)
+first_begins : (b : List ℕ) (qs : List Part) → next_begins (pieces b None qs) ≡ true
+first_begins b [] = refl
+first_begins b (q ∷ qs) = of (kind_of q.code (range b q.start q.size)) (first_begins b qs)
   where
-    nil_no : ◌≡◌ {A = List Piece} [] (p ∷ ps) → ⊥
-    nil_no e = cc
-begins_first b (q ∷ qs) p ps e = of (kind_of q.code (range b q.start q.size)) (begins_first b qs p ps) e
-  where
-    of : (o : Option Kind) → (pieces b None qs ≡ p ∷ ps → p.begins ≡ true) → piece_in b q None o ++ pieces b o qs ≡ p ∷ ps
-        → p.begins ≡ true
-    of None more e = more e
-    of (Some k) more e =
-        let same : piece_of b q k None ≡ p = cc in
-        ap (λ (x : Piece). x.begins) (sym same)
-        ∙ first_begins k (range b (q.start + mark_len k) (q.size - mark_len k))
+    of : (o : Option Kind) → next_begins (pieces b None qs) ≡ true → next_begins (piece_in b q None o ++ pieces b o qs) ≡ true
+    of None more = more
+    of (Some k) more = kind_begins k (range b (q.start + mark_len k) (q.size - mark_len k))
 
--- ---- runs of pieces
+pub head_cuts : (b x : List ℕ) (qs : List Part) (ps : List Piece) → AllInside b qs → x ≡ joined_octets b (pieces b None qs)
+    → ps ≡ pieces b None qs → CanCut b x ps
+head_cuts b x qs ps h j e = subst (CanCut b x) (sym e) (first_begins b qs, sized b None qs h, j)
 
-pub run_ends : (ps : List Piece) → ps ≡ [] → (run_size ps ≡ 0) × (run_rest ps ≡ [])
+-- ---- pieces that continue a block
+
+pub run_ends : (ps : List Piece) → next_begins ps ≡ true → (run_size ps ≡ 0) × (run_rest ps ≡ ps)
 unfolding run_size run_rest
-run_ends ps e = (ap run_size e, ap run_rest e)
+run_ends [] t = (refl, refl)
+run_ends (p ∷ ps) t = (cond-true p.begins 0 (p.size + run_size ps) t, cond-true p.begins (p ∷ ps) (run_rest ps) t)
 
-pub run_stops : (ps qs : List Piece) (p : Piece) → ps ≡ p ∷ qs → p.begins ≡ true → (run_size ps ≡ 0) × (run_rest ps ≡ p ∷ qs)
-unfolding run_size run_rest
-run_stops ps qs p e t =
-    (ap run_size e ∙ cond-true p.begins 0 (p.size + run_size qs) t, ap run_rest e ∙ cond-true p.begins (p ∷ qs) (run_rest qs) t)
-
-pub run_goes : (ps qs : List Piece) (p : Piece) → ps ≡ p ∷ qs → p.begins ≡ false
+pub run_goes : (ps qs : List Piece) (p : Piece) → ps ≡ p ∷ qs → next_begins ps ≡ false
     → (run_size ps ≡ p.size + run_size qs) × (run_rest ps ≡ run_rest qs)
 unfolding run_size run_rest
 run_goes ps qs p e f =
-    (ap run_size e ∙ cond-false p.begins 0 (p.size + run_size qs) f, ap run_rest e ∙ cond-false p.begins (p ∷ qs) (run_rest qs) f)
+    let g : p.begins ≡ false = sym (ap next_begins e) ∙ f in
+    (ap run_size e ∙ cond-false p.begins 0 (p.size + run_size qs) g, ap run_rest e ∙ cond-false p.begins (p ∷ qs) (run_rest qs) g)
 
--- the blocks of a head, from its first piece and the others
-pub first_runs : (b : List ℕ) (parts : List Part) (x : List ℕ) (qs : List Piece) (o : Option Piece) (ps : List Piece)
-    → AllInside b parts → x ≡ flat_map (piece_octets b) (pieces b None parts) → qs ≡ pieces b None parts
-    → MatchOption o ((qs ≡ []) × (ps ≡ [])) (λ p. qs ≡ p ∷ ps)
-    → (ahead_size o + sizes ps ≤ length x) × (runs x o ps ≡ blocks b parts)
+-- ---- blocks
+
+pub no_blocks : (b : List ℕ) (ps : List Piece) → ps ≡ [] → (joined b ps).1 ≡ []
 unfolding joined
-first_runs b parts x qs None ps h j e s =
-    (omega (arith, ap sizes s.1), ap (λ (ts : List Piece). (joined b ts).1) (sym s.0 ∙ e))
-first_runs b parts x qs (Some p) ps h j e s =
-    let all : pieces b None parts ≡ p ∷ ps = sym e ∙ s in
-    let fits = sized b None parts h in
-    let cuts : cut x (p ∷ ps) ≡ joined b (pieces b None parts) =
-    ap (cut x) (sym all) ∙ ap (λ (y : List ℕ). cut y (pieces b None parts)) j ∙ cut_joined_all b (pieces b None parts) fits in (
-      omega (arith, ap sizes all, sizes_joined b (pieces b None parts) fits, ap (λ (y : List ℕ). length y) j),
-      sym (runs_cut x p ps (begins_first b parts p ps all)) ∙ ap (λ (k : List ℕ × List Block). k.1) cuts,
-    )
-
--- the next block, and those behind it
-pub next_runs : (x : List ℕ) (p : Piece) (ps : List Piece) (n : ℕ) (o : Option Piece) (qs : List Piece) → n ≡ run_size ps
-    → MatchOption o ((run_rest ps ≡ []) × (qs ≡ [])) (λ q. (run_rest ps ≡ q ∷ qs) × (q.begins ≡ true))
-    → (sizes ps ≡ n + (ahead_size o + sizes qs))
-    × (runs x (Some p) ps ≡ record { kind = p.kind; octets = take (p.size + n) x } ∷ runs (drop (p.size + n) x) o qs)
-next_runs x p ps n o qs e s = (
-  size o s,
-  ap₂ (λ (y : List ℕ) (ks : List Block). record { kind = p.kind; octets = y } ∷ ks)
-      (ap (λ (y : List ℕ). take p.size x ++ y) (cut_front (drop p.size x) ps) ∙ sym (take-add p.size (run_size ps) x)
-      ∙ ap (λ (m : ℕ). take (p.size + m) x) (sym e))
-      (cut_rest (drop p.size x) ps ∙ ap (λ (y : List ℕ). (cut y (run_rest ps)).1) (drop-drop (run_size ps) p.size x)
-      ∙ ap (λ (m : ℕ). (cut (drop (p.size + m) x) (run_rest ps)).1) (sym e) ∙ rest o s),
-)
-  where
-    size : (o : Option Piece) → MatchOption o ((run_rest ps ≡ []) × (qs ≡ [])) (λ q. (run_rest ps ≡ q ∷ qs) × (q.begins ≡ true))
-        → sizes ps ≡ n + (ahead_size o + sizes qs)
-    size None s = omega (arith, run_sizes ps, ap sizes s.0, ap sizes s.1)
-    size (Some q) s = omega (arith, run_sizes ps, ap sizes s.0)
-
-    rest : (o : Option Piece) → MatchOption o ((run_rest ps ≡ []) × (qs ≡ [])) (λ q. (run_rest ps ≡ q ∷ qs) × (q.begins ≡ true))
-        → (cut (drop (p.size + n) x) (run_rest ps)).1 ≡ runs (drop (p.size + n) x) o qs
-    rest None s = ap (λ (ts : List Piece). (cut (drop (p.size + n) x) ts).1) s.0 ∙ cut_nil (drop (p.size + n) x)
-    rest (Some q) s =
-        ap (λ (ts : List Piece). (cut (drop (p.size + n) x) ts).1) s.0 ∙ runs_cut (drop (p.size + n) x) q qs s.1
-
--- ---- joined blocks
+no_blocks b ps e = ap (λ (qs : List Piece). (joined b qs).1) e
 
 pub joined_begins : (b : List ℕ) (p : Piece) (ps : List Piece) → p.begins ≡ true
     → joined b (p ∷ ps) ≡ ([], record { kind = p.kind; octets = piece_octets b p ++ (joined b ps).0 } ∷ (joined b ps).1)
@@ -196,6 +84,119 @@ pub joined_continues : (b : List ℕ) (p : Piece) (ps : List Piece) → p.begins
 unfolding joined
 joined_continues b p ps h = cond-false p.begins _ _ h
 
-pub sizes_of : (b : List ℕ) (parts : List Part) → AllInside b parts
-    → sizes (pieces b None parts) ≡ length (flat_map (piece_octets b) (pieces b None parts))
-sizes_of b parts h = sizes_joined b (pieces b None parts) (sized b None parts h)
+none_continue : (b : List ℕ) (ps : List Piece) → next_begins ps ≡ true → (joined b ps).0 ≡ []
+unfolding joined
+none_continue b [] t = refl
+none_continue b (p ∷ ps) t = ap (λ (j : List ℕ × List Block). j.0) (joined_begins b p ps t)
+
+-- ---- the pieces that are joined
+
+pub joined_none : (ps : List Piece) → ps ≡ [] → joined_pieces ps ≡ []
+unfolding joined_pieces
+joined_none ps e = ap joined_pieces e
+
+pub joined_whole : (p : Piece) (ps qs : List Piece) → qs ≡ p ∷ ps → p.begins ≡ true → next_begins ps ≡ true
+    → joined_pieces qs ≡ joined_pieces ps
+unfolding joined_pieces
+joined_whole p ps qs e t u =
+    ap joined_pieces e ∙ cond-true (p.begins && next_begins ps) (joined_pieces ps) (p ∷ joined_pieces ps)
+    (ap₂ (λ (c d : Bool). c && d) t u)
+
+kept : (p : Piece) (ps qs : List Piece) → qs ≡ p ∷ ps → (p.begins && next_begins ps) ≡ false → joined_pieces qs ≡ p ∷ joined_pieces ps
+unfolding joined_pieces
+kept p ps qs e f = ap joined_pieces e ∙ cond-false (p.begins && next_begins ps) (joined_pieces ps) (p ∷ joined_pieces ps) f
+
+pub joined_later : (p : Piece) (ps qs : List Piece) → qs ≡ p ∷ ps → p.begins ≡ false → joined_pieces qs ≡ p ∷ joined_pieces ps
+joined_later p ps qs e f = kept p ps qs e (ap (λ (c : Bool). c && next_begins ps) f)
+
+pub joined_first : (p : Piece) (ps qs : List Piece) → qs ≡ p ∷ ps → p.begins ≡ true → next_begins ps ≡ false
+    → joined_pieces qs ≡ p ∷ joined_pieces ps
+joined_first p ps qs e t f = kept p ps qs e (ap₂ (λ (c d : Bool). c && d) t f)
+
+-- ---- the next block
+
+-- the bytes that continue a block, and what follows them
+pub record Rest (b : List ℕ) (ps : List Piece) : Type 0 where
+  pub size : run_size ps ≡ length (joined b ps).0
+  pub octets : joined_octets b ps ≡ (joined b ps).0 ++ joined_octets b (run_rest ps)
+  pub blocks : (joined b ps).1 ≡ (joined b (run_rest ps)).1
+  pub begins : next_begins (run_rest ps) ≡ true
+  pub sized : AreSized b (run_rest ps)
+
+rest : (b : List ℕ) (ps : List Piece) → AreSized b ps → Rest b ps
+unfolding joined run_size run_rest joined_pieces
+rest b [] h = record { size = refl; octets = refl; blocks = refl; begins = refl; sized = tt }
+rest b (p ∷ ps) h = elim (cases_Bool p.begins) [
+  | inl t ↦
+      let ends = run_ends (p ∷ ps) t in
+      let none = none_continue b (p ∷ ps) t in
+      record {
+        size = omega (arith, ends.0, ap length none);
+        octets = rw (none, ends.1) refl;
+        blocks = ap (λ (qs : List Piece). (joined b qs).1) (sym ends.1);
+        begins = ap next_begins ends.1 ∙ t;
+        sized = rw ends.1 h;
+      }
+  | inr f ↦
+      let goes = run_goes (p ∷ ps) ps p refl f in
+      let more = rest b ps h.1 in
+      let same = joined_continues b p ps f in
+      let front = ap (λ (j : List ℕ × List Block). j.0) same in
+      record {
+        size = omega (arith, goes.0, more.size, h.0, ap length front, length-append (piece_octets b p) (joined b ps).0);
+        octets =
+            ap (flat_map (piece_octets b)) (joined_later p ps (p ∷ ps) refl f)
+            ∙ ap (λ (y : List ℕ). piece_octets b p ++ y) more.octets
+            ∙ sym (append_assoc (piece_octets b p) (joined b ps).0 (joined_octets b (run_rest ps)))
+            ∙ ap₂ (λ (y z : List ℕ). y ++ z) (sym front) (ap (joined_octets b) (sym goes.1));
+        blocks =
+            ap (λ (j : List ℕ × List Block). j.1) same ∙ more.blocks ∙ ap (λ (qs : List Piece). (joined b qs).1) (sym goes.1);
+        begins = ap next_begins goes.1 ∙ more.begins;
+        sized = rw goes.1 more.sized;
+      }
+]
+
+-- a block of one piece is a range of the picture
+pub whole_next : (b x : List ℕ) (p : Piece) (ps qs : List Piece) → qs ≡ p ∷ ps → CanCut b x qs → next_begins ps ≡ true
+    → CanCut b x ps × ((joined b qs).1 ≡ record { kind = p.kind; octets = range b p.start p.size } ∷ (joined b ps).1)
+whole_next b x p ps qs e (t, h, j) u =
+    let begins : p.begins ≡ true = sym (ap next_begins e) ∙ t in (
+      (u, (subst (AreSized b) e h).1, j ∙ ap (flat_map (piece_octets b)) (joined_whole p ps qs e begins u)),
+      ap (λ (rs : List Piece). (joined b rs).1) e
+          ∙ ap (λ (k : List ℕ × List Block). k.1) (joined_begins b p ps begins)
+          ∙ ap (λ (y : List ℕ). record { kind = p.kind; octets = y } ∷ (joined b ps).1)
+          (ap (λ (y : List ℕ). piece_octets b p ++ y) (none_continue b ps u) ∙ append-nil (piece_octets b p)),
+    )
+
+-- any other is at the start of the joined bytes: its first piece p, n bytes that continue it, and the pieces rs behind it
+pub record Cut (b x : List ℕ) (p : Piece) (qs : List Piece) (n : ℕ) (rs : List Piece) : Type 0 where
+  pub fits : p.size + n ≤ length x
+  pub block : (joined b qs).1 ≡ record { kind = p.kind; octets = take (p.size + n) x } ∷ (joined b rs).1
+  pub cuts : CanCut b (drop (p.size + n) x) rs
+
+pub joined_next : (b x : List ℕ) (p : Piece) (ps qs : List Piece) → qs ≡ p ∷ ps → CanCut b x qs → next_begins ps ≡ false
+    → Cut b x p qs (run_size ps) (run_rest ps)
+joined_next b x p ps qs e (t, h, j) f =
+    let begins : p.begins ≡ true = sym (ap next_begins e) ∙ t in
+    let sized = subst (AreSized b) e h in
+    let more = rest b ps sized.1 in
+    let front : List ℕ = piece_octets b p ++ (joined b ps).0 in
+    let back : List ℕ = joined_octets b (run_rest ps) in
+    let n : p.size + run_size ps ≡ length front = omega (arith, sized.0, more.size, length-append (piece_octets b p) (joined b ps).0) in
+    let whole : x ≡ front ++ back =
+    j ∙ ap (flat_map (piece_octets b)) (joined_first p ps qs e begins f) ∙ ap (λ (y : List ℕ). piece_octets b p ++ y) more.octets
+    ∙ sym (append_assoc (piece_octets b p) (joined b ps).0 back) in
+    record {
+      fits = omega (arith, n, ap (λ (y : List ℕ). length y) whole, length-append front back);
+      block =
+          ap (λ (rs : List Piece). (joined b rs).1) e
+          ∙ ap (λ (k : List ℕ × List Block). k.1) (joined_begins b p ps begins)
+          ∙ ap₂ (λ (y : List ℕ) (ks : List Block). record { kind = p.kind; octets = y } ∷ ks)
+          (sym (ap₂ (λ (m : ℕ) (y : List ℕ). take m y) n whole ∙ take-append_seam front back)) more.blocks;
+      cuts = (more.begins, more.sized, ap₂ (λ (m : ℕ) (y : List ℕ). drop m y) n whole ∙ drop-append_seam front back);
+    }
+
+-- the same of what a call returned
+pub cut_at : (b x : List ℕ) (p : Piece) (ps qs : List Piece) (n : ℕ) (rs : List Piece) → n ≡ run_size ps → rs ≡ run_rest ps
+    → Cut b x p qs (run_size ps) (run_rest ps) → Cut b x p qs n rs
+cut_at b x p ps qs n rs e f c = rw (e, f) c

@@ -1,11 +1,13 @@
 -- The parts of a head are in the picture, and its pieces have no more bytes than the picture.
-use Rattle.std.proofs.Common.{◌≡◌, ◌≤◌, ◌+◌, ℕ, inl, inr, Option, Some, None, List, [], ◌∷◌, ◌++◌, length, ap, arith, length-append}
+use Rattle.std.proofs.Common.{◌≡◌, ◌≤◌, ◌+◌, ◌&&◌, ℕ, inl, inr, Option, Some, None, List, [], ◌∷◌, ◌++◌, length, ap, arith, length-append}
 use Rattle.std.specs.List.{AllByRecursion}
+use Rattle.std.proofs.lemmas.Bool.{cond-true, cond-false, cases_Bool}
 use Rattle.px_jpeg.specs.declared.Part.{Part}
 use Rattle.px_jpeg.specs.declared.Kind.{Kind}
+use Rattle.px_jpeg.specs.declared.Piece.{Piece}
 use Rattle.px_jpeg.specs.Head.{IsPart, Spells, HasHead}
 use Rattle.px_jpeg.specs.Pieces.{AllInside, range, kind_of, piece_in, pieces}
-use Rattle.px_pictures.specs.Metadata.{sizes}
+use Rattle.px_pictures.specs.Metadata.{sizes, next_begins, joined_pieces, joined_size}
 
 part_end : (p : ℕ) (q : Part) (x : List ℕ) → IsPart p q x → q.start + q.size ≡ p + length x
 part_end p q x (inl a) = omega (arith, a.start, a.empty, ap length a.whole, length-append a.fill (255 ∷ q.code ∷ []))
@@ -49,7 +51,19 @@ pieces_within b last p (q ∷ qs) x (a, c, w, i, s) =
     of None more = omega (arith, more None, ap length w, length-append a c)
     of (Some k) more = omega (arith, more (Some k), part_size p q a i, ap length w, length-append a c)
 
+joined_fewer : (ps : List Piece) → sizes (joined_pieces ps) ≤ sizes ps
+unfolding joined_pieces
+joined_fewer [] = omega arith
+joined_fewer (p ∷ ps) = elim (cases_Bool (p.begins && next_begins ps)) [
+  | inl t ↦ rw (cond-true (p.begins && next_begins ps) (joined_pieces ps) (p ∷ joined_pieces ps) t) (omega (arith, joined_fewer ps))
+  | inr f ↦ rw (cond-false (p.begins && next_begins ps) (joined_pieces ps) (p ∷ joined_pieces ps) f) (omega (arith, joined_fewer ps))
+]
+
 -- the pieces have no more bytes than the picture
 pub head_within : (b : List ℕ) (qs : List Part) → HasHead b qs → sizes (pieces b None qs) ≤ length b
 head_within b qs s =
     omega (arith, pieces_within b None 2 qs s.spelled s.spells, ap length s.whole, length-append s.spelled s.rest)
+
+-- no more than these are joined
+pub joined_within : (b : List ℕ) (qs : List Part) → HasHead b qs → joined_size b qs ≤ length b
+joined_within b qs s = omega (arith, joined_fewer (pieces b None qs), head_within b qs s)

@@ -1,12 +1,10 @@
 -- The blocks of a picture are one list, with one meaning each, and none of them is faulty.
-use Rattle.std.proofs.Common.{◌≡◌, ◌≢◌, inl, inr, ℕ, List, [], ◌∷◌, ◌++◌, None, refl, sym, ap, ◌∙◌, subst, arith}
+use Rattle.std.proofs.Common.{◌≡◌, ◌≢◌, inl, inr, ℕ, List, [], ◌∷◌, ◌++◌, refl, sym, ap, ◌∙◌, subst, arith}
 use Rattle.px_bytes.specs.declared.Cause.{Cause}
 use Rattle.px_iim.specs.Group.{Record}
 use Rattle.px_iim.specs.Record.{SaysIim}
 use Rattle.px_iim.specs.lemmas.RecordLaws.{one_record}
-use Rattle.px_jpeg.specs.declared.Part.{Part}
 use Rattle.px_jpeg.specs.Laws.{OneHead, FaultsTell as HeadFaultsTell}
-use Rattle.px_jpeg.specs.Pieces.{pieces}
 use Rattle.px_meaning.specs.Laws.{OneMeaning}
 use Rattle.px_meaning.specs.Says.{SaysExif}
 use Rattle.px_meaning.specs.Tree.{Meaning}
@@ -18,7 +16,7 @@ use Rattle.px_pictures.specs.declared.faults.Side.{Side}
 use Rattle.px_pictures.specs.declared.faults.Side.TheVariants.{First, Second}
 use Rattle.px_pictures.specs.Faults.{AllExif, AllIptc, FaultAt, IsFaultyIptc, IsHeadFault, IsBlockFault, IsFaultOf}
 use Rattle.px_pictures.specs.Laws.{OneMetadata, FaultsTell}
-use Rattle.px_pictures.specs.Metadata.{Blocks, HasBlocks, SayAll, SaysMetadata, blocks_in, sizes}
+use Rattle.px_pictures.specs.Metadata.{Blocks, HasBlocks, SayAll, SaysMetadata, blocks_in, joined_size}
 use Rattle.px_pictures.proofs.PairLaws.{say_one}
 
 one_blocks : OneHead → (b : List ℕ) (x y : Blocks) → HasBlocks b x → HasBlocks b y → x ≡ y
@@ -54,7 +52,7 @@ head_unsaid : OneHead → HeadFaultsTell → (b : List ℕ) (refused : ℕ) (e :
     → HasBlocks b x → ⊥
 head_unsaid one tell b refused (Head e) x differ h k = tell.0 b e.cause e.place k.parts h k.head
 head_unsaid one tell b refused TooLong x differ (parts, head, long) k =
-    let same = ap (λ (ps : List Part). sizes (pieces b None ps)) (one b parts k.parts head k.head) in
+    let same = ap (joined_size b) (one b parts k.parts head k.head) in
     omega (arith, same, long, k.fits)
 head_unsaid one tell b refused OutOfMemory x differ h k = differ refl
 head_unsaid one tell b refused (Block n m c p) x differ h k = h

@@ -2,12 +2,18 @@
 use Rattle.std.specs.Prelude.{◌≤◌, ◌+◌, ◌*◌, ℕ, List, [], ◌∷◌, length}
 use Rattle.px_bytes.specs.Lacking.{Taken, AsksAtMost}
 use Rattle.px_iim.specs.Asking.{iim_request}
+use Rattle.px_jpeg.specs.declared.Part.{Part}
+use Rattle.px_jpeg.specs.Head.{HasHead}
 use Rattle.px_tree.specs.Asking.{exif_request}
-use Rattle.px_pictures.specs.Metadata.{Blocks, HasBlocks}
+use Rattle.px_pictures.specs.Metadata.{Blocks, HasBlocks, joined_size}
 
--- to join the pieces of a picture of n bytes: none of them is outside the picture
+-- to join pieces of a picture of n bytes: each of these bytes is in one piece at most
 abbrev pub join_request : ℕ → ℕ
 join_request n = n
+
+-- to join the pieces of this picture: nothing if each block has one piece
+abbrev pub AsksToJoin : List ℕ → Taken → Taken → Type 0
+AsksToJoin b old new = (parts : List Part) → HasHead b parts → AsksAtMost (joined_size b parts) old new
 
 -- to read each of these blocks once
 abbrev pub exif_requests : List (List ℕ) → ℕ

@@ -1,5 +1,5 @@
 -- Why the blocks of a picture, or their meanings, are not read.
-use Rattle.std.specs.Prelude.{◌≡◌, ◌⊎◌, ◌<◌, ◌≤◌, ◌+◌, ℕ, List, ◌∷◌, ◌++◌, length, None, Result, Ok, Err}
+use Rattle.std.specs.Prelude.{◌≡◌, ◌⊎◌, ◌<◌, ◌≤◌, ◌+◌, ℕ, List, ◌∷◌, ◌++◌, length, Result, Ok, Err}
 use Rattle.px_bytes.specs.declared.Cause.{Cause}
 use Rattle.px_bytes.specs.Lacking.{Taken}
 use Rattle.px_bytes.specs.Parts.{limit}
@@ -9,7 +9,6 @@ use Rattle.px_iim.specs.Record.{SaysIim}
 use Rattle.px_jpeg.specs.declared.Part.{Part}
 use Rattle.px_jpeg.specs.Fault.{Fault as HeadFault}
 use Rattle.px_jpeg.specs.Head.{HasHead}
-use Rattle.px_jpeg.specs.Pieces.{pieces}
 use Rattle.px_meaning.specs.Tree.{Meaning}
 use Rattle.px_meaning.specs.Says.{SaysExif}
 use Rattle.px_tree.specs.Refused.{IsFaulty as IsFaultyExif}
@@ -19,7 +18,7 @@ use Rattle.px_pictures.specs.declared.faults.Fault.TheVariants.{Head, TooLong, B
 use Rattle.px_pictures.specs.declared.faults.PictureFault.{PictureFault}
 use Rattle.px_pictures.specs.declared.faults.Side.{Side}
 use Rattle.px_pictures.specs.declared.faults.Side.TheVariants.{First, Second}
-use Rattle.px_pictures.specs.Metadata.{Blocks, HasBlocks, SayAll, sizes, most_joined}
+use Rattle.px_pictures.specs.Metadata.{Blocks, HasBlocks, SayAll, joined_size, most_joined}
 
 -- the IPTC block x has this first fault, at an offset of at most the limit, and no meaning
 pub record IsFaultyIptc (x : List ℕ) (cause : Cause) (place : ℕ) : Type 0 where
@@ -51,10 +50,10 @@ pub record FaultAt (AllSaid : List (List ℕ) → Type 0) (IsFaulty : List ℕ �
 
 -- ---- the first fault
 
--- there is no head, and this is its first fault; or its pieces have too many bytes; or an allocation failed
+-- there is no head, and this is its first fault; or too many bytes are joined; or an allocation failed
 abbrev pub IsHeadFault : List ℕ → ℕ → Fault → Type 0
 IsHeadFault b refused (Head e) = HeadFault b e.cause e.place
-IsHeadFault b refused TooLong = (parts : List Part) × HasHead b parts × (most_joined < sizes (pieces b None parts))
+IsHeadFault b refused TooLong = (parts : List Part) × HasHead b parts × (most_joined < joined_size b parts)
 IsHeadFault b refused OutOfMemory = 0 < refused
 IsHeadFault b refused (Block k n c p) = ⊥
 

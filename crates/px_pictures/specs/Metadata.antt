@@ -1,6 +1,7 @@
 -- The Exif and IPTC blocks of a JPEG picture, and what they mean. CIPA DC-008, 4.7.2; Adobe Photoshop File Formats Specification,
 -- "Image Resource IDs".
-use Rattle.std.specs.Prelude.{◌≡◌, ◌≤◌, ◌+◌, ◌*◌, ℕ, nat_lt, Bool, List, [], ◌∷◌, length, filter, None, ⊤}
+use Rattle.std.specs.Prelude.{◌≡◌, ◌≤◌, ◌+◌, ◌*◌, ℕ, nat_lt, Bool, true, ◌&&◌, if◌then◌else◌, List, [], ◌∷◌}
+use Rattle.std.specs.Prelude.{length, filter, None, ⊤}
 use Rattle.px_bytes.specs.Parts.{limit}
 use Rattle.px_iim.specs.Group.{Record}
 use Rattle.px_iim.specs.Record.{SaysIim}
@@ -30,7 +31,21 @@ abbrev pub sizes : List Piece → ℕ
 sizes [] = 0
 sizes (p ∷ ps) = p.size + sizes ps
 
--- the pieces of a head are joined in memory, with XMP's: more bytes than one allocation may have are refused
+-- the first of these pieces begins a block, or there is none
+abbrev pub next_begins : List Piece → Bool
+next_begins [] = true
+next_begins (p ∷ ps) = p.begins
+
+-- the pieces of the blocks that have more than one
+unfoldable pub joined_pieces : List Piece → List Piece
+joined_pieces [] = []
+joined_pieces (p ∷ ps) = if p.begins && next_begins ps then joined_pieces ps else p ∷ joined_pieces ps
+
+-- how many bytes these have in a picture: they are joined in memory
+abbrev pub joined_size : List ℕ → List Part → ℕ
+joined_size b parts = sizes (joined_pieces (pieces b None parts))
+
+-- more bytes than one allocation may have are refused
 abbrev pub most_joined : ℕ
 most_joined = 16 * limit
 
@@ -38,7 +53,7 @@ most_joined = 16 * limit
 pub record HasBlocks (b : List ℕ) (x : Blocks) : Type 0 where
   pub parts : List Part
   pub head : HasHead b parts
-  pub fits : sizes (pieces b None parts) ≤ most_joined
+  pub fits : joined_size b parts ≤ most_joined
   pub blocks : x ≡ blocks_in b parts
 
 -- the blocks have these meanings, one each, in order

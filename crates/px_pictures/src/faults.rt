@@ -16,7 +16,7 @@ pub enum BlockKind {
 pub enum Fault {
     /// It has no head: the cause and the byte offset of the first fault.
     Head(HeadFault),
-    /// The pieces of its metadata have more than 16 times `LIMIT` bytes.
+    /// The blocks that have more than one piece have more than 16 times `LIMIT` bytes in all.
     TooLong,
     /// A block has no meaning: its first fault.
     Block {

@@ -1,7 +1,7 @@
 // The blocks of a picture.
 ghost use Rattle.std.specs.Prelude.{◌≡◌, length, IfOk, IfErr};
 ghost use Rattle.px_bytes.specs.Lacking.{AsksAtMost};
-ghost use Rattle.px_pictures.specs.Asking.{join_request};
+ghost use Rattle.px_pictures.specs.Asking.{join_request, AsksToJoin};
 ghost use Rattle.px_pictures.specs.Metadata.{HasBlocks};
 ghost use Rattle.px_pictures.specs.Faults.{IsHeadFault, LacksFound};
 
@@ -13,39 +13,43 @@ use px_bytes::Memory;
 use px_jpeg::{Head, find_resources, read_head};
 use std::marker::Model;
 
-/// The blocks of a picture. It owns their bytes. Contracts see the lists of them.
+/// The blocks of a picture. A block of one piece is a range of the picture; of all others it owns the bytes. Contracts
+/// see the lists of them.
 #[derive(Drop)]
 pub struct Metadata<'a> {
     head: Head<'a>,
-    // The bytes of the pieces of the head, one after another.
+    // The bytes of the blocks that have more than one piece, one after another.
     octets: Vec<u8>,
 }
 
 impl<'a> Model for Metadata<'a> {
-    ghost use Rattle.std.specs.Prelude.{◌≡◌, None, flat_map};
-    ghost use Rattle.px_jpeg.specs.Blocks.{piece_octets};
+    ghost use Rattle.std.specs.Prelude.{◌≡◌, None};
     ghost use Rattle.px_jpeg.specs.Pieces.{AllInside, pieces};
     ghost use Rattle.px_pictures.specs.Metadata.{Blocks, blocks_in};
+    ghost use Rattle.px_pictures.specs.calls.Runs.{joined_octets};
 
     ghost Value = { Blocks };
 
     ghost view = { λ m. blocks_in m.head.octets m.head.parts };
 
     ghost invariant = { λ m. AllInside m.head.octets m.head.parts
-        × (m.octets.items ≡ flat_map (piece_octets m.head.octets) (pieces m.head.octets None m.head.parts)) };
+        × (m.octets.items ≡ joined_octets m.head.octets (pieces m.head.octets None m.head.parts)) };
 }
 
 /// The blocks of the picture that begins with these bytes. They may be a whole file or only its first bytes: what
-/// follows the head is not read. Allocates once the bytes of the pieces of Exif, Photoshop's resources and XMP.
+/// follows the head is not read. Allocates nothing if each block of Exif and of Photoshop's resources has one piece,
+/// and otherwise once the bytes of the blocks that have more than one.
 ///
-/// `Head`: the bytes have no head, and this is the first fault. `TooLong`: the pieces have more than 16 times `LIMIT`
-/// bytes. `OutOfMemory`: an allocation failed.
+/// `Head`: the bytes have no head, and this is the first fault. `TooLong`: the blocks that have more than one piece
+/// have more than 16 times `LIMIT` bytes in all. `OutOfMemory`: an allocation failed.
 pub fn metadata_of_in<'a>(memory: &mut Memory, bytes: &'a [u8]) -> Result<Metadata<'a>, Fault>
     ensures found { IfOk result (HasBlocks bytes.now) }
     ensures fault { IfErr result (IsHeadFault bytes.now memory.new.refusals) }
     ensures memory { LacksFound result memory.old memory.new }
     ensures asked { AsksAtMost (join_request (length bytes.now)) memory.old memory.new }
+    ensures joined { AsksToJoin bytes.now memory.old memory.new }
 {
+    px_jpeg::laws::one_head();
     let head = match read_head(bytes) {
         Ok(head) => head,
         Err(fault) => return Err(Fault::Head(fault)),

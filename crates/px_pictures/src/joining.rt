@@ -1,26 +1,42 @@
-// Joins the pieces of a head.
-ghost use Rattle.std.specs.Prelude.{◌≡◌, ◌≤◌, ◌<◌, None, flat_map, IfOk, MatchOption};
+// Joins the pieces of the blocks that have more than one.
+ghost use Rattle.std.specs.Prelude.{◌≡◌, ◌≤◌, ◌<◌, ◌∷◌, [], None, IfOk, MatchOption};
 ghost use Rattle.px_bytes.specs.Lacking.{Lacks, AsksAtMost};
-ghost use Rattle.px_jpeg.specs.Blocks.{piece_octets};
 ghost use Rattle.px_jpeg.specs.Pieces.{pieces};
-ghost use Rattle.px_pictures.specs.Metadata.{sizes, most_joined};
+ghost use Rattle.px_pictures.specs.Metadata.{joined_pieces, joined_size, most_joined};
+ghost use Rattle.px_pictures.specs.calls.Runs.{joined_octets};
 
+use crate::left::{Left, pieces_left};
 use crate::ranges::range;
 use px_bytes::{LIMIT, Memory, Refused};
-use px_jpeg::Head;
+use px_jpeg::{Head, Piece};
 
-// The greatest number of bytes of the pieces of a head.
+// The greatest number of bytes that are joined.
 const MOST_JOINED: usize = 16 * LIMIT as usize;
 
-// The number of bytes of the pieces of a head, or `None` if it is greater than `MOST_JOINED`.
+// The next piece of a block that has more than one.
+fn next_joined(left: &mut Left) -> Option<Piece>
+    ensures { MatchOption result ((joined_pieces left.old ≡ []) × (joined_pieces left.new ≡ []))
+        (λ p. joined_pieces left.old ≡ p ∷ joined_pieces left.new) }
+{
+    loop {
+        let Some(piece) = left.next_piece() else {
+            return None;
+        };
+        if !piece.begins || !left.next_begins() {
+            return Some(piece);
+        }
+    }
+}
+
+// The number of bytes that are joined, or `None` if it is greater than `MOST_JOINED`.
 pub(crate) fn joined_size(head: &Head) -> Option<usize>
-    ensures { let all = sizes (pieces head.now.octets None head.now.parts) in
+    ensures { let all = joined_size head.now.octets head.now.parts in
         MatchOption result (most_joined < all) (λ n. (n ≡ all) × (all ≤ most_joined)) }
 {
-    let mut left = head.pieces();
+    let mut left = pieces_left(head);
     let mut size = 0;
     loop {
-        let Some(piece) = left.next() else {
+        let Some(piece) = next_joined(&mut left) else {
             return Some(size);
         };
         if piece.size > MOST_JOINED - size {
@@ -30,21 +46,21 @@ pub(crate) fn joined_size(head: &Head) -> Option<usize>
     }
 }
 
-// The bytes of the pieces of a head, one after another.
+// The bytes of the pieces of the blocks that have more than one, one after another.
 pub(crate) fn join_in(memory: &mut Memory, head: &Head, size: usize) -> Result<Vec<u8>, Refused>
-    requires all { size ≡ sizes (pieces head.now.octets None head.now.parts) }
+    requires all { size ≡ joined_size head.now.octets head.now.parts }
     requires fits { size ≤ most_joined }
     ensures joined { IfOk result (λ v. v.items
-        ≡ flat_map (piece_octets head.now.octets) (pieces head.now.octets None head.now.parts)) }
+        ≡ joined_octets head.now.octets (pieces head.now.octets None head.now.parts)) }
     ensures memory { Lacks result memory.old memory.new }
     ensures asked { AsksAtMost size memory.old memory.new }
 {
     let bytes = head.bytes();
     let mut octets = memory.list();
     memory.reserve_exact(&mut octets, size)?;
-    let mut left = head.pieces();
+    let mut left = pieces_left(head);
     loop {
-        let Some(piece) = left.next() else {
+        let Some(piece) = next_joined(&mut left) else {
             return Ok(octets);
         };
         memory.extend_from_slice(&mut octets, range(bytes, piece.start, piece.size))?;

@@ -9,6 +9,7 @@ mod found;
 mod joining;
 mod judged;
 pub mod laws;
+mod left;
 mod ranges;
 mod runs;
 mod same;

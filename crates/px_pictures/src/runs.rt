@@ -1,11 +1,12 @@
 // The blocks of a head, one after another, of any kind.
-ghost use Rattle.std.specs.Prelude.{◌≡◌, ◌<◌, ◌^◌, ◌∷◌, [], true, None, MatchOption, flat_map};
-ghost use Rattle.px_jpeg.specs.Blocks.{piece_octets, blocks};
+ghost use Rattle.std.specs.Prelude.{◌≡◌, ◌<◌, ◌^◌, ◌∷◌, [], None, MatchOption};
+ghost use Rattle.px_jpeg.specs.Blocks.{blocks};
 ghost use Rattle.px_jpeg.specs.Pieces.{pieces, AllInside};
-ghost use Rattle.px_pictures.specs.Metadata.{sizes};
-ghost use Rattle.px_pictures.specs.calls.Runs.{run_size, run_rest, block_of};
+ghost use Rattle.px_pictures.specs.calls.Runs.{joined_octets, run_size, run_rest, block_of};
 
-use px_jpeg::{Head, Kind, Piece, Pieces};
+use crate::left::{Left, pieces_left};
+use crate::ranges::range;
+use px_jpeg::{Head, Kind};
 use std::marker::Model;
 
 // A block.
@@ -15,21 +16,20 @@ pub(crate) struct Run<'b> {
     pub octets: &'b [u8],
 }
 
-// How many bytes the pieces have that continue a block, and the piece with which the next one begins.
-fn rest_of_run(left: &mut Pieces) -> (usize, Option<Piece>)
-    requires { sizes left.old < 2 ^ 63 }
-    ensures size { result.0 ≡ run_size left.old }
-    ensures ahead { MatchOption result.1 ((run_rest left.old ≡ []) × (left.new ≡ []))
-        (λ p. (run_rest left.old ≡ p ∷ left.new) × (p.begins ≡ true)) }
+// Passes the pieces that continue a block. Returns how many bytes they have.
+fn rest_of_run(left: &mut Left) -> usize
+    requires { run_size left.old < 2 ^ 63 }
+    ensures size { result ≡ run_size left.old }
+    ensures rest { left.new ≡ run_rest left.old }
 {
     let mut size = 0;
     loop {
-        let Some(piece) = left.next() else {
-            return (size, None);
-        };
-        if piece.begins {
-            return (size, Some(piece));
+        if left.next_begins() {
+            return size;
         }
+        let Some(piece) = left.next_piece() else {
+            return size;
+        };
         size += piece.size;
     }
 }
@@ -37,38 +37,35 @@ fn rest_of_run(left: &mut Pieces) -> (usize, Option<Piece>)
 // The blocks that are left. Contracts see their list.
 #[derive(Drop)]
 pub(crate) struct Runs<'b, 'a> {
-    // The bytes of the pieces that are left, one after another.
+    // The picture. A block of one piece is a range of it.
+    picture: &'b [u8],
+    // The bytes of the other blocks that are left, one after another.
     octets: &'b [u8],
-    // The piece with which the next block begins.
-    ahead: Option<Piece>,
-    left: Pieces<'a>,
+    left: Left<'a>,
 }
 
 impl<'b, 'a> Model for Runs<'b, 'a> {
-    ghost use Rattle.std.specs.Prelude.{◌≤◌, ◌+◌, List, length};
-    ghost use Rattle.px_jpeg.specs.Blocks.{Block};
-    ghost use Rattle.px_pictures.specs.Metadata.{sizes};
-    ghost use Rattle.px_pictures.specs.calls.Runs.{ahead_size, runs};
+    ghost use Rattle.std.specs.Prelude.{List};
+    ghost use Rattle.px_jpeg.specs.Blocks.{Block, joined};
+    ghost use Rattle.px_pictures.specs.calls.Runs.{CanCut};
 
     ghost Value = { List Block };
 
-    ghost view = { λ s. runs s.octets.now s.ahead s.left };
+    ghost view = { λ s. (joined s.picture.now s.left).1 };
 
-    ghost invariant = { λ s. ahead_size s.ahead + sizes s.left ≤ length s.octets.now };
+    ghost invariant = { λ s. CanCut s.picture.now s.octets.now s.left };
 }
 
-// The blocks of a head, of which the pieces have these bytes, one after another.
-pub(crate) fn runs_of<'b, 'a>(octets: &'b [u8], head: &Head<'a>) -> Runs<'b, 'a>
+// The blocks of a head. `octets` are the bytes of those that have more than one piece, one after another.
+pub(crate) fn runs_of<'b, 'a>(octets: &'b [u8], head: &'b Head<'a>) -> Runs<'b, 'a>
     requires inside { AllInside head.now.octets head.now.parts }
-    requires joined { octets.now ≡ flat_map (piece_octets head.now.octets) (pieces head.now.octets None head.now.parts) }
+    requires joined { octets.now ≡ joined_octets head.now.octets (pieces head.now.octets None head.now.parts) }
     ensures { result ≡ blocks head.now.octets head.now.parts }
 {
-    let mut left = head.pieces();
-    let ahead = left.next();
     Runs {
+        picture: head.bytes(),
         octets,
-        ahead,
-        left,
+        left: pieces_left(head),
     }
 }
 
@@ -77,17 +74,18 @@ impl<'b, 'a> Runs<'b, 'a> {
     pub(crate) fn next_run(&mut self) -> Option<Run<'b>>
         ensures { MatchOption result ((self.old ≡ []) × (self.new ≡ [])) (λ r. self.old ≡ block_of r ∷ self.new) }
     {
-        let Some(piece) = self.ahead else {
+        let Some(piece) = self.left.next_piece() else {
             return None;
         };
+        let kind = piece.kind;
+        if self.left.next_begins() {
+            let octets = range(self.picture, piece.start, piece.size);
+            return Some(Run { kind, octets });
+        }
+        let more = rest_of_run(&mut self.left);
         let bytes = self.octets;
-        let (more, ahead) = rest_of_run(&mut self.left);
         let (octets, rest) = bytes.split_at(piece.size + more);
         self.octets = rest;
-        self.ahead = ahead;
-        Some(Run {
-            kind: piece.kind,
-            octets,
-        })
+        Some(Run { kind, octets })
     }
 }

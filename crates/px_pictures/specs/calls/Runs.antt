@@ -1,20 +1,17 @@
--- The blocks of a head, cut from the bytes of its pieces, which stand one after another.
-use Rattle.std.specs.Prelude.{◌+◌, ◌==◌, ℕ, if◌then◌else◌, Option, Some, None, List, [], ◌∷◌, ◌++◌, take, drop, filter}
-use Rattle.std.specs.Prelude.{filter_map}
+-- The blocks of a head, cut from the picture and from the joined bytes of those that have more than one piece.
+use Rattle.std.specs.Prelude.{◌≡◌, ◌+◌, ◌==◌, ℕ, true, if◌then◌else◌, Option, Some, None, List, [], ◌∷◌, length, filter}
+use Rattle.std.specs.Prelude.{filter_map, flat_map}
+use Rattle.std.specs.List.{AllByRecursion}
 use Rattle.px_jpeg.specs.declared.Piece.{Piece}
 use Rattle.px_jpeg.specs.declared.Resource.{Resource}
-use Rattle.px_jpeg.specs.Blocks.{Block, iptc_in}
+use Rattle.px_jpeg.specs.Blocks.{Block, piece_octets, iptc_in}
 use Rattle.px_jpeg.specs.Pieces.{range}
 use Rattle.px_pictures.specs.declared.runs.Run.{Run}
-use Rattle.px_pictures.specs.Metadata.{has_octets}
+use Rattle.px_pictures.specs.Metadata.{has_octets, next_begins, joined_pieces}
 
--- the bytes of the pieces that continue a block before them, and the blocks that begin in them
-unfoldable pub cut : List ℕ → List Piece → List ℕ × List Block
-cut x [] = ([], [])
-cut x (p ∷ ps) =
-    if p.begins
-    then ([], record { kind = p.kind; octets = take p.size x ++ (cut (drop p.size x) ps).0 } ∷ (cut (drop p.size x) ps).1)
-    else (take p.size x ++ (cut (drop p.size x) ps).0, (cut (drop p.size x) ps).1)
+abbrev pub with_next : Option Piece → List Piece → List Piece
+with_next None ps = []
+with_next (Some p) ps = p ∷ ps
 
 -- how many bytes continue a block before these pieces
 unfoldable pub run_size : List Piece → ℕ
@@ -26,15 +23,17 @@ unfoldable pub run_rest : List Piece → List Piece
 run_rest [] = []
 run_rest (p ∷ ps) = if p.begins then p ∷ ps else run_rest ps
 
--- the blocks, of which the first begins with the piece `ahead`
-abbrev pub runs : List ℕ → Option Piece → List Piece → List Block
-runs x None ps = []
-runs x (Some p) ps =
-    record { kind = p.kind; octets = take p.size x ++ (cut (drop p.size x) ps).0 } ∷ (cut (drop p.size x) ps).1
+-- the bytes of the blocks that have more than one piece
+abbrev pub joined_octets : List ℕ → List Piece → List ℕ
+joined_octets b ps = flat_map (piece_octets b) (joined_pieces ps)
 
-abbrev pub ahead_size : Option Piece → ℕ
-ahead_size None = 0
-ahead_size (Some p) = p.size
+-- the pieces are in the picture b
+abbrev pub AreSized : List ℕ → List Piece → Type 0
+AreSized b ps = AllByRecursion (λ p. length (piece_octets b p) ≡ p.size) ps
+
+-- the first of the pieces begins a block, and x are the joined bytes
+abbrev pub CanCut : List ℕ → List ℕ → List Piece → Type 0
+CanCut b x ps = (next_begins ps ≡ true) × AreSized b ps × (x ≡ joined_octets b ps)
 
 abbrev pub block_of : Run → Block
 block_of r = record { kind = r.kind; octets = r.octets.now }

@@ -1,45 +1,68 @@
-use Rattle.std.proofs.Common.{◌≡◌, ◌≤◌, ◌+◌, ℕ, Option, Some, List, ◌∷◌, length, sym, ap, ap₂, ◌∙◌, subst, arith}
-use Rattle.px_jpeg.specs.declared.Piece.{Piece}
-use Rattle.px_pictures.specs.Metadata.{sizes}
-use Rattle.px_pictures.specs.calls.Runs.{ahead_size, runs}
-use Rattle.px_pictures.proofs.Cutting.{next_runs}
+use Rattle.std.proofs.Common.{ℕ, List, ◌∷◌, sym, ap, ◌∙◌, arith}
+use Rattle.px_jpeg.specs.Blocks.{joined}
+use Rattle.px_pictures.proofs.Cutting.{no_blocks, whole_next, joined_next, cut_at}
 use Rattle.px_pictures.proofs.runs.Runs.next_run.Goals as goal
 
-fits : (x : List ℕ) (o : Option Piece) (p : Piece) (ps : List Piece) → o ≡ Some p → ahead_size o + sizes ps ≤ length x
-    → p.size + sizes ps ≤ length x
-fits x o p ps e h = subst (λ (z : Option Piece). ahead_size z + sizes ps ≤ length x) e h
+pub returns-in_default : goal.returns-in_default
+returns-in_default c = (
+  sym c.self.view_is ∙ no_blocks c.self.inside.picture.now c.self.inside.left c.in_default.ensures.0,
+  no_blocks c.self.inside.picture.now c.next_piece.new.self c.in_default.ensures.1,
+)
+
+-- ---- a block of one piece
+
+pub invariant_of-self-then-next_begins : goal.invariant_of-self-then-next_begins
+invariant_of-self-then-next_begins c =
+    (whole_next c.self.inside.picture.now c.self.inside.octets.now c.in-Some.piece c.next_piece.new.self c.self.inside.left
+    c.in-Some.ensures c.self.invariant (sym c.next_begins.ensures ∙ c.if-next_begins.true)).0
+
+pub returns-then-next_begins : goal.returns-then-next_begins
+returns-then-next_begins c =
+    sym c.self.view_is
+    ∙ (whole_next c.self.inside.picture.now c.self.inside.octets.now c.in-Some.piece c.next_piece.new.self c.self.inside.left
+    c.in-Some.ensures c.self.invariant (sym c.next_begins.ensures ∙ c.if-next_begins.true)).1
+    ∙ ap (λ (x : List ℕ). record { kind = c.in-Some.piece.kind; octets = x } ∷ (joined c.self.inside.picture.now c.next_piece.new.self).1)
+    (sym c.range-octets.ensures)
+
+-- ---- a joined block
 
 pub rest_of_run-more-requires : goal.rest_of_run-more-requires
 rest_of_run-more-requires c =
-    omega (arith, fits c.self.inside.octets.now c.self.inside.ahead c.in-Some.piece c.self.inside.left c.in-Some.is c.self.invariant)
+    let cut = joined_next c.self.inside.picture.now c.self.inside.octets.now c.in-Some.piece c.next_piece.new.self c.self.inside.left
+    c.in-Some.ensures c.self.invariant (sym c.next_begins.ensures ∙ c.if-next_begins.false) in
+    omega (arith, cut.fits)
 
 pub overflow_add-piece : goal.overflow_add-piece
 overflow_add-piece c =
-    let h = fits c.self.inside.octets.now c.self.inside.ahead c.in-Some.piece c.self.inside.left c.in-Some.is c.self.invariant in
-    let n = next_runs c.self.inside.octets.now c.in-Some.piece c.self.inside.left c.rest_of_run-more.result.0 c.rest_of_run-more.result.1
-    c.rest_of_run-more.new.left c.rest_of_run-more.ensures.size c.rest_of_run-more.ensures.ahead in
-    omega (arith, h, n.0)
+    let cut = cut_at c.self.inside.picture.now c.self.inside.octets.now c.in-Some.piece c.next_piece.new.self c.self.inside.left _ _
+    c.rest_of_run-more.ensures.size c.rest_of_run-more.ensures.rest
+    (joined_next c.self.inside.picture.now c.self.inside.octets.now c.in-Some.piece c.next_piece.new.self c.self.inside.left
+    c.in-Some.ensures c.self.invariant (sym c.next_begins.ensures ∙ c.if-next_begins.false)) in
+    omega (arith, cut.fits)
 
 pub split_at-requires : goal.split_at-requires
 split_at-requires c =
-    let h = fits c.self.inside.octets.now c.self.inside.ahead c.in-Some.piece c.self.inside.left c.in-Some.is c.self.invariant in
-    let n = next_runs c.self.inside.octets.now c.in-Some.piece c.self.inside.left c.rest_of_run-more.result.0 c.rest_of_run-more.result.1
-    c.rest_of_run-more.new.left c.rest_of_run-more.ensures.size c.rest_of_run-more.ensures.ahead in
-    omega (arith, h, n.0)
+    let cut = cut_at c.self.inside.picture.now c.self.inside.octets.now c.in-Some.piece c.next_piece.new.self c.self.inside.left _ _
+    c.rest_of_run-more.ensures.size c.rest_of_run-more.ensures.rest
+    (joined_next c.self.inside.picture.now c.self.inside.octets.now c.in-Some.piece c.next_piece.new.self c.self.inside.left
+    c.in-Some.ensures c.self.invariant (sym c.next_begins.ensures ∙ c.if-next_begins.false)) in
+    omega (arith, cut.fits)
 
-pub invariant_of-self : goal.invariant_of-self
-invariant_of-self c =
-    let h = fits c.self.inside.octets.now c.self.inside.ahead c.in-Some.piece c.self.inside.left c.in-Some.is c.self.invariant in
-    let n = next_runs c.self.inside.octets.now c.in-Some.piece c.self.inside.left c.rest_of_run-more.result.0 c.rest_of_run-more.result.1
-    c.rest_of_run-more.new.left c.rest_of_run-more.ensures.size c.rest_of_run-more.ensures.ahead in
-    omega (arith, h, n.0, c.split_at.ensures.back_len)
+pub invariant_of-self-2 : goal.invariant_of-self-2
+invariant_of-self-2 c =
+    let cut = cut_at c.self.inside.picture.now c.self.inside.octets.now c.in-Some.piece c.next_piece.new.self c.self.inside.left _ _
+    c.rest_of_run-more.ensures.size c.rest_of_run-more.ensures.rest
+    (joined_next c.self.inside.picture.now c.self.inside.octets.now c.in-Some.piece c.next_piece.new.self c.self.inside.left
+    c.in-Some.ensures c.self.invariant (sym c.next_begins.ensures ∙ c.if-next_begins.false)) in
+    (cut.cuts.0, cut.cuts.1, c.split_at.ensures.back ∙ cut.cuts.2)
 
 pub returns : goal.returns
 returns c =
-    let n = next_runs c.self.inside.octets.now c.in-Some.piece c.self.inside.left c.rest_of_run-more.result.0 c.rest_of_run-more.result.1
-    c.rest_of_run-more.new.left c.rest_of_run-more.ensures.size c.rest_of_run-more.ensures.ahead in
+    let cut = cut_at c.self.inside.picture.now c.self.inside.octets.now c.in-Some.piece c.next_piece.new.self c.self.inside.left _ _
+    c.rest_of_run-more.ensures.size c.rest_of_run-more.ensures.rest
+    (joined_next c.self.inside.picture.now c.self.inside.octets.now c.in-Some.piece c.next_piece.new.self c.self.inside.left
+    c.in-Some.ensures c.self.invariant (sym c.next_begins.ensures ∙ c.if-next_begins.false)) in
     sym c.self.view_is
-    ∙ ap (λ (o : Option Piece). runs c.self.inside.octets.now o c.self.inside.left) c.in-Some.is
-    ∙ n.1
-    ∙ ap₂ (λ (x y : List ℕ). record { kind = c.in-Some.piece.kind; octets = x }
-    ∷ runs y c.rest_of_run-more.result.1 c.rest_of_run-more.new.left) (sym c.split_at.ensures.front) (sym c.split_at.ensures.back)
+    ∙ cut.block
+    ∙ ap (λ (x : List ℕ). record { kind = c.in-Some.piece.kind; octets = x } ∷ (joined c.self.inside.picture.now c.rest_of_run-more.new.left).1)
+    (sym c.split_at.ensures.front)
