@@ -7,6 +7,7 @@ import sqlite3
 import subprocess
 import sys
 import time
+from unittest import mock
 
 import exifnorm
 from in_process import InFolder
@@ -14,6 +15,7 @@ from made_blocks import BLOCKS, LONG, MAKE, MODEL, block, with_exif
 from studio import SMALL_JPEG, Studio, WithPictures, needs, read, run, tool, write
 
 from exifnorm_pictures.extract.formats.found import PROBLEMS
+from exifnorm_pictures.scan import index
 
 ONE, OTHER, THIRD = (with_exif(SMALL_JPEG, block([MAKE[:-4] + it])) for it in (b"One\0", b"Two\0", b"Ten\0"))
 EXV = b"\xff\x01Exiv2\xff\xd9"  # exiv2's own format, which has no reader here
@@ -63,6 +65,8 @@ class Archive(InFolder):
         before = time.strftime("%Y-%m-%dT%H:%M:%SZ", time.gmtime())
         self.run_again("--again", TZ="Asia/Tokyo")
         after = time.strftime("%Y-%m-%dT%H:%M:%SZ", time.gmtime())
+        with mock.patch.object(index, "BATCH", 1):  # a program isn't forgotten once its picture is committed
+            self.run_again("--again")
         base = sqlite3.connect(self.path("c"))
         runs = list(base.execute("SELECT started, ended FROM runs ORDER BY id"))
         versions = list(base.execute("SELECT exifnorm, exiftool, exiv2 FROM runs ORDER BY id"))
@@ -71,7 +75,7 @@ class Archive(InFolder):
         self.assertEqual(moments, sorted(moments))
         library, exiftool = exifnorm.version(), tool(self.folder, "exiftool", "-ver").decode().strip()
         exiv2 = tool(self.folder, "exiv2", "--version").decode().split()[1]
-        self.assertEqual(versions, [(library, None, None), (library, exiftool, None), (library, exiftool, exiv2)])
+        self.assertEqual(versions, [(library, None, None), (library, exiftool, None), *[(library, exiftool, exiv2)] * 2])
 
     @needs("exiftool")
     def test_versions_of_programs_that_read_pictures_in_several_processes(self):
