@@ -70,6 +70,16 @@ def test_a_damaged_file(asked, folder, command):
 
 
 @needs("exiftool")
+def test_index_names_damaged_files(asked, folder):
+    (folder / "p/cut.jpg").write_bytes(GOOD[:30])
+    (folder / "p/open.jpg").write_bytes(GOOD[:2] + app1(exif(b"abc")) + b"\xff\xe1\xff\xff")
+    lines = asked("index", "p", "--catalogue", "c")
+    assert sorted(it.partition(": ")[0] for it in lines if ": not wholly read: " in it) == [
+        f"{folder}/p/{it}.jpg" for it in ("cut", "open")
+    ]
+
+
+@needs("exiftool")
 def test_a_copy_of_a_damaged_file_is_not_mended(asked, folder):
     (folder / "cut.jpg").write_bytes(GOOD[:30])
     assert "not wholly read" in asked("mend", "cut.jpg", "copy.jpg", status=2)[1]

@@ -14,6 +14,7 @@ from typing import Any, Dict, List, Optional, Sequence, Union
 
 from ..catalogue.records import WORDS, Block, PictureRecord
 from ..compare.verdicts import ACCEPTED
+from ..extract.formats.found import damage
 from ..refusals.steps import loses, words
 
 Members = Dict[str, Any]  # of a JSON object
@@ -112,7 +113,7 @@ DAMAGED = {"File is empty": "the file is empty", "Entire file is binary zeros": 
 
 
 def record_lines(it: PictureRecord) -> List[str]:
-    """Lines for a picture with a problem: the problem, the refusal of a block, or its unread parts."""
+    """Lines for a picture with a problem: the problem, the refusal of a block, or what is left of a damaged file."""
     if it.problem is None and not it.not_read and all(one.status == ACCEPTED for one in it.blocks):
         return []
     name = shown_path(it.path)
@@ -120,6 +121,7 @@ def record_lines(it: PictureRecord) -> List[str]:
     if it.problem and it.problem != "NoPicture":
         lines.append(f"{name}: {it.problem}: {it.detail}")
     lines += [f"{name}: {one.name}: {refused_line(one)}" for one in it.blocks if one.status != ACCEPTED]
+    lines += [f"{name}: not wholly read: {what}" for what in damage(one.what for one in it.not_read)]
     if it.problem == "NoPicture" and it.detail in DAMAGED:
         lines.append(f"{name}: NoPicture: {DAMAGED[it.detail]}")
     return lines
