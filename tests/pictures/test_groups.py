@@ -207,6 +207,23 @@ def test_names_of_one_file_are_links(asked, folder):
     assert "deletes the picture" in how["linked/a.jpg"] and "deletes the picture" in how["linked/sub/copy.jpg"]
 
 
+@pytest.mark.parametrize("kind", [[], ["--kind", "pixels"]], ids=["all", "pixels"])
+def test_groups_of_which_all_files_are_gone(called, folder, kind):
+    """As where a disk isn't mounted: no group may seem to be none at all."""
+    (folder / "p").mkdir()
+    for name in "abc":
+        (folder / f"p/{name}.jpg").write_bytes(jpeg(app1(exif(b"abc" if name < "c" else b"c"))))
+    assert called("index", "p", "--catalogue", "c", "--quiet", "--pixels")[0] == 0
+    assert json.loads(called("same", "--catalogue", "c", "--json", *kind)[1].splitlines()[-1])["absent_groups"] == 0
+    (folder / "p").rename(folder / "q")
+    words = "1 more is not listed, because its files are gone or have changed since they were indexed"
+    assert words in called("same", "--catalogue", "c", *kind)[1].splitlines()
+    assert called("same", "--catalogue", "c", "--csv", *kind)[2] == f"exifnorm-pictures: note: {words}\n"
+    assert json.loads(called("same", "--catalogue", "c", "--json", *kind)[1])["absent_groups"] == 1
+    assert called("report", "--catalogue", "c", "--html", "page")[0] == 0
+    assert "No two pictures have the same metadata" not in (folder / "page").read_text()
+
+
 def test_files_that_are_gone_or_have_changed(asked, folder):
     (folder / "p").mkdir()
     for name in "abcd":

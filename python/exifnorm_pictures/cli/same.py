@@ -61,7 +61,11 @@ def run(arguments: argparse.Namespace) -> int:
             left = 0 if arguments.kind == PIXELS else groups.left_out(catalogue, kinds, only)
             if arguments.json:
                 totals = {"groups": sum(listed.values()), "pictures": sum(grouped.values()), "undecided": left}
-                print_object("same", "summary", {**totals, "small_groups": fewest.small, "maker_notes_unknown": dict(unknown)})
+                print_object(
+                    "same",
+                    "summary",
+                    {**totals, "small_groups": fewest.small, "absent_groups": fewest.absent, "maker_notes_unknown": dict(unknown)},
+                )
             else:
                 _print_totals(listed, grouped, left, fewest)
                 if unknown:
@@ -70,8 +74,9 @@ def run(arguments: argparse.Namespace) -> int:
                     print_line(BY_LISTING)
                 if arguments.kind == PIXELS:
                     _print_without_digest(groups.without_coded_picture(catalogue, only)[1])
-        elif unknown:
-            signals.say(f"exifnorm-pictures: note: {of_unknown(unknown)}")
+        else:
+            for note in [of_unknown(unknown)] * bool(unknown) + [_of_absent(fewest.absent)] * bool(fewest.absent):
+                signals.say(f"exifnorm-pictures: note: {note}")
         say_unseen(choice, "of the catalogue")
         say_unknown(chosen or (), catalogue.has)
     return UNKNOWN if unknown else _status(results)
@@ -108,7 +113,7 @@ def _groups(
     if count:
         have = "1 picture has" if count == 1 else f"{count:,} pictures have"
         raise NoDigests(f"{have} no digest of the coded picture yet: `index --pixels` adds it")
-    return groups.of_coded_pictures(catalogue, only, not arguments.no_look)
+    return groups.of_coded_pictures(catalogue, only, not arguments.no_look, fewest)
 
 
 # Lines
@@ -124,9 +129,16 @@ def _print_totals(listed: "Counter[str]", grouped: "Counter[str]", left: int, fe
         print_line(
             f"{fewest.small} more, of pictures with fewer than {fewest.fields} fields, {'are' if fewest.small > 1 else 'is'} not listed"
         )
+    if fewest.absent:
+        print_line(_of_absent(fewest.absent))
     if left:
         why = "can't be the same by meaning: a block is refused or unreadable, or a part was not read"
         print_line(f"{left} picture{'s' * (left > 1)} {why}")
+
+
+def _of_absent(count: int) -> str:
+    one = count == 1
+    return f"{count:,} more {'is' if one else 'are'} not listed, because {'its' if one else 'their'} files are gone or have changed since they were indexed"
 
 
 def _print_without_digest(count: int) -> None:

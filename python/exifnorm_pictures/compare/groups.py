@@ -203,10 +203,11 @@ def _queries(kinds: Sequence[str], only: Optional[str]) -> Iterator[_Query]:
 
 @dataclass
 class Fewest:
-    """The least number of fields of a group's pictures, and how many groups have fewer."""
+    """The least number of fields of a group's pictures, and how many groups aren't listed."""
 
     fields: int = 0
-    small: int = 0
+    small: int = 0  # groups with fewer fields
+    absent: int = 0  # those of which all files, or all but one, are gone or have changed
 
     def is_enough(self, catalogue: Catalogue, group: Group, choice: Choice) -> bool:
         """Whether the pictures of a group have so many fields, or nobody knows how many. The fields of one picture are counted."""
@@ -251,7 +252,7 @@ def groups(
     fewest = fewest or Fewest()
     yielded = 0
     readings = Readings(catalogue, look, Counter() if unknown is None else unknown)
-    for group in _all_groups(catalogue, _queries(counted, only), counted, readings, _table(catalogue, choice)):
+    for group in _all_groups(catalogue, _queries(counted, only), counted, readings, _table(catalogue, choice), fewest):
         if fewest.is_enough(catalogue, group, choice):
             yield group
             yielded += 1
@@ -269,10 +270,10 @@ def _table(catalogue: Catalogue, choice: Choice) -> str:
     return COUNTED
 
 
-def of_coded_pictures(catalogue: Catalogue, only: Optional[str] = None, look: bool = True) -> Iterator[Group]:
+def of_coded_pictures(catalogue: Catalogue, only: Optional[str], look: bool, fewest: Fewest) -> Iterator[Group]:
     """The groups of files with the same coded picture, the largest first."""
     query = _Query(CODED_PICTURE, ("coded_picture",), _coded("!= ''", only))
-    return _all_groups(catalogue, [query], KINDS, Readings(catalogue, look, Counter()), "pictures")
+    return _all_groups(catalogue, [query], KINDS, Readings(catalogue, look, Counter()), "pictures", fewest)
 
 
 def without_coded_picture(catalogue: Catalogue, only: Optional[str] = None) -> Tuple[int, int]:
@@ -285,7 +286,9 @@ def _coded(words: str, only: Optional[str]) -> str:
     return f"problem IS NULL AND coded_picture {words}" + (f" AND path IN {only}" if only else "")
 
 
-def _all_groups(catalogue: Catalogue, queries: Iterable[_Query], kinds: Sequence[str], readings: Readings, table: str) -> Iterator[Group]:
+def _all_groups(
+    catalogue: Catalogue, queries: Iterable[_Query], kinds: Sequence[str], readings: Readings, table: str, fewest: Fewest
+) -> Iterator[Group]:
     """The groups of the pictures in a table."""
     look = readings.look
     folders = Folders() if look and catalogue.has_sidecars() else None
@@ -305,6 +308,7 @@ def _all_groups(catalogue: Catalogue, queries: Iterable[_Query], kinds: Sequence
                 continue
             found = catalogue.rows(rows, (*row, *row), picture_of_row)
             group = _there(query.basis, tuple(kinds), found, look, folders)
+            fewest.absent += query.basis in (MEANING, BYTES, CODED_PICTURE) and group.count < 2 and bool(group.gone or group.changed)
             group.has_choice = table == COUNTED
             group.is_partial = meanings > 1 or places > 1
             group.basis = FIELDS if group.is_partial and query.basis == MEANING else query.basis

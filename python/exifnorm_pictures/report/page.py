@@ -203,7 +203,8 @@ def _groups(found: Gathered) -> str:
     small = small_pictures([path for _, _, pictures in found.groups for path in pictures])
     parts = ["<section><h2>Pictures with the same metadata</h2>"]
     if not found.groups:
-        parts.append("<p>No two pictures have the same metadata.</p>")
+        are_absent = "None is listed: the files are gone or have changed since they were indexed."
+        parts.append(f"<p>{are_absent if found.all_groups[0] else 'No two pictures have the same metadata.'}</p>")
     for count, sentence, pictures in found.groups:
         parts.append(f'<div class="group"><h3>{count:,} pictures <span class="note">{_text(sentence)}</span></h3><ul class="small">')
         for path in pictures:
