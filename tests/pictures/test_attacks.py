@@ -1,4 +1,4 @@
-"""Pictures, catalogues and folders that mean harm: each command ends within 60 seconds of a processor and 256 MB, without other programs."""
+"""Pictures, catalogues and folders that mean harm: each command ends within 50 seconds of a processor and 256 MB, without other programs."""
 
 import json
 import os
@@ -18,7 +18,7 @@ from attacks import FILES
 from made_files import app1, app1_xmp, exif, jpeg, packed_zeros, title
 from studio import TOP, Studio, write
 
-SECONDS, MEMORY = 60, 256 << 20  # none takes a tenth of this time; one that goes through its data again and again takes far more
+SECONDS, MEMORY = 50, 256 << 20  # none takes a tenth of this time; one that goes through its data again and again takes far more
 GUARD = 120, 3 << 30  # what ends a process, so that a fault harms nothing else
 
 # Runs commands, each in a process of its own, which a first one forks: to start Python takes longer than most commands. Each writes what

@@ -77,6 +77,17 @@ def test_the_samples(exported):
     assert set(asked(base, query)) == expected
 
 
+def test_files(exported, folder):
+    """What the file system has of them, and their formats."""
+    files = {"a.jpg": (jpeg(), "JPEG"), "b.gif": (gif(), "GIF")}
+    put(folder / "p", {name: octets for name, (octets, _) in files.items()})
+    for name in files:
+        os.utime(folder / "p" / name, (0, 10**9))
+    found = asked(exported("p"), "SELECT path, folder, type, size, modified FROM pictures ORDER BY path")
+    rest = [(str(folder / "p" / name), str(folder / "p"), kind, len(octets)) for name, (octets, kind) in files.items()]
+    assert found == [(*it, "2001-09-09 01:46:40") for it in rest]
+
+
 def test_coded_pictures(exported, folder):
     """Files have the same value exactly if they have the same coded picture, and none if it isn't known."""
     other = SMALL_JPEG.replace(b"\xff\xdb\0\x43\0", b"\xff\xdb\0\x43\1", 1)  # another table of quantization
