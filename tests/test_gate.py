@@ -15,7 +15,7 @@ TOP = Path(__file__).resolve().parent.parent
 COMMANDS = {
     "rt": "echo 'rt: px_cli proved'; echo '16 passed, 0 failed'",
     "make": "printf '#!/bin/sh\\necho exifnorm 1.0.0\\n' >out/exifnorm; chmod +x out/exifnorm; ls out/proved-since; echo $EXIFNORM_PROVED",
-    "python3": "echo sums",
+    "python3": 'case "$*" in *--unchanged) exit 1 ;; esac; echo sums',
     "tests-python": '[ "$1" = -c ] || { echo "$@"; echo "5 passed, 0 failed"; }',
 }
 
@@ -81,6 +81,19 @@ def test_no_test_runs_over_what_is_not_proved(gate, command, script):
     ran = call(gate)
     assert (ran.returncode, last_line(ran)) == (1, "0 passed, 1 failed"), ran
     assert "-m pytest" not in ran.stdout
+
+
+UNCHANGED = 'case "$*" in *--unchanged) exit 0 ;; esac; echo sums'
+
+
+@pytest.mark.parametrize("in_ci", [False, True])
+def test_what_was_proved_is_not_proved_again_but_in_ci(gate, monkeypatch, in_ci):
+    monkeypatch.setenv("CI", "true" if in_ci else "")
+    put(gate, python3=UNCHANGED, rt="echo 'rt: px_cli NOT PROVED'; exit 1")
+    (gate / "out").mkdir()
+    (gate / "out" / "proved-since").write_text("of an earlier run", encoding="ascii")
+    ran = call(gate)
+    assert (ran.returncode, last_line(ran)) == ((1, "0 passed, 1 failed") if in_ci else (0, "5 passed, 0 failed")), ran
 
 
 def test_a_failed_test(gate):

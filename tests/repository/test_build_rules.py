@@ -236,6 +236,37 @@ def test_nothing_counts_as_just_proved_after_a_change(room):
         room.is_proved()
 
 
+def has_passed(room: Room) -> bool:
+    """Whether `rt ci` need not be called again."""
+    return room.call("-B", str(room.top / "build" / "gate.py"), "--unchanged", program=sys.executable).returncode == 0
+
+
+def test_rt_ci_is_called_again_after_any_change_of_what_it_reads(room):
+    room = levels(room)
+    edit, source, handles = room.top / "crates/px_low/must-fail/less.edit", room.top / "crates/px_aside/src/lib.rt", room.top / "HANDLES"
+    edit.parent.mkdir()
+    cases = {
+        "no run": lambda: room.mark.unlink(),
+        "a source of any crate": lambda: source.write_text("two"),
+        "a source that was touched": lambda: source.touch(),
+        "an edit that must be refused": lambda: edit.write_text("two"),
+        "one that was touched": lambda: edit.touch(),
+        "one more": lambda: edit.with_name("more.edit").touch(),
+        "what a program must print": lambda: (room.top / "crates/px_high/stdout").write_text("two"),
+        "the permissions": lambda: handles.write_text("two"),
+        "another toolchain": lambda: (room.folder / "version").write_text("toolchain 2\n"),
+    }
+    for what, change in cases.items():
+        for it in (edit, source, handles):
+            it.write_text("one")
+        room.is_proved()
+        assert has_passed(room), f"it is called again before {what}"
+        (room.top / "crates/px_low/out/made").touch()  # which it writes, and doesn't read
+        assert has_passed(room), "it is called again for its own output"
+        change()
+        assert not has_passed(room), what
+
+
 def add_to_an_old_library(room: Room, library: Path) -> None:
     """Makes a later mark and the libraries again, but this one, to which a file is added."""
     tick(room.mark, room.mark.touch, library / "checked")
