@@ -145,7 +145,6 @@ class Room:
 
     def rows_of(self, call: Callable[..., int], octets: bytes, limit: int) -> Rows:
         """The rows of a call, of which no more than so many fit."""
-        self._count.value = 0
         status = call(octets, len(octets), self._start, limit, *self._outputs)
         count = self._count.value
         if status == _DONE:
