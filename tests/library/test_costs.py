@@ -299,18 +299,22 @@ PARTS = {
     "extended XMP": ("jpeg_parts", segment(0xE1, b"http://ns.adobe.com/xmp/extension/\0" + bytes(100)), 320),
     "resources": ("photoshop_resources", b"8BIM\4\4\0\0\0\0\0\x02ab", 139),
     "comments in two pictures": ("jpeg_same", segment(0xFE, b"comment"), 1_430),
-    "resources in two pictures": ("jpeg_same", segment(0xED, b"Photoshop 3.0\0" + b"8BIM\4\x22\0\0\0\0\0\x02ab"), 2_841),
-    "XMP in two pictures": ("jpeg_same", segment(0xE1, b"http://ns.adobe.com/xap/1.0/\0" + bytes(100)), 3_480),
+    "resources in two pictures": (
+        "jpeg_same",
+        segment(0xED, b"Photoshop 3.0\0" + b"8BIM\4\x22\0\0\0\0\0\x02ab") + segment(0xFE, b""),
+        4_365,
+    ),
+    "XMP in two pictures": ("jpeg_same", segment(0xE1, b"http://ns.adobe.com/xap/1.0/\0" + bytes(100)), 2_835),
     "long resources": ("photoshop_resources", b"MeSa\4\4\0\0\0\0\x10\0" + bytes(4096), 184),
 }
 
 
 @pytest.mark.parametrize("call, one, most", PARTS.values(), ids=PARTS)
 def test_instructions_for_each_part(costs, call, one, most):
-    """However many there are; and with no allocation, but for the pieces of two pictures."""
+    """However many there are, and with no allocation."""
     ends = (b"", b"") if call == "photoshop_resources" else (b"\xff\xd8", b"\xff\xd9")
     few, many = (ends[0] + one * count + ends[1] for count in (100, 1100))
     counts = costs.counts(call, many)
-    assert (counts.peak, counts.allocations, counts.asked) == (0, 0, 0) or call == "jpeg_same"
+    assert (counts.peak, counts.allocations, counts.asked) == (0, 0, 0)
     each = (costs.instructions(call, many) - costs.instructions(call, few)) / 1000
     assert most / 2 <= each <= most, f"{each:.1f} instructions for each"
