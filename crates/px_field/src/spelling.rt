@@ -1,7 +1,7 @@
 // Values as bytes, in either byte order.
 ghost use Rattle.std.specs.Prelude.{◌≡◌, ◌<◌, ◌≤◌, ◌+◌, ◌++◌, ◌*◌, length, take, drop, Some, slice_get, OnOk, OnErr, IsOk, vec_len};
 ghost use Rattle.std.specs.Prelude.{vec_capacity};
-ghost use Rattle.px_bytes.specs.Lacking.{Lacks};
+ghost use Rattle.px_bytes.specs.Lacking.{Lacks, AsksAtMost, enlarged};
 ghost use Rattle.px_field.specs.declared.forms.Element.{Element};
 ghost use Rattle.px_bytes.specs.Numbers.{spelling};
 ghost use Rattle.px_field.specs.Forms.{size};
@@ -35,7 +35,8 @@ pub fn append_value(order: Order, value: &Value, out: &mut Vec<u8>) -> Result<()
 }
 
 /// Appends the encoding of the value in `order`: `size` bytes. `Err`: an allocation failed, and the vector's
-/// items are unchanged. It allocates only if the vector has too little capacity.
+/// items are unchanged. It allocates only if the vector has too little capacity, and asks for the new capacity:
+/// the bytes that are needed, or twice the old capacity if that is more.
 pub fn append_value_in(
     memory: &mut Memory,
     order: Order,
@@ -46,6 +47,9 @@ pub fn append_value_in(
     ensures failed { OnErr result (out.new.items ≡ out.old.items) }
     ensures room { vec_len out.old + length (spelled order value.now) ≤ vec_capacity out.old → IsOk result }
     ensures memory { Lacks result memory.old memory.new }
+    ensures fits { vec_len out.old + length (spelled order value.now) ≤ vec_capacity out.old → memory.new.asked ≡ memory.old.asked }
+    ensures asked { AsksAtMost (enlarged (vec_capacity out.old) (vec_len out.old + length (spelled order value.now)))
+        memory.old memory.new }
 {
     if let Some(bytes) = value.in_order(order) {
         return memory.extend_from_slice(out, bytes);
@@ -65,6 +69,7 @@ fn append_elements(
     ensures ok { IsOk result }
     ensures done { out.new.items ≡ out.old.items ++ spelled order value.now }
     ensures memory { memory.new.refusals ≡ memory.old.refusals }
+    ensures asked { memory.new.asked ≡ memory.old.asked }
 {
     let mut piece = [0; 8];
     for i in 0..value.count() {

@@ -10,4 +10,5 @@ invariant-loop-i l = record {
   len : vec_len l.out ≡ vec_len l.fn.out + l.i * size (form_in l.value.kind);
   room : vec_len l.fn.out + length l.value.elements * size (form_in l.value.kind) ≤ vec_capacity l.out;
   memory : l.memory.refusals ≡ l.fn.memory.refusals;
+  asked : l.memory.asked ≡ l.fn.memory.asked;
 }
