@@ -105,8 +105,10 @@ ALLOCATES = re.compile(
     r"(?<!\bmemory)\.(?:extend_from_slice|insert|push|push_str|reserve|reserve_exact|resize)\((?!memory\b)"
 )
 
+FOR_TESTS = ("px_calls", "px_devices", "px_picture_calls")  # crates
+
 # The functions that call what allocates and are none of `Memory`: those over clap, which takes no `Memory`, and the one that copies the
-# program's arguments. px_devices and px_calls are only for tests.
+# program's arguments.
 GROWERS = {
     "crates/px_cli/src/main.rt: given",
     "crates/px_words/src/grammar.rt: bare",
@@ -201,7 +203,7 @@ def test_only_listed_functions_make_memory_otherwise():
         if compiled is not None:
             both = lowered.with_variant(compiled)
             makers |= {place_of(crate, it) for it in lowered.makers(compiled) if it not in both}
-        elif crate != "px_calls":
+        elif crate not in FOR_TESTS:
             makers |= {
                 f"{path}: {name}"
                 for path, name, _, parameters, body in found
@@ -221,7 +223,7 @@ def test_no_function_calls_one_with_memory_of_its_own():
     for crate, functions_of in crates():
         if libraries[crate]:
             found.update(lowered.callers(libraries[crate], with_own))
-        elif crate != "px_calls" and with_own:
+        elif crate not in FOR_TESTS and with_own:
             found.update({f"{path}: {name}": call for path, name, _, _, body in functions_of if (call := named.findall(body))})
     assert found == {}
 
@@ -229,7 +231,7 @@ def test_no_function_calls_one_with_memory_of_its_own():
 def growers():
     """The functions that call what allocates, but those of `Memory` and of crates for tests."""
     for crate, found in crates():
-        if crate in ("px_calls", "px_devices"):
+        if crate in FOR_TESTS:
             continue
         compiled = lowered.functions(crate)
         if compiled is None:

@@ -1,7 +1,7 @@
 //! Tests of the libraries' public calls that only a caller in Rattle can make: values built or appended by
-//! hand, plans, pictures, two files in memory at once, and flushes. They are in one crate because a crate with
-//! tests is proved twice, with and without them; so no other crate has tests, and these share a fake writer.
-//! Neither the program nor the C library uses this crate.
+//! hand, plans, two files in memory at once, and flushes. They are in one crate because a crate with tests is
+//! proved twice, with and without them; so no other crate but px_picture_calls has tests, and these share a fake
+//! writer. Neither the program nor the C library uses this crate.
 #![tactic(auto)]
 
 #[cfg(test)]
@@ -17,12 +17,6 @@ mod iim_tests;
 #[cfg(test)]
 mod jobs_tests;
 #[cfg(test)]
-mod jpeg_tests;
-#[cfg(test)]
 mod layout_tests;
-#[cfg(test)]
-mod pictures;
-#[cfg(test)]
-mod pictures_tests;
 #[cfg(test)]
 mod tree_tests;

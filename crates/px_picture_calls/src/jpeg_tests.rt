@@ -1,6 +1,5 @@
 // px_jpeg: what the C library doesn't call: the pieces of a head, and where a piece of extended XMP belongs.
-use crate::built::{CAPTION, EXIF};
-use crate::pictures::{APP1, APP13, RESOURCE, picture};
+use crate::pictures::{APP1, APP13, CAPTION, EXIF, RESOURCE, picture};
 use px_jpeg::{Extended, Kind, Part, Piece, read_extended, read_head, store_pieces};
 use std::test::Fail;
 

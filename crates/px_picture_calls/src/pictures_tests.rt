@@ -1,7 +1,5 @@
-// px_pictures: the blocks of a picture, whether two pictures have the same, and the first fault of two. Neither the
-// program nor the C library uses that crate.
-use crate::built::{CAPTION, EXIF};
-use crate::pictures::{APP1, APP13, RESOURCE, picture};
+// px_pictures: the blocks of a picture, whether two pictures have the same, and the first fault of two.
+use crate::pictures::{APP1, APP13, CAPTION, EXIF, RESOURCE, picture};
 use px_bytes::{Cause, Memory};
 use px_jpeg::{Cause as HeadCause, HeadFault};
 use px_pictures::{BlockKind, Fault, PictureFault, Side, metadata_of_in, same_metadata};
