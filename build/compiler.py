@@ -10,7 +10,7 @@ import subprocess
 import sys
 from pathlib import Path
 from threading import Lock
-from typing import IO, Any
+from typing import IO, Any, Sequence
 
 from crates import Crates
 
@@ -84,9 +84,11 @@ class Compiler:
             return [*words, "--toolchain", f"{self.kit}/toolchain", "--backend", "llvm", *self.kind(crate)]
         return [*words, "--statements"]
 
-    def check(self, crate: str, kept: Path) -> list[str]:
-        """The call that proves a crate and builds nothing. It takes what an earlier one kept in a folder, and keeps there what it proves."""
-        return [f"{self.kit}/bin/rattle", "check", *self.given(crate, 1), "--incremental", str(kept), *self.kind(crate)]
+    def start(self, crate: str, functions: Sequence[str]) -> list[str]:
+        """The call that lets the search alone prove functions. It takes the contracts of those that they call as they are, and writes the
+        goals that the search does not prove into files of the crate's folder proofs/."""
+        words = [f"{self.kit}/bin/rattle", "check", *self.given(crate, 1), *self.kind(crate)]
+        return [*words, *(word for it in functions for word in ("--start", it))]
 
     def link(self, made: Path, program: Path, log: IO[str]) -> int:
         """Links a program with the C library."""

@@ -15,12 +15,10 @@ from planting import Misspelled, changed, with_sibling
 from store import scripts_sum
 
 HERE = Path(__file__).resolve().parent
-Table = List[List["Body"]]  # the bodies beside functions, and then groups of changed functions
-FUNCTION = re.compile(r"^(?:fn|impl) [^\s:]+::(\S+): (.*)$", re.M)
-WAITS = re.compile(r"it calls .* not proved|it waits for the proof")
-LACKING = re.compile(r"`search` did not prove (.*)")
-REFUSED = re.compile(r"^\./proofs/(\S+)/\w+\.antt:\d+:\d+: error: `([^`]+)`(.*(?:\n +.*)*)", re.M)  # with the lines that go on
-NAMELESS = re.compile(r"has no field `|has no `[^`]+` that can be named")  # of a proof by hand that names what the changed body lacks
+Table = List[List["Body"]]  # groups, each for a copy of the crate
+WROTE = re.compile(r"^wrote \./proofs/(\S+)/\w+\.antt$", re.M)  # with the goals that are left
+PROVED = re.compile(r"^note: `\w+::(\S+)` needs no (?:other )?file", re.M)
+HOLE = re.compile(r"^(?:pub )?(\S+)(?: \S+)* = \?$", re.M)  # the answer of a goal that is left
 
 
 @dataclass(frozen=True)
@@ -28,7 +26,8 @@ class Body:
     """A wrong body, the function that must be refused then, and its goals that must not be proved.
 
     A body with a number is that of one more function, beside the one that is named. The number is in the other one's name. Without a number
-    the function itself is changed. The control has a harmless change, or a harmless body.
+    the function itself is changed. The control has a harmless change, or a harmless body. If clauses are named, the function that is beside
+    ensures these alone.
     """
 
     why: str
@@ -38,6 +37,7 @@ class Body:
     changes: Sequence[Sequence[str]] = ()
     body: str = ""
     control: str | Sequence[Sequence[str]] = ()
+    clauses: Sequence[str] = ()
     number: int = 0
 
     @property
@@ -52,17 +52,28 @@ class Body:
         return replace(self, changes=self.control, control=())
 
     def plant(self, folder: Path) -> None:
-        """Changes the file in a copy of the crate."""
-        path = folder / self.file
+        """Changes the file in a copy of the crate. Of a proof by hand only the invariants of loops are kept, which a function with a changed
+        body gets too."""
+        path, proofs = folder / self.file, folder / "proofs"
         text = path.read_text(encoding="utf-8") if path.is_file() else ""
+        old, new = (it.replace("::", "/") for it in (self.function, self.planted))
+        if not self.number:
+            path.write_text(changed(text, self.changes), encoding="utf-8")
+            (proofs / old / "Answers.antt").unlink(missing_ok=True)
+            return
         name = self.function.rpartition("::")[2]
-        text = with_sibling(text, name, self.number, self.changes, self.body) if self.number else changed(text, self.changes)
-        path.write_text(text, encoding="utf-8")
+        path.write_text(with_sibling(text, name, self.number, self.changes, self.body, self.clauses), encoding="utf-8")
+        invariants = proofs / old / "Invariants.antt"
+        if self.changes and invariants.is_file():
+            (proofs / new).mkdir()
+            given, other = (it.replace("/", ".") for it in (old, new))
+            text = invariants.read_text(encoding="utf-8").replace(f".proofs.{given}.", f".proofs.{other}.")
+            (proofs / new / "Invariants.antt").write_text(text, encoding="utf-8")
 
 
 def body_of(entry: Any, number: int) -> Body:
     """A row of a table."""
-    wanted = {"why", "file", "function", "goals", *({"body"} & set(entry) if number else ()), *({"control"} & set(entry))}
+    wanted = {"why", "file", "function", "goals", *({"body", "clauses"} & set(entry) if number else ()), *({"control"} & set(entry))}
     wanted |= set() if "body" in wanted else {"changes"}
     if set(entry) != wanted or not all(entry.values()):
         raise Misspelled(f"{entry} must have the members {sorted(wanted)}, none of them empty")
@@ -70,12 +81,13 @@ def body_of(entry: Any, number: int) -> Body:
 
 
 def read_table(path: Path) -> Table:
-    """The groups of a table: first the bodies of functions beside the named ones, and then those of changed functions."""
+    """The groups of a table: the bodies of `beside` and `in place` are one, and each of `apart` is a group by itself."""
     table = json.loads(path.read_text(encoding="utf-8"))
-    if set(table) != {"beside", "in place"} or not table["beside"] or not all(table["in place"]):
-        raise Misspelled(f"{path.name} is empty, or a group of it is")
+    if not {"beside"} <= set(table) <= {"beside", "in place", "apart"} or not all(table.values()):
+        raise Misspelled(f"{path.name} has other lists than beside, in place and apart, or an empty one")
     beside = [body_of(it, number) for number, it in enumerate(table["beside"], 1)]
-    return [beside, *([body_of(it, 0) for it in group] for group in table["in place"])]
+    in_place, apart = ([body_of(it, 0) for it in table.get(name, ())] for name in ("in place", "apart"))
+    return [[*beside, *in_place], *([it] for it in apart)]
 
 
 def without_control(table: Table, proofs: Path) -> list[str]:
@@ -86,51 +98,35 @@ def without_control(table: Table, proofs: Path) -> list[str]:
 
 @dataclass(frozen=True)
 class Verdict:
-    """What a check found of a crate: the refused functions with their goals, those that wait for one of these, and those that are proved."""
+    """What the search found of the planted functions: the goals of each that it did not prove, and the functions that it proved."""
 
-    refused: dict[str, set[str]]
-    waiting: set[str]
+    left: dict[str, set[str]]
     proved: set[str]
 
     @classmethod
-    def read(cls, text: str) -> Verdict:
-        """Reads what the compiler printed. An error of a name says nothing of a goal."""
-        refused, waiting, proved = {}, set(), set()
-        errors = [(path, goal) for path, goal, why in REFUSED.findall(text) if not NAMELESS.search(why)]
-        for name, outcome in FUNCTION.findall(text):
-            if outcome == "proved":
-                proved.add(name)
-                continue
-            if WAITS.search(outcome):
-                waiting.add(name)
-                continue
-            lacking = LACKING.search(outcome)
-            refused[name] = {*re.findall("`([^`]+)`", lacking[1] if lacking else "")}
-            refused[name] |= {goal for path, goal in errors if path == name.replace("::", "/")}
-        return cls(refused, waiting, proved)
+    def read(cls, text: str, folder: Path) -> Verdict:
+        """Reads what the compiler printed, and the files that it wrote in a copy of the crate."""
+        left = {}
+        for name in WROTE.findall(text):
+            files = [it.read_text(encoding="utf-8") for it in (folder / "proofs" / name).glob("*.antt")]
+            left[name.replace("/", "::")] = {goal for it in files for goal in HOLE.findall(it)}
+        return cls(left, {*PROVED.findall(text)})
 
     def fault(self, body: Body) -> str:
         """What is wrong with the verdict on a wrong body; nothing if it is refused for the reason that its table has."""
-        if body.planted in self.waiting:
-            return f"{body.planted} calls a function that is refused too: move it to another group"
-        if body.planted not in self.refused:
+        if body.planted in self.proved:
             return f"{body.planted} is not refused"
-        found = self.refused[body.planted]
+        found = self.left.get(body.planted, set())
         return "" if found == {*body.goals} else f"the goals of {body.planted} that are not proved are {sorted(found)}"
 
     def control_fault(self, body: Body) -> str:
-        """What is wrong with the verdict on a control. That of a sibling must be proved. A changed function may also be refused, if its
-        goals are not those of the wrong body: its proof by hand tells the two apart."""
-        if body.planted in self.proved or not body.number and self.refused.get(body.planted, {*body.goals}) != {*body.goals}:
+        """What is wrong with the verdict on a control, which must be proved."""
+        if body.planted in self.proved:
             return ""
-        return f"the control of {body.planted} is not proved: {sorted(self.refused.get(body.planted, ()))}"
-
-    def strays(self, group: Sequence[Body]) -> list[str]:
-        """The refused functions that have no wrong body."""
-        return sorted(self.refused.keys() - {it.planted for it in group})
+        return f"the control of {body.planted} is not proved: {sorted(self.left.get(body.planted, ()))}"
 
     def is_right(self, group: Sequence[Body], controls: bool = False) -> bool:
-        return not any(map(self.control_fault if controls else self.fault, group)) and not self.strays(group)
+        return not any(map(self.control_fault if controls else self.fault, group))
 
 
 class Passed:

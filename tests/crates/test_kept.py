@@ -6,6 +6,7 @@ import doctest
 import json
 from dataclasses import replace
 from pathlib import Path
+from typing import Sequence
 
 import planting
 import pytest
@@ -16,23 +17,34 @@ from prover import Prover
 from store import Store
 
 BODY = Body("it adds too little", "src/lib.rt", "sums::add", ["returns"], [["+ 2", "+ 1"]])
-OUTPUT = """./proofs/sums/add/Answers.antt:3:9: error: `returns`: the types differ
-fn px::sums::add: not proved
-fn px::sums::twice: no proof: it calls `px::sums::add`, which is not proved
-fn px::sums::zero: proved
-logic=not-proved
+OUTPUT = """wrote ./proofs/sums/add/Answers.antt
+note: `high::sums::zero` needs no other file: nothing is left to choose or to answer
+started=1
+"""
+LEFT = """use Rattle.high.proofs.sums.add.Goals as goal
+
+-- src/sums.rt:3:9
+pub returns : goal.returns
+returns c = ?
 """
 
 
 class FakeProver(Prover):
-    """It takes its verdicts from a text, and counts them."""
+    """It takes its verdicts from an output and what is left in a file, and counts them."""
 
-    output = OUTPUT
+    output, left = OUTPUT, LEFT
     checks = 0
 
-    def verdict(self, crate: str, table: Table, number: int, controls: bool) -> Verdict:
+    def verdict(self, crate: str, group: Sequence[Body]) -> Verdict:
         self.checks += 1
-        return Verdict.read(self.output)
+        return read(self.output, self.left, self.crates.top / "copy")
+
+
+def read(output: str, left: str, folder: Path) -> Verdict:
+    """The verdict where the compiler printed this, and left these goals of sums::add."""
+    (folder / "proofs" / "sums" / "add").mkdir(parents=True, exist_ok=True)
+    (folder / "proofs" / "sums" / "add" / "Answers.antt").write_text(left, encoding="utf-8")
+    return Verdict.read(output, folder)
 
 
 @pytest.fixture
@@ -48,11 +60,11 @@ def crates(tmp_path: Path) -> Crates:
 
 def prover(crates: Crates, version: str = "1") -> FakeProver:
     passed = Passed(crates.top / "out" / "bodies", crates, version)
-    return FakeProver(Store(crates, version, crates.top / "out" / "proved"), None, passed, crates.top)
+    return FakeProver(Store(crates, version, crates.top / "out" / "proved"), None, passed)
 
 
 def tried(prover: FakeProver, body: Body = BODY, controls: bool = False, again: bool = False) -> Verdict | None:
-    return prover.try_group("high", [[], [body]], 1, controls, again)
+    return prover.try_group("high", 1, [body], controls, again)
 
 
 def test_a_group_that_passed_is_not_checked_again(crates):
@@ -82,33 +94,20 @@ def test_another_toolchain_checks_again(crates):
 
 
 @pytest.mark.parametrize(
-    "output, why",
+    "output, left, why",
     [
-        (OUTPUT.replace("fn px::sums::add: not proved", "fn px::sums::add: proved"), "sums::add is not refused"),
-        (OUTPUT.replace("`returns`", "`loop-1`"), "the goals of sums::add that are not proved are ['loop-1']"),
-        (OUTPUT.replace("error: `returns`", "note: `returns`"), "the goals of sums::add that are not proved are []"),
-        # the proof by hand names what only the old body had: the goal itself was not tried
-        (OUTPUT.replace("the types differ", "record `Then1` has no field `count`"), "the goals of sums::add that are not proved are []"),
-        (OUTPUT.replace("the types differ", "record `Then1`\n  has no field `count`"), "the goals of sums::add that are not proved are []"),
-        (
-            OUTPUT.replace("sums::add: not proved", "sums::add: no proof: it calls `px::sums::zero`, which is not proved"),
-            "sums::add calls a function that is refused too: move it to another group",
-        ),
-        (OUTPUT.replace("sums::zero: proved", "sums::zero: not proved"), ""),  # another function is refused
+        (OUTPUT.replace("zero", "add"), LEFT, "sums::add is not refused"),
+        (OUTPUT, LEFT.replace("returns c", "loop-1 l"), "the goals of sums::add that are not proved are ['loop-1']"),
+        (OUTPUT, LEFT + LEFT.replace("returns c", "loop-1 l"), "the goals of sums::add that are not proved are ['loop-1', 'returns']"),
+        (OUTPUT, LEFT.replace("?", "search rules"), "the goals of sums::add that are not proved are []"),
+        (OUTPUT.replace("sums/add", "sums/other"), LEFT, "the goals of sums::add that are not proved are []"),
     ],
 )
-def test_a_wrong_verdict_is_a_fault_and_is_not_kept(crates, output, why):
+def test_a_wrong_verdict_is_a_fault_and_is_not_kept(crates, output, left, why):
     first = prover(crates)
-    first.output = output
-    verdict = tried(first)
-    assert verdict.fault(BODY) == why
-    assert why or verdict.strays([BODY]) == ["sums::zero"]
+    first.output, first.left = output, left
+    assert tried(first).fault(BODY) == why
     assert tried(prover(crates)), "it was kept"
-
-
-def test_goals_that_the_search_does_not_prove():
-    verdict = Verdict.read("fn px::sums::add: no proof: expected answers in ./sums/add; `search` did not prove `returns`, `loop-1`\n")
-    assert verdict.refused == {"sums::add": {"returns", "loop-1"}}
 
 
 @pytest.mark.parametrize("old, new", [("- 2", "- 1"), ("u32", "u64"), ("+ 2", "+ 2")], ids=["missing", "twice", "no change"])
@@ -117,29 +116,29 @@ def test_a_text_to_be_replaced_is_there_once(crates, old, new):
         replace(BODY, changes=[[old, new]]).plant(crates.folder("high"))
 
 
-def test_a_control_is_proved_or_fails_at_other_goals():
-    verdict = Verdict.read(OUTPUT)
+def test_a_control_is_proved(crates):
+    verdict = read(OUTPUT, LEFT, crates.top / "copy")
     assert verdict.control_fault(replace(BODY, function="sums::zero")) == ""
-    assert verdict.control_fault(BODY) == "the control of sums::add is not proved: ['returns']"
-    assert verdict.control_fault(replace(BODY, goals=["loop-1"])) == ""
-    assert verdict.control_fault(replace(BODY, function="sums::twice")) == "the control of sums::twice is not proved: []"
+    assert verdict.control_fault(replace(BODY, goals=["loop-1"])) == "the control of sums::add is not proved: ['returns']"
     assert verdict.control_fault(replace(BODY, function="sums::mine")) == "the control of sums::mine is not proved: []"
-
-
-def test_a_control_beside_a_function_is_proved():
-    text = OUTPUT.replace("add", "add_3")
-    body = replace(BODY, number=3, goals=["loop-1"])
-    assert Verdict.read(text).control_fault(body) == "the control of sums::add_3 is not proved: ['returns']"
 
 
 def test_controls_have_notes_of_their_own(crates):
     body = replace(BODY, control=[["+ 2", "+ 1 + 1"]])
     first = prover(crates)
-    first.output = OUTPUT.replace("add: not proved", "add: proved")
+    first.output = OUTPUT.replace("zero", "add")
     assert tried(first, body, controls=True) is not None
     assert tried(prover(crates), body, controls=True) is None
     assert tried(prover(crates), body) is not None
     assert tried(prover(crates), replace(body, control=[["+ 2", "+ 2 + 0"]])) is None, "a wrong body is tried again for its control"
+
+
+ROW = {"why": "it adds too little", "file": "src/lib.rt", "changes": [["+ 2", "+ 1"]], "function": "sums::add", "goals": ["returns"]}
+
+
+def table_of(folder: Path, lists: dict) -> Table:
+    (folder / "px.json").write_text(json.dumps(lists), encoding="utf-8")
+    return read_table(folder / "px.json")
 
 
 @pytest.mark.parametrize(
@@ -152,16 +151,55 @@ def test_controls_have_notes_of_their_own(crates):
     ids=str,
 )
 def test_a_wrong_row_of_a_table(tmp_path, change, why):
-    row = {"why": "it adds too little", "file": "src/lib.rt", "changes": [["+ 2", "+ 1"]], "function": "sums::add", "goals": ["returns"]}
-    (tmp_path / "px.json").write_text(json.dumps({"beside": [row], "in place": [[row]]}), encoding="utf-8")
-    assert [[it.planted for it in group] for group in read_table(tmp_path / "px.json")] == [
-        ["sums::add_1"],
-        ["sums::add"],
-    ]
-    for table in ({"beside": [{**row, **change}], "in place": []}, {"beside": [row], "in place": [[{**row, **change}]]}):
-        (tmp_path / "px.json").write_text(json.dumps(table), encoding="utf-8")
+    for lists in ({"beside": [{**ROW, **change}]}, {"beside": [ROW], "in place": [{**ROW, **change}]}):
         with pytest.raises(Misspelled, match=why):
-            read_table(tmp_path / "px.json")
+            table_of(tmp_path, lists)
+
+
+def test_the_groups_of_a_table(tmp_path):
+    table = table_of(tmp_path, {"beside": [ROW, ROW], "in place": [ROW], "apart": [ROW, ROW]})
+    names = [[it.planted for it in group] for group in table]
+    assert names == [["sums::add_1", "sums::add_2", "sums::add"], ["sums::add"], ["sums::add"]]
+    for lists in ({"in place": [ROW]}, {"beside": [ROW], "apart": []}, {"beside": [ROW], "others": [ROW]}):
+        with pytest.raises(Misspelled):
+            table_of(tmp_path, lists)
+
+
+INVARIANTS = "use Rattle.high.proofs.sums.add.Given as goal\n"
+
+
+@pytest.fixture
+def looping(crates: Crates) -> Path:
+    """The folder of a crate whose function has a contract of two clauses, and a loop with a proof by hand."""
+    folder = crates.folder("high")
+    text = "fn add(a: u32) -> u32\n    ensures low { result < 9 }\n    ensures odd { IsOdd result }\n{\n    a + 2\n}\n"
+    (folder / "src" / "lib.rt").write_text(text, encoding="ascii")
+    (folder / "proofs" / "sums" / "add").mkdir(parents=True)
+    (folder / "proofs" / "sums" / "add" / "Invariants.antt").write_text(INVARIANTS, encoding="ascii")
+    (folder / "proofs" / "sums" / "add" / "Answers.antt").write_text("", encoding="ascii")
+    return folder
+
+
+def test_a_sibling_has_the_named_clauses(looping):
+    replace(BODY, number=1, clauses=["odd"]).plant(looping)
+    sibling = (looping / "src" / "lib.rt").read_text(encoding="ascii").partition("add_1")[2]
+    assert sibling == "(a: u32) -> u32\n    ensures odd { IsOdd result }\n{\n    a + 1\n}\n"
+    with pytest.raises(Misspelled, match="no clauses"):
+        replace(BODY, number=2, clauses=["even"]).plant(looping)
+
+
+def test_a_sibling_with_a_changed_body_has_the_invariants(looping):
+    replace(BODY, number=1).plant(looping)
+    replace(BODY, number=2, changes=(), body="add(a)").plant(looping)
+    proofs = looping / "proofs" / "sums"
+    assert (proofs / "add_1" / "Invariants.antt").read_text(encoding="ascii") == INVARIANTS.replace("add", "add_1")
+    assert not (proofs / "add_1" / "Answers.antt").exists()
+    assert not (proofs / "add_2").exists(), "a body that calls the function has no loop"
+
+
+def test_a_changed_function_keeps_its_invariants_alone(looping):
+    BODY.plant(looping)
+    assert [it.name for it in (looping / "proofs" / "sums" / "add").iterdir()] == ["Invariants.antt"]
 
 
 @pytest.mark.parametrize("path", sorted(HERE.glob("px_*.json")), ids=lambda it: it.stem)
