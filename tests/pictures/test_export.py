@@ -254,6 +254,20 @@ def test_long_texts_of_other_files_are_null(afterwards, run):
     assert asked(base, "SELECT text FROM captions WHERE label = 'creator'") == [("Anna",)]
 
 
+@pytest.mark.parametrize("left, rows, said", [(2, 2, ""), (1, 0, "1 group is left out, because its files are gone")])
+def test_groups_whose_files_are_gone_are_counted(run, left, rows, said):
+    for name in ("a.jpg", "b.jpg"):
+        Path(name).write_bytes(jpeg(with_record(data_set(120, b"Vase"))))
+    run("index", ".", "--catalogue", "c", "--quiet")
+    if left == 1:
+        Path("b.jpg").unlink()
+    printed = run("export", "c", "t")
+    assert asked(sqlite3.connect("t"), "SELECT count(*) FROM groups") == [(rows,)]
+    assert said in printed and ("left out" in printed) == (said != "")
+    assert json.loads(run("export", "c", "t", "--json"))["absent_groups"] == 2 - left
+    assert "left out" not in run("export", "c", "t", "--no-look"), "nobody has looked at the files"
+
+
 def test_blank_comments_are_no_texts(run, folder):
     """Cameras leave room for a comment. Its file isn't read for that, which would take long in an archive."""
     from test_captions import LONG as _, UNDEFINED, block, entry, table  # noqa: F401

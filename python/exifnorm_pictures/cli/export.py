@@ -39,13 +39,17 @@ def run(arguments: argparse.Namespace) -> int:
         say_unknown(chosen or (), catalogue.has)
     counts = {name: written.counts.get(name, 0) for name in ("pictures", "fields", "captions", "conflicts", "groups")}
     if arguments.json:
-        print_object("export", "summary", {**path_members(os.fsencode(arguments.file)), "rows": counts, "texts_not_kept": work.missing})
+        left_out = {"texts_not_kept": work.missing, "absent_groups": work.fewest.absent}
+        print_object("export", "summary", {**path_members(os.fsencode(arguments.file)), "rows": counts, **left_out})
     else:
         print_line(f"{shown_path(arguments.file)}: {', '.join(f'{count:,} rows of {name}' for name, count in counts.items())}")
         if work.missing:
             which = "picture has" if work.missing == 1 else "pictures have"
             why = "too long for the catalogue, and the file is gone, has changed or wasn't looked at"
             print_line(f"{work.missing:,} {which} a text that is NULL: it is {why}")
+        if work.fewest.absent:
+            which = "group is left out, because its" if work.fewest.absent == 1 else "groups are left out, because their"
+            print_line(f"{work.fewest.absent:,} {which} files are gone or have changed since they were indexed")
     return SUCCESS
 
 

@@ -11,7 +11,7 @@ from ..catalogue.store import Catalogue
 from ..catalogue.texts import texts_of
 from ..cli.output import shown_path
 from ..compare.conflicts import ALIKE, conflicts
-from ..compare.groups import groups
+from ..compare.groups import Fewest, groups
 from ..fields.labels import LabelText
 from ..fields.listing import Field, unpacked
 from ..fields.plain_names import exact_key, group_name
@@ -30,6 +30,7 @@ class Export:
     def __init__(self, catalogue: Catalogue, tables: Tables, only: Optional[str], look: bool) -> None:
         self.catalogue, self.tables, self.only, self.look = catalogue, tables, only, look
         self.missing = 0  # pictures with a text that is neither kept nor read
+        self.fewest = Fewest()  # counts the groups that are left out
 
     def all(self, quiet: bool) -> None:
         """Adds each picture, and then the groups. Prints its progress, unless it is quiet."""
@@ -38,7 +39,7 @@ class Export:
         for count, it in enumerate(self.catalogue.pictures(self.only), 1):
             self._picture(it)
             progress.done(count)
-        for number, group in enumerate(groups(self.catalogue, only=self.only, look=self.look), 1):
+        for number, group in enumerate(groups(self.catalogue, only=self.only, look=self.look, fewest=self.fewest), 1):
             keep = group.to_keep() if self.look else None  # None too where nobody knows which to keep
             about = (number, group.basis, group.sentence())
             self.tables.add("groups", ((*about, it.id, None if keep is None else int(it is keep)) for it in group.members))
