@@ -93,10 +93,19 @@ MAKERS = {
     "crates/px_bytes/src/memory.rt: fresh",
     "crates/px_cli/src/main.rt: main",
     "crates/px_words/src/texts.rt: new",
-    "crates/px_iim/src/iim.rt: new_in",
-    "crates/px_iim/src/iim.rt: with_room",
     "crates/px_plans/src/plan.rt: new_in",
 }
+
+# The structs that keep a `Memory`. What they ask for through it is counted in no memory of their caller, unless they pass it on at their
+# end, as `Growing` does, or are the caller's own.
+KEEPERS = {
+    "crates/px_bytes/src/growing.rt: Growing",
+    "crates/px_plans/src/plan.rt: Plan",
+    "crates/px_words/src/texts.rt: Plain",
+}
+
+# A struct with a field that is a `Memory`.
+KEEPS = re.compile(r"^(?:pub(?:\(crate\))? )?struct (\w+)[^{;]*\{[^}]*?^    (?:pub(?:\(crate\))? )?\w+: (?:&\S* ?(?:mut )?)?Memory,", re.M)
 
 # A text that calls what allocates, other than a call of `Memory`.
 ALLOCATES = re.compile(
@@ -210,6 +219,12 @@ def test_only_listed_functions_make_memory_otherwise():
                 if MAKES.search(body) and not is_one_line(name.removeprefix("exifnorm_"), names_of(parameters), body)
             }
     assert makers == MAKERS
+
+
+def test_only_listed_structs_keep_memory():
+    sources = [it for it in sorted(TOP.glob("crates/*/src/*.rt")) if it.parent.parent.name not in FOR_TESTS]
+    found = {f"{path.relative_to(TOP)}: {name}" for path in sources for name in KEEPS.findall(path.read_text(encoding="utf-8"))}
+    assert found == KEEPERS
 
 
 def test_no_function_calls_one_with_memory_of_its_own():

@@ -25,8 +25,6 @@ use std::marker::Model;
 /// kept too.
 #[derive(Drop)]
 pub struct Iim<'a> {
-    // For `push`, which reports an error but counts no failed allocations.
-    own: Memory,
     // In ascending order of their groups; within a group in its order.
     items: Vec<Item<'a>>,
     // The length of the normal form in bytes, or None above twice `LIMIT`.
@@ -63,7 +61,6 @@ impl<'a> Iim<'a> {
         ensures { result ≡ [] }
     {
         Iim {
-            own: memory.fresh(),
             items: memory.list(),
             form_len: Some(0),
         }
@@ -79,24 +76,20 @@ impl<'a> Iim<'a> {
         let mut items = memory.list();
         reserve_for(memory, &mut items, count)?;
         Ok(Iim {
-            own: memory.fresh(),
             items,
             form_len: Some(0),
         })
     }
 
     // The record of DataSets that are in order, with the length of its normal form.
-    pub(crate) fn of_items(memory: &Memory, items: Vec<Item<'a>>, form_len: Option<u32>) -> Iim<'a>
+    pub(crate) fn of_items(items: Vec<Item<'a>>, form_len: Option<u32>) -> Iim<'a>
         requires order { InOrder (map dataset_view items.items) }
         requires numbers { AreNumbers (map dataset_view items.items) }
         requires whole { AreGroups (runs (map dataset_view items.items)) }
         requires counted { form_len ≡ within (length (normal_iim (runs (map dataset_view items.items)))) }
         ensures { result ≡ runs (map dataset_view items.entry.items) }
     {
-        let mut record = Iim::new_in(memory);
-        record.items = items;
-        record.form_len = form_len;
-        record
+        Iim { items, form_len }
     }
 
     /// Like `push_in`, with memory of its own.
@@ -105,7 +98,7 @@ impl<'a> Iim<'a> {
         ensures done { OnOk result (self.new ≡ put (record { rec = rec; number = number; octets = octets.now }) self.old) }
         ensures failed { OnErr result (self.new ≡ self.old) }
     {
-        let mut memory = self.own.fresh();
+        let mut memory = Memory::new(*self.items.allocator());
         self.push_in(&mut memory, rec, number, octets)?;
         Ok(())
     }
