@@ -7,7 +7,7 @@ from typing import Any, Dict, Iterator, List, NamedTuple, NoReturn, Optional, Tu
 
 from ._calls import Block
 from ._errors import HeadRefused, PictureRefused, TooMany
-from ._library import PART, RESOURCE, PictureFailure, Status, library
+from ._library import PART, PLACE, RESOURCE, PictureFailure, Status, library
 
 KINDS = ("", "exif", "photoshop", "xmp", "extended xmp")  # of parts, by the library's numbers
 BLOCK_KINDS = ("", "exif", "iim")  # the same of blocks
@@ -147,21 +147,25 @@ def jpeg_blocks(picture: Block) -> List[JpegBlock]:
     exif [Field(directory='main', tag=274, type='SHORT', values=(6,))]
     """
     octets = _bytes_of(picture)
-    whole: List[Tuple[str, List[bytes]]] = []  # the pieces of each block of Exif, and of Photoshop's resources
-    for _, kind, begins, start, size in jpeg_parts(octets):
-        if kind in ("exif", "photoshop"):
-            if begins:
-                whole.append((kind, []))
-            whole[-1][1].append(octets[start : start + size])
     found: List[JpegBlock] = []
-    for kind, pieces in whole:
-        data = b"".join(pieces)
+    for kind, data in _whole_blocks(octets):
         if kind == "exif":
             found.append(JpegBlock(kind, data))
-        else:
+        elif kind == "photoshop":
             rows = photoshop_resources(data)
             found += [JpegBlock("iim", data[start : start + size]) for number, start, size in rows if number == _IPTC and size]
     return found
+
+
+def _whole_blocks(octets: bytes) -> Iterator[Tuple[str, bytes]]:
+    """The blocks of a JPEG in their order, of any kind of part, each as one."""
+    found: Any = library().jpeg_blocks(octets)
+    if len(found) == 3:
+        _rows_of_parts(octets, len(octets))  # which raises HeadRefused with the parts before the fault
+        raise AssertionError(f"libexifnorm answered the status {found[0]}")
+    rows, joined = found
+    for kind, is_joined, start, size in PLACE.iter_unpack(rows):
+        yield KINDS[kind], (joined if is_joined else octets)[start : start + size]
 
 
 def _raise_for_pair(failure: PictureFailure) -> NoReturn:

@@ -13,7 +13,8 @@ returns a `Failure` instead:
 
 The calls for JPEGs take a number too, the most rows that they may return, and return these as the bytes of the library's structs, of which
 `PART` and `RESOURCE` have the form. Their failure also has the rows before a fault; if there are too many rows, it has their number in
-place of the offset. The comparison of two JPEGs returns a `PictureFailure` in place of a `Failure`.
+place of the offset. The call for blocks returns rows of the form `PLACE` and the joined bytes. The comparison of two JPEGs returns a
+`PictureFailure` in place of a `Failure`.
 """
 
 from __future__ import annotations
@@ -52,6 +53,7 @@ Number = Union[int, Failure]
 Pair = Union[int, PictureFailure]
 Text = Union[bytes, Failure]
 Rows = Union[bytes, Tuple[int, int, int, bytes]]
+Places = Union[Tuple[bytes, bytes], Failure]
 
 
 class Status(enum.IntEnum):
@@ -102,13 +104,25 @@ class Part(ctypes.Structure):
     ]
 
 
+class Place(ctypes.Structure):
+    """Where a block of a JPEG is."""
+
+    _fields_ = [("kind", ctypes.c_uint32), ("joined", ctypes.c_uint32), ("start", ctypes.c_size_t), ("size", ctypes.c_size_t)]
+
+
+class Sizes(ctypes.Structure):
+    """How many blocks a JPEG has, and how many bytes those in several pieces."""
+
+    _fields_ = [("blocks", ctypes.c_size_t), ("joined", ctypes.c_size_t)]
+
+
 class Resource(ctypes.Structure):
     """One of Photoshop's image resources."""
 
     _fields_ = [("number", ctypes.c_size_t), ("start", ctypes.c_size_t), ("size", ctypes.c_size_t)]
 
 
-PART, RESOURCE = Struct("IIINN"), Struct("NNN")
+PART, RESOURCE, PLACE = Struct("IIINN"), Struct("NNN"), Struct("IINN")
 _FEW = 64  # rows for which there is room at first: more than most pictures have
 
 _BLOCK = [ctypes.c_char_p, ctypes.c_size_t]
@@ -127,10 +141,19 @@ ARGUMENTS = {
     "exifnorm_jpeg_parts": [*_BLOCK, ctypes.POINTER(Part), *_ROOM, _JPEG_FAULT],
     "exifnorm_photoshop_resources": [*_BLOCK, ctypes.POINTER(Resource), *_ROOM],
     "exifnorm_jpeg_same": [*_BLOCK, *_BLOCK, _NUMBER, _PICTURE_FAULT],
+    "exifnorm_jpeg_blocks": [
+        *_BLOCK,
+        ctypes.POINTER(Place),
+        ctypes.c_size_t,
+        ctypes.POINTER(ctypes.c_char),
+        ctypes.c_size_t,
+        ctypes.POINTER(Sizes),
+        _JPEG_FAULT,
+    ],
     "exifnorm_cause_name": [ctypes.c_uint32, *_OUT],
     "exifnorm_version": _OUT,
 }
-_OF_EXTENSION = list(ARGUMENTS)[:8]
+_OF_EXTENSION = list(ARGUMENTS)[:9]
 
 
 class Room:
@@ -194,6 +217,19 @@ class ByCtypes:
         status = self._library.exifnorm_jpeg_same(*pictures, ctypes.byref(same), ctypes.byref(fault))
         return same.value if status == _DONE else (status, fault.cause, fault.kind, fault.number, fault.place)
 
+    def jpeg_blocks(self, picture: bytes) -> Places:
+        sizes, fault = Sizes(_FEW, 0), JpegFault()
+        while True:
+            room, length = sizes.blocks, sizes.joined
+            places, out = (Place * room)(), ctypes.create_string_buffer(length + 1)
+            outputs = places, room, out, length, ctypes.byref(sizes), ctypes.byref(fault)
+            status = self._library.exifnorm_jpeg_blocks(picture, len(picture), *outputs)
+            if status == _DONE:
+                return bytes(memoryview(places).cast("B")[: sizes.blocks * PLACE.size]), out.raw[: sizes.joined]
+            if status != _TOO_LITTLE_ROOM or (sizes.blocks <= room and sizes.joined <= length):
+                return status, fault.cause, fault.place
+            sizes.blocks = max(sizes.blocks, 1)
+
     def _rows(self, call: Callable[..., int], octets: bytes, most: int, kind: Type[ctypes.Structure]) -> Rows:
         """The rows of a call, which is made again if they are more than a few, and not more than so many."""
         try:
@@ -233,17 +269,18 @@ class Library:
     jpeg_parts: Callable[[bytes, int], Rows]
     photoshop_resources: Callable[[bytes, int], Rows]
     jpeg_same: Callable[[bytes, bytes], Pair]
+    jpeg_blocks: Callable[[bytes], Places]
 
     def __init__(self, place: str) -> None:
         self._library = _opened(place)
         self.by_ctypes = it = ByCtypes(self._library)
         blocks: Any = it.check, it.normalise, it.compare, it.show, it.captions
-        jpegs: Any = it.jpeg_parts, it.photoshop_resources, it.jpeg_same
+        jpegs: Any = it.jpeg_parts, it.photoshop_resources, it.jpeg_same, it.jpeg_blocks
         if _native:
             made = _native.functions(*(_address(getattr(self._library, name)) for name in _OF_EXTENSION))
             blocks, jpegs = made[:5], made[5:]
         self.check, self.normalise, self.compare, self.show, self.captions = blocks
-        self.jpeg_parts, self.photoshop_resources, self.jpeg_same = jpegs
+        self.jpeg_parts, self.photoshop_resources, self.jpeg_same, self.jpeg_blocks = jpegs
 
     def cause_name(self, cause: int) -> str:
         """The name of a cause."""

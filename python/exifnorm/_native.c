@@ -24,6 +24,9 @@ typedef uint32_t (*parts_call)(const unsigned char *, size_t, struct exifnorm_jp
 typedef uint32_t (*resources_call)(const unsigned char *, size_t, struct exifnorm_photoshop_resource *, size_t, size_t *);
 typedef uint32_t (*same_call)(const unsigned char *, size_t, const unsigned char *, size_t, uint32_t *, struct exifnorm_picture_fault *);
 
+typedef uint32_t (*blocks_call)(const unsigned char *, size_t, struct exifnorm_jpeg_block *, size_t, unsigned char *, size_t,
+                                struct exifnorm_jpeg_sizes *, struct exifnorm_jpeg_fault *);
+
 /* The module's state. */
 struct state {
     text_call normalise; /* of the library whose functions were made last; NULL if none was loaded */
@@ -39,6 +42,7 @@ struct calls {
     parts_call jpeg_parts;
     resources_call photoshop_resources;
     same_call jpeg_same;
+    blocks_call jpeg_blocks;
 };
 
 /* The bytes of a bytes object. They can't change or move while a call reads them without Python's lock. */
@@ -314,6 +318,54 @@ static PyObject *jpeg_same(PyObject *capsule, PyObject *arguments)
                          (Py_ssize_t)fault.place);
 }
 
+/* The rows of the blocks and the joined bytes. The call is made again if they are more than a few, or if there are joined bytes. */
+static PyObject *jpeg_blocks(PyObject *capsule, PyObject *argument)
+{
+    const struct calls *calls = PyCapsule_GetPointer(capsule, NULL);
+    struct exifnorm_jpeg_fault fault = {0, 0};
+    struct exifnorm_jpeg_sizes sizes = {0, 0};
+    struct exifnorm_jpeg_block few[FEW] = {{0, 0, 0, 0}}, *blocks = few;
+    unsigned char none[1] = {0}, *out = none;
+    size_t room = FEW, length = 0;
+    struct bytes picture;
+    PyObject *made = NULL;
+    uint32_t status;
+
+    if (calls == NULL || get_bytes(argument, &picture) < 0) {
+        return NULL;
+    }
+    Py_BEGIN_ALLOW_THREADS
+    status = calls->jpeg_blocks(picture.start, picture.length, blocks, room, out, length, &sizes, &fault);
+    Py_END_ALLOW_THREADS
+    if (status == EXIFNORM_TOO_LITTLE_ROOM) {
+        room = sizes.blocks > FEW ? sizes.blocks : FEW;
+        length = sizes.joined;
+        blocks = PyMem_Calloc(room, sizeof *blocks);
+        out = PyMem_Calloc(length + 1, 1);
+        if (blocks == NULL || out == NULL) {
+            PyErr_NoMemory();
+            goto end;
+        }
+        Py_BEGIN_ALLOW_THREADS
+        status = calls->jpeg_blocks(picture.start, picture.length, blocks, room, out, length, &sizes, &fault);
+        Py_END_ALLOW_THREADS
+    }
+    if (status == EXIFNORM_DONE) {
+        made = Py_BuildValue("(y#y#)", (const char *)blocks, (Py_ssize_t)(sizes.blocks * sizeof *blocks), (const char *)out,
+                             (Py_ssize_t)sizes.joined);
+    } else {
+        made = Py_BuildValue("(IIn)", (unsigned int)status, (unsigned int)fault.cause, (Py_ssize_t)fault.place);
+    }
+end:
+    if (blocks != few) {
+        PyMem_Free(blocks);
+    }
+    if (out != none) {
+        PyMem_Free(out);
+    }
+    return made;
+}
+
 static PyMethodDef of_library[] = {
     {"check", check, METH_O, "The number of a block's kind."},
     {"normalise", normalise, METH_O, "The normal form of a block."},
@@ -323,6 +375,7 @@ static PyMethodDef of_library[] = {
     {"jpeg_parts", jpeg_parts, METH_VARARGS, "The parts of a JPEG's head, at most so many."},
     {"photoshop_resources", photoshop_resources, METH_VARARGS, "Photoshop's image resources, at most so many."},
     {"jpeg_same", jpeg_same, METH_VARARGS, "1 if two JPEGs have the same Exif and IPTC, else 0."},
+    {"jpeg_blocks", jpeg_blocks, METH_O, "Where the blocks of a JPEG are, and the bytes of those in several pieces."},
 };
 #define COUNT ((Py_ssize_t)(sizeof of_library / sizeof of_library[0]))
 
@@ -348,6 +401,7 @@ static PyObject *capsule_of(const Py_ssize_t *at)
     calls->jpeg_parts = (parts_call)at[5];
     calls->photoshop_resources = (resources_call)at[6];
     calls->jpeg_same = (same_call)at[7];
+    calls->jpeg_blocks = (blocks_call)at[8];
     capsule = PyCapsule_New(calls, NULL, free_calls);
     if (capsule == NULL) {
         PyMem_Free(calls);
@@ -376,7 +430,7 @@ static PyObject *functions(PyObject *module, PyObject *arguments)
     Py_ssize_t at[COUNT];
     PyObject *capsule, *made;
 
-    if (!PyArg_ParseTuple(arguments, "nnnnnnnn:functions", &at[0], &at[1], &at[2], &at[3], &at[4], &at[5], &at[6], &at[7])) {
+    if (!PyArg_ParseTuple(arguments, "nnnnnnnnn:functions", &at[0], &at[1], &at[2], &at[3], &at[4], &at[5], &at[6], &at[7], &at[8])) {
         return NULL;
     }
     for (Py_ssize_t i = 0; i < COUNT; i++) {
@@ -424,8 +478,8 @@ static PyObject *normal(PyObject *module, PyObject *arguments, PyObject *named)
 
 static PyMethodDef methods[] = {
     {"functions", functions, METH_VARARGS,
-     "The functions check, normalise, compare, show, captions, jpeg_parts, photoshop_resources and jpeg_same that call the library's "
-     "functions at these eight addresses. Each takes bytes, jpeg_parts and photoshop_resources also the most rows, and returns its result, "
+     "The functions check, normalise, compare, show, captions, jpeg_parts, photoshop_resources, jpeg_same and jpeg_blocks that call the "
+     "library's functions at these nine addresses. Each takes bytes, jpeg_parts and photoshop_resources also the most rows, and returns its result, "
      "or a tuple of the status, the number of the cause and the offset, with jpeg_parts also the rows before the fault, and with jpeg_same "
      "the kind and the index of the block before the offset."},
     {"normal", (PyCFunction)(void (*)(void))normal, METH_VARARGS | METH_KEYWORDS,

@@ -213,9 +213,9 @@ def test_what_are_no_bytes(wrong):
 def test_calls_of_the_library(watch):
     """Each call is one of the library, and one more for each block of resources, or for more than a few parts."""
     assert watch.of(exifnorm.jpeg_parts, PICTURE) == {"jpeg_parts": 1}
-    assert watch.of(exifnorm.jpeg_blocks, PICTURE) == {"jpeg_parts": 1, "photoshop_resources": 1}
-    assert watch.of(exifnorm.jpeg_blocks, START + exif(ONE) + END) == {"jpeg_parts": 1}
-    assert watch.of(exifnorm.jpeg_blocks, START + b"x") == {"jpeg_parts": 1}
+    assert watch.of(exifnorm.jpeg_blocks, PICTURE) == {"jpeg_blocks": 1, "photoshop_resources": 1}
+    assert watch.of(exifnorm.jpeg_blocks, START + exif(ONE) + END) == {"jpeg_blocks": 1}
+    assert watch.of(exifnorm.jpeg_blocks, START + b"x") == {"jpeg_blocks": 1, "jpeg_parts": 1}
     assert watch.of(exifnorm.jpeg_parts, START + COMMENT * 1000 + END) == {"jpeg_parts": 2}
     assert watch.of(exifnorm.jpeg_parts, START + COMMENT * 1000 + END, 999) == {"jpeg_parts": 1}
     assert watch.of(exifnorm.photoshop_resources, b"") == {"photoshop_resources": 1}

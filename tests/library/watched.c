@@ -15,8 +15,8 @@
 #include <time.h>
 
 /* How often each call was made: check, normalise, compare, show, captions, cause_name, version, jpeg_parts, photoshop_resources,
- * jpeg_same. */
-unsigned long watched_calls[10];
+ * jpeg_same, jpeg_blocks. */
+unsigned long watched_calls[11];
 /* The length of the output of the calls for texts: of the last one, and of all together. */
 unsigned long watched_room, watched_rooms;
 /* The most threads that were inside such a call at once. */
@@ -135,6 +135,18 @@ uint32_t exifnorm_jpeg_same(const unsigned char *first, size_t first_length, con
     need(first, second, same, fault);
     *(void **)&call = dlsym(right, "exifnorm_jpeg_same");
     return has_status(&status) ? status : call(first, first_length, second, second_length, same, fault);
+}
+
+uint32_t exifnorm_jpeg_blocks(const unsigned char *bytes, size_t length, struct exifnorm_jpeg_block *blocks, size_t room, unsigned char *out,
+                              size_t out_length, struct exifnorm_jpeg_sizes *sizes, struct exifnorm_jpeg_fault *fault) {
+    uint32_t (*call)(const unsigned char *, size_t, struct exifnorm_jpeg_block *, size_t, unsigned char *, size_t,
+                     struct exifnorm_jpeg_sizes *, struct exifnorm_jpeg_fault *);
+    uint32_t status;
+    count_call(10);
+    need(bytes, blocks, out, sizes);
+    need(fault, fault, fault, fault);
+    *(void **)&call = dlsym(right, "exifnorm_jpeg_blocks");
+    return has_status(&status) ? status : call(bytes, length, blocks, room, out, out_length, sizes, fault);
 }
 
 uint32_t exifnorm_cause_name(uint32_t cause, char *out, size_t room, size_t *written) {

@@ -196,6 +196,36 @@ uint32_t exifnorm_jpeg_parts(const unsigned char *bytes, size_t length,       /*
                              size_t *count,                                   /* is set to their number */
                              struct exifnorm_jpeg_fault *fault);              /* is set to the cause of a refusal */
 
+/* Where a block of a picture is. */
+struct exifnorm_jpeg_block {
+    uint32_t kind;   /* EXIFNORM_JPEG_EXIF, EXIFNORM_JPEG_PHOTOSHOP, EXIFNORM_JPEG_XMP or EXIFNORM_JPEG_EXTENDED_XMP */
+    uint32_t joined; /* 0: the block has one piece, and is in the picture; 1: it has more, and is in out */
+    size_t start;    /* the byte offset of the block: in the picture, or in out */
+    size_t size;     /* the number of its bytes */
+};
+
+/* How much the blocks of a picture need. */
+struct exifnorm_jpeg_sizes {
+    size_t blocks; /* the number of blocks */
+    size_t joined; /* the number of bytes of those in several pieces */
+};
+
+/* Stores where the blocks of the picture are that begins with these bytes, in their order, as exifnorm_jpeg_parts finds their pieces.
+ * The pieces of a block in several pieces are joined in out, one such block after another. So a caller joins nothing: a block is the
+ * range of the picture, or that of out. The IPTC is in the resources 0x0404 of a block of EXIFNORM_JPEG_PHOTOSHOP:
+ * exifnorm_photoshop_resources finds them. As many bytes as the picture has are always enough for out; mostly none is used.
+ *
+ *   DONE             blocks begins with the blocks, and out with the joined bytes; sizes has their numbers. The rest of each is unchanged.
+ *   REFUSED          fault is set.
+ *   TOO_LITTLE_ROOM  sizes has the numbers that are needed: room is less than sizes.blocks, or out_length less than sizes.joined. blocks
+ *                    and out are unchanged.
+ */
+uint32_t exifnorm_jpeg_blocks(const unsigned char *bytes, size_t length,       /* the picture, or its first bytes */
+                              struct exifnorm_jpeg_block *blocks, size_t room, /* receives the blocks */
+                              unsigned char *out, size_t out_length,           /* receives the joined bytes */
+                              struct exifnorm_jpeg_sizes *sizes,               /* is set to their numbers */
+                              struct exifnorm_jpeg_fault *fault);              /* is set to the cause of a refusal */
+
 /* One of Photoshop's image resources. */
 struct exifnorm_photoshop_resource {
     size_t number; /* 0x0404: DataSets of IIM; 0x0422: Exif; 0x0424: XMP; .. */

@@ -1,4 +1,5 @@
 pub mod Numbers
 pub mod Outcomes
 pub mod Jpeg
+pub mod Blocks
 pub mod Pictures

@@ -60,7 +60,7 @@ pub(crate) fn head_cause(cause: Cause) -> u32
 }
 
 // A kind as a number.
-fn piece_kind(kind: Kind) -> u32
+pub(crate) fn piece_kind(kind: Kind) -> u32
     ensures { result ≡ piece_kind kind }
 {
     match kind {

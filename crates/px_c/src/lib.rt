@@ -18,12 +18,14 @@ ghost use Rattle.px_engine.specs.Hand.{PutsForm, IsUnwritten};
 ghost use Rattle.px_engine.specs.Input.{IsSaid};
 ghost use Rattle.px_engine.specs.Prints.{caption_text, listing};
 ghost use Rattle.px_pictures.specs.declared.faults.Side.TheVariants.{First, Second};
+ghost use Rattle.px_c.specs.Blocks.{StoresBlocks, LacksRoomForBlocks, RefusesHead};
 ghost use Rattle.px_c.specs.Jpeg.{StoresHead, StoresFront, LacksRoom, StoresResources, LacksRoomForResources};
 ghost use Rattle.px_c.specs.Numbers.{cause_name};
 ghost use Rattle.px_c.specs.Outcomes.{Refuses, PutsText, PutsSaid, IsOfKind, AreCompared};
 ghost use Rattle.px_c.specs.Pictures.{ArePicturesCompared, RefusesPicture};
 ghost use Rattle.px_c.specs.Numbers as status;
 
+mod blocks;
 mod faults;
 mod giving;
 mod jpeg;
@@ -32,6 +34,8 @@ mod over_memory;
 mod pictures;
 pub mod statuses;
 
+use blocks::put_blocks;
+pub use blocks::{ExifnormJpegBlock, ExifnormJpegSizes};
 pub use faults::ExifnormFault;
 use giving::give_text;
 pub use jpeg::{ExifnormJpegFault, ExifnormJpegPart, ExifnormPhotoshopResource};
@@ -191,6 +195,43 @@ pub extern "C" fn exifnorm_jpeg_parts(
             if put_parts(bytes, parts, count) == TOO_LITTLE_ROOM {
                 return TOO_LITTLE_ROOM;
             }
+            *fault = ExifnormJpegFault {
+                cause: head_cause(why.cause),
+                place: why.place,
+            };
+            REFUSED
+        }
+    }
+}
+
+/// Stores where the blocks of a picture are at the start of `blocks`, in order: of Exif, of Photoshop's image resources,
+/// of XMP and of extended XMP. A block of one piece is a range of the picture. Those of more pieces are joined: they are
+/// ranges of the bytes that the call writes to the start of `out`. `sizes` has the number of blocks, and that of these
+/// bytes. The picture may be its first bytes, as far as its head goes. Allocates nothing.
+///
+/// `REFUSED`: the bytes have no head, and `fault` is the first fault. `TOO_LITTLE_ROOM`: `blocks` has fewer than
+/// `sizes.blocks` elements, or `out` fewer than `sizes.joined` bytes. Only success changes `blocks` and `out`, each only
+/// as far as `sizes` says. Only success and `TOO_LITTLE_ROOM` change `sizes`. Only a refusal changes `fault`.
+#[unsafe(no_mangle)]
+pub extern "C" fn exifnorm_jpeg_blocks(
+    bytes: &[u8],
+    blocks: &mut [ExifnormJpegBlock],
+    out: &mut [u8],
+    sizes: &mut ExifnormJpegSizes,
+    fault: &mut ExifnormJpegFault,
+) -> u32
+    ensures known { (result ≡ status.done) ⊎ (result ≡ status.refused) ⊎ (result ≡ status.too_little_room) }
+    ensures done { result ≡ status.done → StoresBlocks bytes.now sizes.new blocks.old blocks.new out.old out.new }
+    ensures refused { result ≡ status.refused → RefusesHead bytes.now fault.new }
+    ensures short { result ≡ status.too_little_room → LacksRoomForBlocks bytes.now sizes.new blocks.old blocks.new out.old out.new }
+    ensures blocks { result ≢ status.done → blocks.new ≡ blocks.old }
+    ensures out { result ≢ status.done → out.new ≡ out.old }
+    ensures sizes { result ≡ status.refused → sizes.new ≡ sizes.old }
+    ensures fault { result ≢ status.refused → fault.new ≡ fault.old }
+{
+    match read_head(bytes) {
+        Ok(head) => put_blocks(&head, blocks, out, sizes),
+        Err(why) => {
             *fault = ExifnormJpegFault {
                 cause: head_cause(why.cause),
                 place: why.place,

@@ -79,17 +79,20 @@ parts_fewer p (q ∷ qs) x (a, b, w, inr i, s) =
       length-append i.fill (255 ∷ q.code ∷ i.high ∷ i.low ∷ i.octets),
     )
 
-exif_few : (b : List ℕ) (parts : List Part) → HasHead b parts → length (exif_blocks b parts) ≤ length b
-exif_few b parts h =
+pub blocks_few : (b : List ℕ) (parts : List Part) → HasHead b parts → length (blocks b parts) ≤ length b
+blocks_few b parts h =
     omega (
       arith,
-      mapped exif_in (blocks b parts),
       joined_fewer b (pieces b None parts),
       pieces_fewer b None parts,
       parts_fewer 2 parts h.spelled h.spells,
       ap length h.whole,
       length-append h.spelled h.rest,
     )
+
+exif_few : (b : List ℕ) (parts : List Part) → HasHead b parts → length (exif_blocks b parts) ≤ length b
+exif_few b parts h =
+    omega (arith, mapped exif_in (blocks b parts), blocks_few b parts h)
 
 -- ---- IPTC
 

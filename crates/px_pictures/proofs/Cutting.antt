@@ -27,6 +27,9 @@ sized b last (q ∷ qs) h = of (kind_of q.code (range b q.start q.size)) (λ l. 
     of None more = more None
     of (Some k) more = (ranged b q.start q.size (mark_len k) h.0, more (Some k))
 
+pub pieces_sized : (b : List ℕ) (qs : List Part) → AllInside b qs → AreSized b (pieces b None qs)
+pieces_sized b qs h = sized b None qs h
+
 sizes_joined : (b : List ℕ) (ps : List Piece) → AreSized b ps → sizes ps ≡ length (flat_map (piece_octets b) ps)
 sizes_joined b [] h = refl
 sizes_joined b (p ∷ ps) h = omega (arith, h.0, sizes_joined b ps h.1, length-append (piece_octets b p) (flat_map (piece_octets b) ps))
@@ -42,7 +45,7 @@ kind_begins Xmp x = refl
 kind_begins ExtendedXmp x = refl
 
 -- the first piece of a head begins a block
-first_begins : (b : List ℕ) (qs : List Part) → next_begins (pieces b None qs) ≡ true
+pub first_begins : (b : List ℕ) (qs : List Part) → next_begins (pieces b None qs) ≡ true
 first_begins b [] = refl
 first_begins b (q ∷ qs) = of (kind_of q.code (range b q.start q.size)) (first_begins b qs)
   where
@@ -155,6 +158,9 @@ rest b (p ∷ ps) h = elim (cases_Bool p.begins) [
         sized = rw goes.1 more.sized;
       }
 ]
+
+pub run_follows : (b : List ℕ) (ps : List Piece) → AreSized b ps → Rest b ps
+run_follows b ps h = rest b ps h
 
 -- a block of one piece is a range of the picture
 pub whole_next : (b x : List ℕ) (p : Piece) (ps qs : List Piece) → qs ≡ p ∷ ps → CanCut b x qs → next_begins ps ≡ true

@@ -4,5 +4,6 @@ pub mod Inside
 pub mod JudgeLaws
 pub mod PairLaws
 pub mod CountLaws
+pub mod PlaceLaws
 pub mod SameLaws
 pub mod MetadataLaws

@@ -1,4 +1,5 @@
 pub mod Metadata
+pub mod Places
 pub mod Faults
 pub mod Asking
 pub mod Same

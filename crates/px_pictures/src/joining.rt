@@ -14,7 +14,7 @@ use px_jpeg::{Head, Piece};
 const MOST_JOINED: usize = 16 * LIMIT as usize;
 
 // The next piece of a block that has more than one.
-fn next_joined(left: &mut Left) -> Option<Piece>
+pub(crate) fn next_joined(left: &mut Left) -> Option<Piece>
     ensures { MatchOption result ((joined_pieces left.old ≡ []) × (joined_pieces left.new ≡ []))
         (λ p. joined_pieces left.old ≡ p ∷ joined_pieces left.new) }
 {

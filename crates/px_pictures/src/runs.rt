@@ -17,7 +17,7 @@ pub(crate) struct Run<'b> {
 }
 
 // Passes the pieces that continue a block. Returns how many bytes they have.
-fn rest_of_run(left: &mut Left) -> usize
+pub(crate) fn rest_of_run(left: &mut Left) -> usize
     requires { run_size left.old < 2 ^ 63 }
     ensures size { result ≡ run_size left.old }
     ensures rest { left.new ≡ run_rest left.old }
