@@ -26,7 +26,7 @@ from ._calls import Block, digest, kind, normal, same, show, version
 from ._captions import Caption, captions
 from ._errors import LIMIT, HeadRefused, LibraryMissing, NormalTooLong, PictureRefused, Refused, TooMany
 from ._fields import Field, Ratio, Values
-from ._jpeg import JpegBlock, JpegPart, Resource, jpeg_blocks, jpeg_parts, jpeg_same, photoshop_resources
+from ._jpeg import JpegBlock, JpegPart, Resource, Unread, jpeg_blocks, jpeg_parts, jpeg_same, jpeg_unread, photoshop_resources
 from ._library import Status
 from ._reading import fields
 
@@ -48,6 +48,7 @@ __all__ = [
     "Resource",
     "Status",
     "TooMany",
+    "Unread",
     "Values",
     "captions",
     "digest",
@@ -55,6 +56,7 @@ __all__ = [
     "jpeg_blocks",
     "jpeg_parts",
     "jpeg_same",
+    "jpeg_unread",
     "kind",
     "normal",
     "photoshop_resources",

@@ -181,6 +181,39 @@ def _raise_for_pair(failure: PictureFailure) -> NoReturn:
     raise AssertionError(f"libexifnorm answered the status {status}")
 
 
+class Unread(NamedTuple):
+    """A place in a JPEG that isn't read."""
+
+    joined: bool
+    """Whether the offset is one in the blocks in several pieces, one after another, and not in the JPEG."""
+    start: int
+    """The offset."""
+
+
+def jpeg_unread(picture: Block) -> Optional[Unread]:
+    """The first place in a JPEG at which something is that other programs read as Exif or IPTC, or may, and that `jpeg_same` doesn't read:
+    a segment APP1 that seems to be Exif by another mark, APP13 with another mark than Photoshop's, resource 0422, or bytes other than zeros
+    after the last resource. None if there is none: of two such JPEGs `jpeg_same` reads all.
+
+    The bytes may be a whole file or only its first bytes. Raises HeadRefused, with the first fault, if they don't begin with the whole
+    head of a JPEG; MemoryError and LibraryMissing.
+
+    >>> jpeg_unread(bytes.fromhex("ffd8 ffe1000c 457869660000 4d4d002a ffd9"))
+    >>> jpeg_unread(bytes.fromhex("ffd8 ffe1000c 4578696600ff 4d4d002a ffd9"))
+    Unread(joined=False, start=6)
+    """
+    octets = _bytes_of(picture)
+    found: Any = library().jpeg_unread(octets)
+    if len(found) == 3:
+        status, cause, place = found
+        if status == Status.NO_MEMORY:
+            raise MemoryError
+        if status == Status.REFUSED:
+            raise HeadRefused(CAUSES[cause], place, [])
+        raise AssertionError(f"libexifnorm answered the status {status}")
+    return Unread(found[0] == 1, found[1]) if found else None
+
+
 def jpeg_same(first: Block, second: Block) -> bool:
     """Whether two JPEGs have the same Exif and IPTC: as many blocks of each kind as `jpeg_blocks` finds, which mean the same, pair by pair,
     in their order. So two JPEGs without metadata are the same. XMP, pixels, and what follows the head are not compared.

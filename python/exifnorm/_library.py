@@ -54,6 +54,7 @@ Pair = Union[int, PictureFailure]
 Text = Union[bytes, Failure]
 Rows = Union[bytes, Tuple[int, int, int, bytes]]
 Places = Union[Tuple[bytes, bytes], Failure]
+UnreadPlace = Union[Tuple[()], Tuple[int, int], Failure]
 
 
 class Status(enum.IntEnum):
@@ -116,6 +117,12 @@ class Sizes(ctypes.Structure):
     _fields_ = [("blocks", ctypes.c_size_t), ("joined", ctypes.c_size_t)]
 
 
+class Unread(ctypes.Structure):
+    """A place in a JPEG that isn't read, if there is one."""
+
+    _fields_ = [("found", ctypes.c_uint32), ("joined", ctypes.c_uint32), ("start", ctypes.c_size_t)]
+
+
 class Resource(ctypes.Structure):
     """One of Photoshop's image resources."""
 
@@ -150,6 +157,7 @@ ARGUMENTS = {
         ctypes.POINTER(Sizes),
         _JPEG_FAULT,
     ],
+    "exifnorm_jpeg_unread": [*_BLOCK, ctypes.POINTER(Unread), _JPEG_FAULT],
     "exifnorm_cause_name": [ctypes.c_uint32, *_OUT],
     "exifnorm_version": _OUT,
 }
@@ -230,6 +238,13 @@ class ByCtypes:
                 return status, fault.cause, fault.place
             sizes.blocks = max(sizes.blocks, 1)
 
+    def jpeg_unread(self, picture: bytes) -> UnreadPlace:
+        unread, fault = Unread(), JpegFault()
+        status = self._library.exifnorm_jpeg_unread(picture, len(picture), ctypes.byref(unread), ctypes.byref(fault))
+        if status != _DONE:
+            return status, fault.cause, fault.place
+        return (unread.joined, unread.start) if unread.found else ()
+
     def _rows(self, call: Callable[..., int], octets: bytes, most: int, kind: Type[ctypes.Structure]) -> Rows:
         """The rows of a call, which is made again if they are more than a few, and not more than so many."""
         try:
@@ -281,6 +296,7 @@ class Library:
             blocks, jpegs = made[:5], made[5:]
         self.check, self.normalise, self.compare, self.show, self.captions = blocks
         self.jpeg_parts, self.photoshop_resources, self.jpeg_same, self.jpeg_blocks = jpegs
+        self.jpeg_unread = it.jpeg_unread  # for which the time of a call matters less
 
     def cause_name(self, cause: int) -> str:
         """The name of a cause."""

@@ -257,6 +257,9 @@ struct exifnorm_picture_fault {
  * contain, and IPTC is Photoshop's resource 0x0404 in segments APP13; one without a byte is no block. XMP, Photoshop's resource 0x0422,
  * pixels, and what follows the head are not looked at. The first bytes of a file may be enough, as for exifnorm_jpeg_parts.
  *
+ * So same is 1 if the pictures have the same as far as they are read: other programs may find Exif or IPTC elsewhere. Of a picture in
+ * which exifnorm_jpeg_unread finds nothing, all of it is read.
+ *
  * Both heads are read first. Then all blocks of the first picture are checked, and then those of the second: in each picture the Exif
  * blocks before the IPTC blocks.
  *
@@ -269,6 +272,26 @@ uint32_t exifnorm_jpeg_same(const unsigned char *first, size_t first_length,   /
                             const unsigned char *second, size_t second_length, /* the other picture */
                             uint32_t *same,                                    /* is set to 1 or 0 */
                             struct exifnorm_picture_fault *fault);             /* is set to the cause of a refusal */
+
+/* A place in a picture that isn't read. */
+struct exifnorm_jpeg_unread {
+    uint32_t found;  /* 1 if there is one, else 0 */
+    uint32_t joined; /* 0: it is in the picture; 1: it is in the bytes that exifnorm_jpeg_blocks joins */
+    size_t start;    /* the byte offset */
+};
+
+/* Finds the first place in a picture at which something is that other programs read as metadata, or may, and that exifnorm_jpeg_same
+ * doesn't read: a segment APP1 that has "Exif" in any case and a zero among its first nine bytes, but doesn't begin with "Exif" and two
+ * zeros; a segment APP13 with any data that doesn't begin with "Photoshop 3.0" and a zero; Photoshop's resource 0x0422 with any data; or
+ * what follows the last resource, unless all of it is zeros. Segments come before resources.
+ *
+ *   DONE       unread is set.
+ *   REFUSED    fault is set: the bytes have no head, or EXIFNORM_JPEG_TOO_LONG.
+ *   NO_MEMORY  nothing is set.
+ */
+uint32_t exifnorm_jpeg_unread(const unsigned char *bytes, size_t length, /* the picture, or its first bytes */
+                              struct exifnorm_jpeg_unread *unread,       /* is set to the place */
+                              struct exifnorm_jpeg_fault *fault);        /* is set to the cause of a refusal */
 
 /* Writes the name of a cause, as "Overlap", and a zero byte to the beginning of out. A number that is no cause has the empty name.
  * EXIFNORM_NAME_ROOM bytes are always enough.

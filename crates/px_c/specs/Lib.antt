@@ -3,3 +3,4 @@ pub mod Outcomes
 pub mod Jpeg
 pub mod Blocks
 pub mod Pictures
+pub mod Unread

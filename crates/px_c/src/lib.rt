@@ -23,6 +23,7 @@ ghost use Rattle.px_c.specs.Jpeg.{StoresHead, StoresFront, LacksRoom, StoresReso
 ghost use Rattle.px_c.specs.Numbers.{cause_name};
 ghost use Rattle.px_c.specs.Outcomes.{Refuses, PutsText, PutsSaid, IsOfKind, AreCompared};
 ghost use Rattle.px_c.specs.Pictures.{ArePicturesCompared, RefusesPicture};
+ghost use Rattle.px_c.specs.Unread.{ShowsUnread, RefusesJoining};
 ghost use Rattle.px_c.specs.Numbers as status;
 
 mod blocks;
@@ -33,6 +34,7 @@ mod names;
 mod over_memory;
 mod pictures;
 pub mod statuses;
+mod unread;
 
 use blocks::put_blocks;
 pub use blocks::{ExifnormJpegBlock, ExifnormJpegSizes};
@@ -41,13 +43,16 @@ use giving::give_text;
 pub use jpeg::{ExifnormJpegFault, ExifnormJpegPart, ExifnormPhotoshopResource};
 use jpeg::{head_cause, put_parts, store_resources};
 use names::cause_name;
-use over_memory::{captions_in, check_in, compare_in, jpeg_same_in, normalise_in, show_in};
+use over_memory::{
+    captions_in, check_in, compare_in, jpeg_same_in, jpeg_unread_in, normalise_in, show_in,
+};
 pub use pictures::ExifnormPictureFault;
 use px_bytes::Memory;
 use px_engine::VERSION;
 use px_jpeg::{find_resources, read_head};
 use statuses::{DONE, NO_MEMORY, REFUSED, SECOND_REFUSED, TOO_LITTLE_ROOM, TOO_LONG};
 use std::alloc::Global;
+pub use unread::ExifnormJpegUnread;
 
 /// Stores the kind of the block in a file in `kind`: 1 for Exif, 2 for IIM. It keeps nothing of the block.
 /// Allocates a bit for each byte of an Exif block, and the fields of its thumbnail directory.
@@ -265,6 +270,30 @@ pub extern "C" fn exifnorm_jpeg_same(
     ensures fault { result ≢ status.refused → result ≢ status.second_refused → fault.new ≡ fault.old }
 {
     jpeg_same_in(&mut Memory::new(alloc), first, second, same, fault)
+}
+
+/// Stores in `unread` the first place in a picture at which something is that other programs read as metadata, or may,
+/// and that `exifnorm_jpeg_same` doesn't read: an APP1 segment that seems to be Exif by another mark, an APP13 segment
+/// with another mark than Photoshop's, Photoshop's resource 0x0422, or what follows the last resource, unless that is
+/// zeros. `found` is 0 if there is none: of two such pictures the comparison has read all. Allocates the blocks in
+/// several pieces.
+///
+/// `REFUSED`: the bytes have no head, or too many bytes are joined, and `fault` says which. `NO_MEMORY`: an allocation
+/// failed. Only success changes `unread`, and only a refusal changes `fault`.
+#[unsafe(no_mangle)]
+pub extern "C" fn exifnorm_jpeg_unread(
+    alloc: Global,
+    bytes: &[u8],
+    unread: &mut ExifnormJpegUnread,
+    fault: &mut ExifnormJpegFault,
+) -> u32
+    ensures known { (result ≡ status.done) ⊎ (result ≡ status.refused) ⊎ (result ≡ status.no_memory) }
+    ensures done { result ≡ status.done → ShowsUnread bytes.now unread.new }
+    ensures refused { result ≡ status.refused → RefusesJoining bytes.now fault.new }
+    ensures unread { result ≢ status.done → unread.new ≡ unread.old }
+    ensures fault { result ≢ status.refused → fault.new ≡ fault.old }
+{
+    jpeg_unread_in(&mut Memory::new(alloc), bytes, unread, fault)
 }
 
 /// Stores Photoshop's image resources at the start of these bytes at the start of `resources`, and their number in

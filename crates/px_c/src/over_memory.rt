@@ -8,19 +8,22 @@ ghost use Rattle.px_engine.specs.Files.{Said};
 ghost use Rattle.px_engine.specs.Hand.{PutsForm, IsUnwritten};
 ghost use Rattle.px_engine.specs.Input.{IsSaid};
 ghost use Rattle.px_engine.specs.Prints.{caption_text, listing};
-ghost use Rattle.px_pictures.specs.Asking.{AsksForBoth};
+ghost use Rattle.px_pictures.specs.Asking.{AsksForBoth, join_request};
 ghost use Rattle.px_pictures.specs.declared.faults.Side.TheVariants.{First, Second};
 ghost use Rattle.px_c.specs.Outcomes.{Refuses, PutsSaid, IsOfKind, AreCompared};
 ghost use Rattle.px_c.specs.Pictures.{ArePicturesCompared, RefusesPicture};
+ghost use Rattle.px_c.specs.Unread.{ShowsUnread, RefusesJoining};
 ghost use Rattle.px_c.specs.Numbers as status;
 
 use crate::faults::{ExifnormFault, fault_from};
 use crate::giving::give;
-use crate::pictures::{ExifnormPictureFault, seen_fault};
+use crate::jpeg::{ExifnormJpegFault, head_cause};
+use crate::pictures::{ExifnormPictureFault, TOO_LONG as JOINED_TOO_LONG, seen_fault};
 use crate::statuses::{DONE, NO_MEMORY, REFUSED, SECOND_REFUSED, TOO_LITTLE_ROOM, TOO_LONG};
+use crate::unread::{ExifnormJpegUnread, seen_unread};
 use px_bytes::Memory;
 use px_engine::{BlockKind, Fault, Given, Side};
-use px_pictures::Side as PictureSide;
+use px_pictures::{Fault as HeadFault, Side as PictureSide};
 
 // The kind of the block in a file.
 pub(crate) fn check_in(
@@ -245,5 +248,45 @@ pub(crate) fn jpeg_same_in(
                 SECOND_REFUSED
             }
         },
+    }
+}
+
+// The first place in a JPEG picture that the comparison doesn't read.
+pub(crate) fn jpeg_unread_in(
+    memory: &mut Memory,
+    bytes: &[u8],
+    unread: &mut ExifnormJpegUnread,
+    fault: &mut ExifnormJpegFault,
+) -> u32
+    ensures known { (result ≡ status.done) ⊎ (result ≡ status.refused) ⊎ (result ≡ status.no_memory) }
+    ensures done { result ≡ status.done → ShowsUnread bytes.now unread.new }
+    ensures refused { result ≡ status.refused → RefusesJoining bytes.now fault.new }
+    ensures unread { result ≢ status.done → unread.new ≡ unread.old }
+    ensures fault { result ≢ status.refused → fault.new ≡ fault.old }
+    ensures lacking { result ≡ status.no_memory → memory.new.refusals ≡ memory.old.refusals + 1 }
+    ensures memory { result ≢ status.no_memory → memory.new.refusals ≡ memory.old.refusals }
+    ensures asked { AsksAtMost (join_request (length bytes.now)) memory.old memory.new }
+{
+    match px_pictures::unread_in(memory, bytes) {
+        Ok(found) => {
+            *unread = seen_unread(found);
+            DONE
+        }
+        Err(HeadFault::Head(head)) => {
+            *fault = ExifnormJpegFault {
+                cause: head_cause(head.cause),
+                place: head.place,
+            };
+            REFUSED
+        }
+        Err(HeadFault::TooLong) => {
+            *fault = ExifnormJpegFault {
+                cause: JOINED_TOO_LONG,
+                place: 0,
+            };
+            REFUSED
+        }
+        Err(HeadFault::OutOfMemory) => NO_MEMORY,
+        Err(HeadFault::Block { .. }) => unreachable!(),
     }
 }

@@ -7,7 +7,7 @@ use crate::jpeg::head_cause;
 use px_pictures::{BlockKind, Fault};
 
 // The cause of a picture of which too many bytes would be joined.
-const TOO_LONG: u32 = 105;
+pub(crate) const TOO_LONG: u32 = 105;
 
 /// Why two pictures are not compared: the first fault of a head, or of a block.
 #[repr(C)]

@@ -1,5 +1,6 @@
 pub mod Metadata
 pub mod Places
+pub mod Unread
 pub mod Faults
 pub mod Asking
 pub mod Same

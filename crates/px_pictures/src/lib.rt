@@ -14,9 +14,11 @@ mod places;
 mod ranges;
 mod runs;
 mod same;
+mod unread;
 
 pub use blocks::{ExifBlocks, IptcBlocks};
 pub use faults::{BlockKind, Fault, PictureFault, Side};
 pub use found::{Metadata, metadata_of_in};
 pub use places::{BlockPlace, Places, block_count, joined_len, places_of, put_joined};
 pub use same::{same_metadata, same_metadata_in};
+pub use unread::{Unread, unread_in};

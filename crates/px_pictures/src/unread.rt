@@ -1,0 +1,202 @@
+// What a picture contains beside its blocks that other programs read as metadata, or may.
+ghost use Rattle.std.specs.Prelude.{◌≡◌, ◌<◌, ◌≤◌, if◌then◌else◌, length, None, IfSome, IfOk, IfErr};
+ghost use Rattle.px_bytes.specs.Lacking.{AsksAtMost};
+ghost use Rattle.px_jpeg.specs.Head.{HasHead};
+ghost use Rattle.px_jpeg.specs.Pieces.{range, with_pieces};
+ghost use Rattle.px_pictures.specs.Asking.{join_request};
+ghost use Rattle.px_pictures.specs.Faults.{IsHeadFault, LacksFound};
+ghost use Rattle.px_pictures.specs.Places.{joined_bytes};
+ghost use Rattle.px_pictures.specs.Unread.{is_letter, names_exif, seems_exif, may_tell, unread_segment, unread_resources, are_zeros};
+ghost use Rattle.px_pictures.specs.Unread.{IsUnread, unread_in_block, unread_in_blocks};
+
+use crate::faults::Fault;
+use crate::joining::{join_in, joined_size};
+use crate::places::{BlockPlace, Places, places_of};
+use crate::ranges::range;
+use px_bytes::Memory;
+use px_jpeg::{Head, Kind, find_resources, read_head, with_pieces};
+
+// The number of the image resource with Exif.
+const EXIF: usize = 0x0422;
+
+/// A place in a picture from which on something is not read.
+#[derive(Clone, Copy, Debug, PartialEq, Eq)]
+pub struct Unread {
+    /// Whether the offset is one in the joined bytes, which `put_joined` writes, and not in the picture.
+    pub joined: bool,
+    /// The offset.
+    pub start: usize,
+}
+
+// Whether a byte is this letter, in either case.
+fn is_letter(upper: u8, lower: u8, octet: u8) -> bool
+    ensures { result ≡ is_letter upper lower octet }
+{
+    octet == upper || octet == lower
+}
+
+// Whether 'Exif' in any case and a zero are at an index, and one more byte follows.
+#[tactic(auto, unfolding(crate::specs::Unread::names_exif))]
+fn names_exif(at: usize, octets: &[u8]) -> bool
+    requires { at ≤ 4 }
+    ensures { result ≡ names_exif at octets.now }
+{
+    octets.len() >= at + 6
+        && is_letter(b'E', b'e', octets[at])
+        && is_letter(b'X', b'x', octets[at + 1])
+        && is_letter(b'I', b'i', octets[at + 2])
+        && is_letter(b'F', b'f', octets[at + 3])
+        && octets[at + 4] == 0
+}
+
+// Whether other programs read the data of an APP1 segment as Exif.
+#[tactic(auto, unfolding(crate::specs::Unread::seems_exif))]
+fn seems_exif(octets: &[u8]) -> bool
+    ensures { result ≡ seems_exif octets.now }
+{
+    names_exif(0, octets)
+        || names_exif(1, octets)
+        || names_exif(2, octets)
+        || names_exif(3, octets)
+        || names_exif(4, octets)
+}
+
+// Whether a segment with this marker and these data may have metadata.
+#[tactic(auto, unfolding(crate::specs::Unread::may_tell))]
+fn may_tell(code: u8, octets: &[u8]) -> bool
+    ensures { result ≡ may_tell code octets.now }
+{
+    (code == 0xE1 && seems_exif(octets)) || (code == 0xED && !octets.is_empty())
+}
+
+// The offset of the data of the first segment without a piece of a block that may have metadata.
+fn unread_segment(head: &Head) -> Option<usize>
+    ensures { result ≡ unread_segment head.now.octets (with_pieces head.now.octets None head.now.parts) }
+{
+    let bytes = head.bytes();
+    let mut left = with_pieces(bytes, head.parts());
+    loop {
+        let Some(found) = left.next() else {
+            return None;
+        };
+        let part = found.part;
+        if found.piece.is_none() && may_tell(part.code, range(bytes, part.start, part.size)) {
+            return Some(part.start);
+        }
+    }
+}
+
+// Whether all bytes are zero.
+fn are_zeros(octets: &[u8]) -> bool
+    ensures { result ≡ are_zeros octets.now }
+{
+    for octet in octets {
+        if *octet != 0 {
+            return false;
+        }
+    }
+    true
+}
+
+// The offset in Photoshop's resources at which something is that isn't read.
+fn unread_resources(octets: &[u8]) -> Option<usize>
+    ensures value { result ≡ unread_resources octets.now }
+    ensures within { IfSome result (λ at. at < length octets.now) }
+{
+    let mut left = find_resources(octets);
+    let mut at = 0;
+    loop {
+        let Some(found) = left.next() else {
+            break;
+        };
+        if found.number == EXIF && found.size > 0 {
+            return Some(found.start);
+        }
+        at = found.start + found.size + found.size % 2;
+    }
+    if are_zeros(octets.split_at(at.min(octets.len())).1) {
+        return None;
+    }
+    Some(at)
+}
+
+// The bytes of which a block is a range.
+fn whole_of<'b>(picture: &'b [u8], all: &'b [u8], joined: bool) -> &'b [u8]
+    ensures { result.now ≡ (if joined then all.now else picture.now) }
+{
+    if joined {
+        return all;
+    }
+    picture
+}
+
+// The place in a block at which something is that isn't read.
+fn unread_in_block(whole: &[u8], place: &BlockPlace) -> Option<Unread>
+    ensures { result ≡ unread_in_block place.now.kind (range whole.now place.now.start place.now.size) place.now }
+{
+    match place.kind {
+        Kind::Photoshop => match unread_resources(range(whole, place.start, place.size)) {
+            Some(at) => Some(Unread {
+                joined: place.joined,
+                start: place.start + at,
+            }),
+            None => None,
+        },
+        Kind::Exif | Kind::Xmp | Kind::ExtendedXmp => None,
+    }
+}
+
+// That of the first block that has one.
+fn unread_in_blocks(picture: &[u8], all: &[u8], places: Places) -> Option<Unread>
+    ensures { result ≡ unread_in_blocks picture.now all.now places.entry }
+{
+    let mut left = places;
+    loop {
+        let Some(place) = left.next() else {
+            return None;
+        };
+        if let Some(found) = unread_in_block(whole_of(picture, all, place.joined), &place) {
+            return Some(found);
+        }
+    }
+}
+
+// The first place of a head that isn't read.
+fn unread_of(head: &Head, all: &[u8]) -> Option<Unread>
+    requires head { HasHead head.now.octets head.now.parts }
+    requires joined { all.now ≡ joined_bytes head.now.octets head.now.parts }
+    ensures { IsUnread head.now.octets result }
+{
+    let places = places_of(head);
+    if let Some(start) = unread_segment(head) {
+        return Some(Unread {
+            joined: false,
+            start,
+        });
+    }
+    unread_in_blocks(head.bytes(), all, places)
+}
+
+/// The first place in a picture at which something is that other programs read as metadata, or may, and that
+/// `same_metadata_in` doesn't read. `None`: there is none, so two such pictures are the same exactly if
+/// `same_metadata_in` says so. Such a place is an APP1 segment that seems to be Exif by another mark, an APP13 segment
+/// with another mark than Photoshop's, Photoshop's resource 0x0422, or what follows the last resource, unless that is
+/// zeros. The first of the segments comes first. Allocates what `metadata_of_in` does, and has its faults.
+pub fn unread_in(memory: &mut Memory, bytes: &[u8]) -> Result<Option<Unread>, Fault>
+    ensures found { IfOk result (IsUnread bytes.now) }
+    ensures fault { IfErr result (IsHeadFault bytes.now memory.new.refusals) }
+    ensures memory { LacksFound result memory.old memory.new }
+    ensures asked { AsksAtMost (join_request (length bytes.now)) memory.old memory.new }
+{
+    let head = match read_head(bytes) {
+        Ok(head) => head,
+        Err(fault) => return Err(Fault::Head(fault)),
+    };
+    let Some(size) = joined_size(&head) else {
+        return Err(Fault::TooLong);
+    };
+    match join_in(memory, &head, size) {
+        Ok(all) => Ok(unread_of(&head, &all)),
+        Err(_) => Err(Fault::OutOfMemory),
+    }
+}
