@@ -1,5 +1,6 @@
 -- The headline of the program's runs, from that of runs over readers and writers.
-use Rattle.std.proofs.Common.{◌∙◌, ◌<◌, ℕ, List, Option, None, Result, Ok, inl, inr, arith}
+use Rattle.std.proofs.Common.{◌≡◌, ◌∙◌, ◌<◌, ℕ, zero, suc, List, Option, None, Result, Ok, Err, inl, inr, refl, sym, subst, arith}
+use Rattle.std.specs.Prelude.{⊤}
 use Rattle.px_engine.specs.declared.Fault.{Fault}
 use Rattle.px_engine.specs.declared.Fault.TheVariants.{Refused, NormalTooLong, OutOfMemory, ReadFailed, WriteFailed}
 use Rattle.px_engine.specs.declared.Side.{Side}
@@ -7,7 +8,8 @@ use Rattle.px_bytes.specs.Devices.{Device, no_calls}
 use Rattle.px_bytes.specs.Lacking.{Taken}
 use Rattle.px_jobs.specs.Lines.{Tells, TellsFault}
 use Rattle.px_jobs.specs.Laws.{FormsTell}
-use Rattle.px_cli.specs.Programs.{EndsBeside, EndsForm, EndsMade}
+use Rattle.px_jobs.specs.declared.Job.TheVariants as job
+use Rattle.px_cli.specs.Programs.{EndsBeside, EndsClosed, EndsForm, EndsJob, EndsMade, TellsClosed}
 use Rattle.px_cli.specs.Laws.{OutputsTell}
 
 -- status 0 is no other
@@ -23,9 +25,23 @@ no_fault OutOfMemory file lines t = not_told _ _ lines (omega arith) t
 no_fault ReadFailed file lines t = not_told _ _ lines (omega arith) t
 no_fault WriteFailed file lines t = not_told _ _ lines (omega arith) t
 
+-- with status 0 the writer was closed, after a job with status 0
+closed_well : (closed : Result ⊤ Fault) (ended : ℕ) (lines : Device) → TellsClosed closed ended 0 lines → (closed ≡ Ok tt) × (ended ≡ 0)
+closed_well (Ok x) ended lines t = (refl, sym t.0)
+closed_well (Err e) zero lines t = absurd (no_fault e None lines (t.0 refl))
+closed_well (Err e) (suc n) lines t = let p = (t.1 (λ z. absurd (omega (arith, z)))).0 in absurd (omega (arith, p))
+
+closed_job : (bytes : Option (List ℕ)) (closed : Result ⊤ Fault) (taken taken_now : Taken) (out lines : Device)
+    → EndsClosed bytes closed taken taken_now 0 out lines
+    → (text : Device) × (closed ≡ Ok tt) × EndsJob job.Normalise bytes taken taken_now 0 out text
+closed_job bytes closed taken taken_now out lines (ended, between, text, written, failed, told) =
+    let shown : Device = record { calls = lines.calls; calls_now = between; old = lines.old; new = text } in
+    let well = closed_well closed ended (record { calls = between; calls_now = lines.calls_now; old = text; new = lines.new }) told in
+    (shown, well.0, subst (λ (n : ℕ). EndsJob job.Normalise bytes taken taken_now n out shown) well.1 written)
+
 module _ {F R W : Type 0} (remaining : R → Option (List ℕ)) (contents : W → Option (List ℕ))
     (opens : F → List ℕ → Result R Fault → F → Type 0) (makes : F → List ℕ → R → Result (Option W) Fault → F → Type 0)
-    (closes : F → W → F → Type 0) where
+    (closes : F → W → Result ⊤ Fault → F → Type 0) where
   -- with status 0 OUT was made
   was_made : (out : List ℕ) (reader : R) (opened files_now : F) (taken taken_now : Taken) (lines : Device)
       → EndsBeside remaining contents opens makes closes out reader opened files_now taken taken_now 0 lines
@@ -50,6 +66,10 @@ module _ {F R W : Type 0} (remaining : R → Option (List ℕ)) (contents : W �
       let b = was_opened other_file other_out other_files other_files_now other_taken other_taken_now other_lines y in
       let wrote : Device = record { calls = no_calls; calls_now = a.3.3; old = contents a.3.1; new = contents a.3.2 } in
       let other_wrote : Device = record { calls = no_calls; calls_now = b.3.3; old = contents b.3.1; new = contents b.3.2 } in
-      let h = law f g a.3.6.0 wrote lines b.3.6.0 other_wrote other_lines taken taken_now other_taken other_taken_now
-      (a.3.6.1 ∙ had a.1 a.0 a.2) (b.3.6.1 ∙ other_had b.1 b.0 b.2) a.3.6.3 b.3.6.3 in
-      (h.0, h.1, (a.0, a.3.0, a.1, a.3.1, a.3.2, a.3.4, a.3.5, h.2), (b.0, b.3.0, b.1, b.3.1, b.3.2, b.3.4, b.3.5, h.3), h.4)
+      let j = closed_job (remaining a.1) a.3.4 taken taken_now wrote lines a.3.7 in
+      let k = closed_job (remaining b.1) b.3.4 other_taken other_taken_now other_wrote other_lines b.3.7 in
+      let h = law f g j.2.0 wrote j.0 k.2.0 other_wrote k.0 taken taken_now other_taken other_taken_now
+      (j.2.1 ∙ had a.1 a.0 a.2) (k.2.1 ∙ other_had b.1 b.0 b.2) j.2.3 k.2.3 in
+      let c = subst (λ (r : Result ⊤ Fault). closes a.3.0 a.3.2 r files_now) j.1 a.3.6 in
+      let d = subst (λ (r : Result ⊤ Fault). closes b.3.0 b.3.2 r other_files_now) k.1 b.3.6 in
+      (h.0, h.1, (a.0, a.3.0, a.1, a.3.1, a.3.2, a.3.5, c, h.2), (b.0, b.3.0, b.1, b.3.1, b.3.2, b.3.5, d, h.3), h.4)

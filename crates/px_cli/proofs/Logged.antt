@@ -1,5 +1,6 @@
 -- A run appends the calls of its request to the list that files keep, and no other.
 use Rattle.std.proofs.Common.{◌≡◌, ◌∙◌, ◌++◌, ◌∷◌, [], ℕ, List, Option, Result, inl, inr, refl, sym, ap, append_assoc, append-nil}
+use Rattle.std.specs.Prelude.{⊤}
 use Rattle.px_engine.specs.declared.Fault.{Fault}
 use Rattle.px_words.specs.declared.Words.{Words}
 use Rattle.px_words.specs.declared.Words.TheVariants as words
@@ -18,7 +19,7 @@ none_made log f g p = ap log p ∙ sym (append-nil (log f))
 
 module _ {F R W : Type 0} (remaining : R → Option (List ℕ)) (contents : W → Option (List ℕ))
     (opens : F → List ℕ → Result R Fault → F → Type 0) (makes : F → List ℕ → R → Result (Option W) Fault → F → Type 0)
-    (closes : F → W → F → Type 0) (log : F → List Call)
+    (closes : F → W → Result ⊤ Fault → F → Type 0) (log : F → List Call)
     (logs : IsLog remaining contents opens makes closes log) where
   file_called : (job : _) (file : List ℕ) (f g : F) (t u : Taken) (status : ℕ) (out lines : Device)
       → EndsFile remaining contents opens makes closes job file f g t u status out lines → log g ≡ log f ++ Open file ∷ []
@@ -32,7 +33,7 @@ module _ {F R W : Type 0} (remaining : R → Option (List ℕ)) (contents : W �
     Open file ∷ Make out ∷ Close (contents x.2) ∷ [],
     inr (inr (contents x.2, refl)),
     more (log e) (log x.0) (log g) (Open file ∷ Make out ∷ []) _
-        (more (log e) (log f) (log x.0) (Open file ∷ []) _ p (logs.made f x.0 out reader _ x.4)) (logs.closed x.0 g x.2 x.5),
+        (more (log e) (log f) (log x.0) (Open file ∷ []) _ p (logs.made f x.0 out reader _ x.5)) (logs.closed x.0 g x.2 x.4 x.6),
   )
   beside_called file out reader e f g t u status lines p (inr (inl x)) =
       (Open file ∷ Make out ∷ [], inr (inl refl), more (log e) (log f) (log g) (Open file ∷ []) _ p (logs.made f g out reader _ x.1))

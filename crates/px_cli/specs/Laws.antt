@@ -1,5 +1,5 @@
 -- The relation between two runs of the program that write normal forms to files.
-use Rattle.std.specs.Prelude.{◌≡◌, ℕ, List, Option, Some, Result, Ok}
+use Rattle.std.specs.Prelude.{◌≡◌, ⊤, ℕ, List, Option, Some, Result, Ok}
 use Rattle.std.specs.Io.KnownBytes.{Appends}
 use Rattle.px_engine.specs.declared.Fault.{Fault}
 use Rattle.px_engine.specs.Headline.{Headline}
@@ -9,7 +9,7 @@ use Rattle.px_cli.specs.Programs.{EndsForm}
 
 module _ {F R W : Type 0} (remaining : R → Option (List ℕ)) (contents : W → Option (List ℕ))
     (opens : F → List ℕ → Result R Fault → F → Type 0) (makes : F → List ℕ → R → Result (Option W) Fault → F → Type 0)
-    (closes : F → W → F → Type 0) where
+    (closes : F → W → Result ⊤ Fault → F → Type 0) where
   -- the file of that name has these bytes: each reader that opening it returns has them
   abbrev pub HasBytes : F → List ℕ → List ℕ → Type 0
   HasBytes files name bytes =
@@ -18,7 +18,7 @@ module _ {F R W : Type 0} (remaining : R → Option (List ℕ)) (contents : W �
   -- the file of that name was created or emptied, took these bytes and no more, and was closed
   abbrev pub Received : F → List ℕ → List ℕ → Type 0
   Received files_now name bytes = (opened made : F) × (reader : R) × (out out_now : W) × makes opened name reader (Ok (Some out)) made
-      × closes made out_now files_now × Appends (contents out) (contents out_now) bytes
+      × closes made out_now (Ok tt) files_now × Appends (contents out) (contents out_now) bytes
 
   -- After two runs of `normalise FILE OUT` with status 0, each OUT has received the normal form of its FILE, and the headline holds of
   -- the two forms.

@@ -1,5 +1,5 @@
 -- The calls that a run makes on files, as a list.
-use Rattle.std.specs.Prelude.{◌≡◌, ◌⊎◌, ◌++◌, ◌∷◌, [], ℕ, List, Option, Result}
+use Rattle.std.specs.Prelude.{◌≡◌, ◌⊎◌, ◌++◌, ◌∷◌, [], ⊤, ℕ, List, Option, Result}
 use Rattle.px_engine.specs.declared.Fault.{Fault}
 use Rattle.px_words.specs.declared.Words.{Words}
 use Rattle.px_words.specs.declared.Words.TheVariants as words
@@ -23,13 +23,13 @@ MayCall _ calls = calls ≡ []
 
 module _ {F R W : Type 0} (remaining : R → Option (List ℕ)) (contents : W → Option (List ℕ))
     (opens : F → List ℕ → Result R Fault → F → Type 0) (makes : F → List ℕ → R → Result (Option W) Fault → F → Type 0)
-    (closes : F → W → F → Type 0) where
+    (closes : F → W → Result ⊤ Fault → F → Type 0) where
   -- the files keep a list of the calls made on them: each call appends itself, whether it succeeds or not
   pub record IsLog (log : F → List Call) : Type 0 where
     pub opened : (f g : F) (name : List ℕ) (r : Result R Fault) → opens f name r g → log g ≡ log f ++ Open name ∷ []
     pub made : (f g : F) (name : List ℕ) (file : R) (r : Result (Option W) Fault) → makes f name file r g
         → log g ≡ log f ++ Make name ∷ []
-    pub closed : (f g : F) (out : W) → closes f out g → log g ≡ log f ++ Close (contents out) ∷ []
+    pub closed : (f g : F) (out : W) (r : Result ⊤ Fault) → closes f out r g → log g ≡ log f ++ Close (contents out) ∷ []
 
   -- over such files a run appends the calls of its request, and no other
   abbrev pub OnlyCalls : Type 0

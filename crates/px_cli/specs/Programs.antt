@@ -1,5 +1,5 @@
 -- The program's behaviour for its arguments.
-use Rattle.std.specs.Prelude.{◌≡◌, ◌⊎◌, ℕ, List, Option, Some, None, Result, Ok, Err, codes}
+use Rattle.std.specs.Prelude.{◌≡◌, ◌≢◌, ◌⊎◌, ⊤, ℕ, List, Option, Some, None, Result, Ok, Err, IfErr, codes}
 use Rattle.px_engine.specs.declared.Fault.{Fault}
 use Rattle.px_engine.specs.declared.Fault.TheVariants.{OutOfMemory, ReadFailed, WriteFailed}
 use Rattle.px_engine.specs.declared.Side.{Side}
@@ -43,6 +43,22 @@ abbrev pub EndsPair : Option (List ℕ) → Option (List ℕ) → Taken → Take
 EndsPair bytes other taken taken_now status lines = (first second : Device) × (first.old ≡ bytes) × (first.calls ≡ no_calls)
     × (second.old ≡ other) × (second.calls ≡ no_calls) × EndsCompare first second lines taken taken_now status
 
+-- A file was closed after a job with this status: that is the status, and there is no more text. Or it can't be closed: that is
+-- reported as a failed write, unless the job has failed.
+abbrev pub TellsClosed : Result ⊤ Fault → ℕ → ℕ → Device → Type 0
+TellsClosed (Ok x) ended status lines = (status ≡ ended) × IsIdle lines
+TellsClosed (Err e) ended status lines =
+    (ended ≡ 0 → TellsFault e None status lines) × (ended ≢ 0 → (status ≡ ended) × IsIdle lines)
+
+-- A normal form was written, and then its writer was closed. `between` and `text` are the counts of the writer of lines, and the bytes
+-- that it had taken, when the job had ended.
+abbrev pub EndsClosed : Option (List ℕ) → Result ⊤ Fault → Taken → Taken → ℕ → Device → Device → Type 0
+EndsClosed bytes closed taken taken_now status out lines = (ended : ℕ) × (between : Calls) × (text : Option (List ℕ))
+    × EndsJob job.Normalise bytes taken taken_now ended out
+    (record { calls = lines.calls; calls_now = between; old = lines.old; new = text })
+    × IfErr closed (IsLacking WriteFailed)
+    × TellsClosed closed ended status (record { calls = between; calls_now = lines.calls_now; old = text; new = lines.new })
+
 -- the line and the status if the system gives no arguments
 abbrev pub TellsNoWords : NoWords → ℕ → Device → Type 0
 TellsNoWords no.OutOfMemory status lines = TellsFault OutOfMemory None status lines
@@ -56,7 +72,7 @@ TellsNoWords no.NotText status lines = TellsWords 3 (codes "refused words: they 
 -- these calls, in this order, and no other.
 module _ {F R W : Type 0} (remaining : R → Option (List ℕ)) (contents : W → Option (List ℕ))
     (opens : F → List ℕ → Result R Fault → F → Type 0) (makes : F → List ℕ → R → Result (Option W) Fault → F → Type 0)
-    (closes : F → W → F → Type 0) where
+    (closes : F → W → Result ⊤ Fault → F → Type 0) where
   -- the file can't be opened, which is reported
   abbrev pub EndsUnopened : List ℕ → Option Side → F → F → Taken → Taken → ℕ → Device → Type 0
   EndsUnopened name file files files_now taken taken_now status lines =
@@ -68,11 +84,12 @@ module _ {F R W : Type 0} (remaining : R → Option (List ℕ)) (contents : W �
       (EndsUnopened name None files files_now taken taken_now status lines × IsIdle out)
       ⊎ ((reader : R) × opens files name (Ok reader) files_now × EndsJob job (remaining reader) taken taken_now status out lines)
 
-  -- The normal form of an open file went to OUT, which was closed after it. The writer of OUT had no failed call and no flush before.
+  -- The normal form of an open file went to OUT, which was then closed, or that failed. The writer of OUT had no failed call and no
+  -- flush before.
   abbrev pub EndsMade : List ℕ → R → F → F → Taken → Taken → ℕ → Device → Type 0
   EndsMade out_name reader files files_now taken taken_now status lines =
-      (made : F) × (out out_now : W) × (n : Calls) × makes files out_name reader (Ok (Some out)) made × closes made out_now files_now
-      × EndsJob job.Normalise (remaining reader) taken taken_now status
+      (made : F) × (out out_now : W) × (n : Calls) × (closed : Result ⊤ Fault) × makes files out_name reader (Ok (Some out)) made
+      × closes made out_now closed files_now × EndsClosed (remaining reader) closed taken taken_now status
       (record { calls = no_calls; calls_now = n; old = contents out; new = contents out_now }) lines
 
   -- OUT can't be created, or is the open file: that is reported, and nothing was requested

@@ -1,7 +1,7 @@
 // Opens the files that the arguments name. No contract can state what this file has to show: a missing file is
 // reported only for an error of the system, the file that is opened, created or emptied is the one that was
 // named, no other is, and the bytes of a writer are those of its file.
-ghost use Rattle.std.specs.Prelude.{◌≡◌, ◌≢◌, ◌↔◌, ℕ, List, Option, Result, IsSome, IsTrue, Ok, Err, IfOk, IfErr};
+ghost use Rattle.std.specs.Prelude.{◌≡◌, ◌≢◌, ◌↔◌, ℕ, ⊤, List, Option, Result, IsSome, IsTrue, Ok, Err, IfOk, IfErr};
 ghost use Rattle.std.specs.Fs.{file_type, IsFile};
 ghost use Rattle.std.specs.IoError.{error_kind};
 ghost use Rattle.px_engine.specs.declared.Fault.{Fault};
@@ -137,6 +137,18 @@ fn make_beside<R: Files>(rt: &R, name: &str, file: &R::File) -> Result<Option<R:
     Ok(Some(out))
 }
 
+// Closes a file that was written, once the system has stored it: a system may report only then that a write failed.
+// Anything but a regular file, such as a device, has nothing that can be stored.
+fn close<F: OpenFile + Drop>(out: F) -> Result<(), Fault>
+    ensures { IfErr result (IsLacking WriteFailed) }
+{
+    let metadata = metadata_of(&out)?;
+    if !metadata.is_file() {
+        return Ok(());
+    }
+    lacking(out.sync_data(), Fault::WriteFailed)
+}
+
 /// Files, by name. Contracts see each call as a relation: the files before it, what it got, what it returned, and
 /// the files after it. Only a call establishes its relation, so a chain of them names all calls of a run.
 pub trait Opens {
@@ -152,8 +164,8 @@ pub trait Opens {
     // The file with that name was created or emptied, or couldn't be; or it is the one that the reader reads.
     ghost makes: { Self → List ℕ → Self.Reader → Result (Option Self.Writer) Fault → Self → Type 0 };
 
-    // The writer was closed, with all that it had taken. Nothing is written by it afterwards.
-    ghost closes: { Self → Self.Writer → Self → Type 0 };
+    // The writer was closed, with all that it had taken, or that failed. Nothing is written by it afterwards.
+    ghost closes: { Self → Self.Writer → Result ⊤ Fault → Self → Type 0 };
 
     /// Opens a file to read.
     fn open(&mut self, name: &str) -> Result<Self::Reader, Fault>
@@ -169,9 +181,11 @@ pub trait Opens {
         ensures makes { makes self.old name.now file.now result self.new }
         ensures lacking { IfErr result (IsLacking WriteFailed) };
 
-    /// Closes a file that was written. A failure of the system to close it isn't reported.
-    fn close(&mut self, out: Self::Writer)
-        ensures { closes self.old out self.new };
+    /// Closes a file that was written. `Err`: only now the system reports that a write failed, as a file system over
+    /// a network may, or one with quotas.
+    fn close(&mut self, out: Self::Writer) -> Result<(), Fault>
+        ensures closes { closes self.old out result self.new }
+        ensures lacking { IfErr result (IsLacking WriteFailed) };
 }
 
 /// The files of the system. No contract specifies their content.
@@ -198,7 +212,7 @@ impl<'a, R: Files> Opens for System<'a, R> {
 
     ghost makes = { λ _ _ _ _ _. ⊤ };
 
-    ghost closes = { λ _ _ _. ⊤ };
+    ghost closes = { λ _ _ _ _. ⊤ };
 
     fn open(&mut self, name: &str) -> Result<R::File, Fault> {
         open(self.rt, name)
@@ -208,5 +222,7 @@ impl<'a, R: Files> Opens for System<'a, R> {
         make_beside(self.rt, name, file)
     }
 
-    fn close(&mut self, _out: R::File) {}
+    fn close(&mut self, out: R::File) -> Result<(), Fault> {
+        close(out)
+    }
 }

@@ -3,7 +3,7 @@ ghost use Rattle.std.specs.Prelude.{◌≡◌, drop, map, IfErr, IfOk};
 ghost use Rattle.px_jobs.specs.declared.Job.TheVariants.{Normalise};
 ghost use Rattle.px_jobs.specs.Endings.{Ends, IsIdle};
 ghost use Rattle.px_cli.specs.Programs.{job_of, Answers, EndsBeside, EndsFile, EndsFiles, EndsForm, EndsJob, EndsOther, EndsPair};
-ghost use Rattle.px_cli.specs.Programs.{EndsWords, TellsNoWords};
+ghost use Rattle.px_cli.specs.Programs.{EndsWords, TellsClosed, TellsNoWords};
 ghost use Rattle.px_bytes.specs.Devices.{CanFail, no_calls, over};
 
 use crate::files::Opens;
@@ -75,7 +75,7 @@ pub fn run_given<S: AsStr + Drop, P: Parser, O: Opens, I: Source, W: Sink, L: Si
 ///
 /// It opens `FILE`, then creates or empties `OUT`, then reads `FILE`, and closes `OUT` at the end. A comparison
 /// opens both files before it reads either. A file that can't be opened is a failed read; one that can't be
-/// created is a failed write. If `OUT` is `FILE`, even by another name, the arguments are refused and the file
+/// created or closed is a failed write. If `OUT` is `FILE`, even by another name, the arguments are refused and the file
 /// is unchanged. Without arguments it normalises standard input to `out`; otherwise it uses neither. It makes
 /// no other call of the files.
 pub fn run_words<'a, S: AsStr, P: Parser, O: Opens, I: Source, W: Sink, L: Sink>(
@@ -235,6 +235,23 @@ fn run_file<O: Opens, I: Source, W: Sink, L: Sink>(
     }
 }
 
+// Reports that a file can't be closed, unless the job that wrote it has failed, with this status. Returns the status
+// of the run.
+fn tell_closed<L: Sink>(closed: Result<(), Fault>, status: u8, lines: &mut L) -> u8
+    requires { status ≡ 0 → CanFail (L.calls lines.old) }
+    ensures { TellsClosed closed status result (over L.calls L.bytes_taken lines.old lines.new) }
+{
+    match closed {
+        Ok(()) => status,
+        Err(fault) => {
+            if status != 0 {
+                return status;
+            }
+            tell(lines, fault, None)
+        }
+    }
+}
+
 // Writes the normal form of an open file to another, unless both are the same file.
 fn run_beside<O: Opens, L: Sink>(
     files: &mut O,
@@ -251,8 +268,8 @@ fn run_beside<O: Opens, L: Sink>(
         Ok(Some(out)) => {
             let mut out = Watched::new(out);
             let status = run_job(memory, Job::Normalise, Watched::new(file), &mut out, lines);
-            files.close(out.into_inner());
-            status
+            let closed = files.close(out.into_inner());
+            tell_closed(closed, status, lines)
         }
         Ok(None) => say_text(lines, OUT_IS_FILE, 3),
         Err(fault) => tell(lines, fault, None),
