@@ -116,10 +116,11 @@ ALLOCATES = re.compile(
 
 FOR_TESTS = ("px_calls", "px_devices", "px_picture_calls")  # crates
 
-# The functions that call what allocates and are none of `Memory`: those over clap, which takes no `Memory`, and the one that copies the
-# program's arguments.
+# The functions that call what allocates and are none of `Memory`: those over clap, which takes no `Memory`, the one that copies the
+# program's arguments, and the one of the files with known bytes, which the program never calls.
 GROWERS = {
     "crates/px_cli/src/main.rt: given",
+    "crates/px_cli/src/named.rt: make_beside",
     "crates/px_words/src/grammar.rt: bare",
     "crates/px_words/src/grammar.rt: joined",
     "crates/px_words/src/grammar.rt: of_one",

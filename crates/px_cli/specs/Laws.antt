@@ -30,3 +30,14 @@ module _ {F R W : Type 0} (remaining : R → Option (List ℕ)) (contents : W �
       → EndsForm remaining contents opens makes closes other_file other_out other_files other_files_now other_taken other_taken_now 0
       other_lines
       → (m n : List ℕ) × Received files_now out m × Received other_files_now other_out n × Headline f g m n
+
+  -- The same where the bytes of files are known: `has_file` are those of a file of a name, and `has_written` those of the file that was
+  -- closed last.
+  abbrev pub KnownOutputsTell : (F → List ℕ → List ℕ → Type 0) → (F → List ℕ → Type 0) → Type 0
+  KnownOutputsTell has_file has_written = (f g file out other_file other_out : List ℕ) (files files_now other_files other_files_now : F)
+      (taken taken_now other_taken other_taken_now : Taken) (lines other_lines : Device)
+      → has_file files file f → has_file other_files other_file g
+      → EndsForm remaining contents opens makes closes file out files files_now taken taken_now 0 lines
+      → EndsForm remaining contents opens makes closes other_file other_out other_files other_files_now other_taken other_taken_now 0
+      other_lines
+      → (m n : List ℕ) × has_written files_now m × has_written other_files_now n × Headline f g m n

@@ -1,4 +1,6 @@
 pub mod Programs
 pub mod Laws
 pub mod Logs
+pub mod Named
+pub mod lemmas
 pub mod calls

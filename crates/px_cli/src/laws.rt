@@ -1,8 +1,9 @@
 // What follows for the files from the contract of a run. Each law is the contract of a function that does nothing.
-ghost use Rattle.px_cli.specs.Laws.{OutputsTell};
+ghost use Rattle.px_cli.specs.Laws.{OutputsTell, KnownOutputsTell};
 ghost use Rattle.px_cli.specs.Logs.{OnlyCalls};
 
 use crate::files::Opens;
+use crate::named::KnownFiles;
 
 /// After two runs of `normalise FILE OUT` with status 0, what each `OUT` has received is equal exactly if the two
 /// files mean the same. It has the meaning of its file, and is its own normal form.
@@ -17,3 +18,11 @@ pub fn outputs_tell<O: Opens>()
 pub fn only_calls<O: Opens>()
     ensures { OnlyCalls O.Reader.remaining O.Writer.contents O.opens O.makes O.closes }
 {}
+
+/// The same at files whose bytes are known, as those of `Named` are: two runs of `normalise FILE OUT` with status 0, of
+/// which each has its `FILE`, have written two files whose bytes are equal exactly if the two files mean the same.
+pub fn known_outputs_tell<O: KnownFiles>()
+    ensures { KnownOutputsTell O.Reader.remaining O.Writer.contents O.opens O.makes O.closes O.has_file O.has_written }
+{
+    outputs_tell::<O>();
+}

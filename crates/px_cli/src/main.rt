@@ -14,6 +14,7 @@
 
 mod files;
 mod laws;
+mod named;
 mod run;
 
 use crate::files::System;
