@@ -13,9 +13,11 @@ import hypothesis.strategies as st
 import pytest
 from exifnorm_pictures.cli import main
 from exifnorm_pictures.extract import exiftool
+from exifnorm_pictures.extract.extraction import blocks_of
+from exifnorm_pictures.extract.judge import judge_all
 from exifnorm_pictures.fields.listing import MAKER_NOTE, Field, digest_but_note, text_of_fields
 from made_blocks import ASCII, LONG, SHORT as SHORT_, UNDEFINED, block, entry, table
-from made_files import app1, app1_xmp, exif, jpeg, title
+from made_files import app1, app1_xmp, exif, jpeg, page, tiff, title
 from studio import needs
 
 
@@ -422,6 +424,66 @@ def test_other_commands(run, called, folder):
         assert base.execute("SELECT kind, keep FROM groups").fetchall() == [("maker note", None)] * 2
     called("forget", "pb", "--catalogue", "all")
     assert run("same", "--catalogue", "all")[1][-1]["maker_notes_unknown"] == {"gone or changed": 1}
+
+
+# In a TIFF
+
+
+def around_in_tiff(note, gap=0, *more):
+    """A TIFF with a MakerNote. A gap moves all parts."""
+    return tiff(page((0x010F, ASCII, b"Canon\0"), (0x8769, LONG, [(0x927C, UNDEFINED, note)]), *more), more=bytes(gap))
+
+
+def in_tiff(gap=0, *more, wrong=False):
+    """The same with an owner's name at an offset in the file, which may be right only without a gap and more fields."""
+
+    def note(start):
+        return table([entry(0x0009, ASCII, 8, start + 18)]) + b"Annette\0"
+
+    found = around_in_tiff(note(0)) if wrong else around_in_tiff(note(0), gap, *more)
+    return around_in_tiff(note(found.index(note(0))), gap, *more)
+
+
+MOVED = "the same but for a MakerNote that moved"
+
+
+@needs("exiftool")
+@pytest.mark.parametrize(
+    "one, other, result, basis",
+    [
+        (in_tiff(), in_tiff(64, wrong=True), "different", None),
+        (in_tiff(), in_tiff(64), MOVED, "maker note"),
+        (around_in_tiff(SHORT), around_in_tiff(SHORT, 64), MOVED, "maker note"),
+        (in_tiff(), in_tiff() + bytes(3), "same", "meaning"),
+    ],
+    ids=["moved alone", "moved, with right offsets", "moved, with no offset", "not moved"],
+)
+def test_in_a_tiff(put, same, run, one, other, result, basis):
+    """Its offsets count from the file's header, so it is the place in the file that says whether it has moved."""
+    put(a=one, b=other)
+    assert [it["basis"] for it in same()[1]] == [basis] * bool(basis)
+    assert run("compare", "p/a.jpg", "p/b.jpg")[1][0]["result"] == result
+
+
+@needs("exiftool")
+def test_in_a_tiff_with_other_xmp(put, run):
+    """An edit of XMP that moves the MakerNote damages it, and that is said."""
+    put(a=in_tiff(), b=in_tiff(64, (0x02BC, 1, title("one")), wrong=True))
+    _, (answer,) = run("compare", "p/a.jpg", "p/b.jpg")
+    assert "ExifIFD:MakerNote" in [it["name"] for it in answer["fields"]] and answer["kinds"]["exif"] == "same"
+    assert "now reads otherwise" in answer["note"]
+
+
+def test_places_in_a_tiff(folder):
+    """Pages whose blocks are equal have each MakerNote at its own place."""
+    octets = around_in_tiff(SHORT)
+    for count in (2, 12):
+        many = tiff(*[page((0x8769, LONG, [(0x927C, UNDEFINED, SHORT)]))] * count)
+        (folder / "a").write_bytes(many)
+        places = [it.note for it in judge_all(blocks_of(bytes(folder / "a")), True)]
+        assert places == [at for at in range(len(many)) if many.startswith(SHORT, at)] and len(places) == count
+    (folder / "a").write_bytes(octets)
+    assert [it.note for it in judge_all(blocks_of(bytes(folder / "a")), True)] == [octets.index(SHORT)]
 
 
 FIELDS = st.builds(

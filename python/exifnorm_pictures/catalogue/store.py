@@ -24,7 +24,7 @@ from ..files import mounts, opening as files
 from .records import Block, Damaged, Picture, PictureRecord, Stamp, block_of_row, has, not_read_of_row, picture_of_row
 
 APPLICATION = 0x45584E50  # 'EXNP', which distinguishes a catalogue from other SQLite files
-VERSION = 5
+VERSION = 6
 CACHE = 32_000  # kB of a catalogue that is written to: digests go into its index in no order
 PATIENCE = 200  # milliseconds that closing waits for other programs; while they read, the write-ahead log stays
 WAIT = 10  # seconds for other processes that set the journal's mode
@@ -62,7 +62,7 @@ CREATE TABLE pictures (
     iptc_octets TEXT NOT NULL,
     xmp_octets TEXT NOT NULL,
     exif_repaired TEXT,             -- SHA-256 of what the Exif blocks mean after repairs that lose nothing, if one is refused
-    maker_notes TEXT NOT NULL,      -- where the MakerNotes begin in their blocks, which decides what they mean; empty if there is none
+    maker_notes TEXT NOT NULL,      -- where the MakerNotes begin, which decides what they mean; empty if there is none
     file TEXT NOT NULL,             -- SHA-256 of the whole file, if nothing else of it can be compared; else empty
     coded_picture TEXT,             -- BLAKE2b of the coded picture; empty: not known of this file; NULL: not requested
     sidecars TEXT NOT NULL,         -- names, sizes, times and inodes of its XMP sidecars; empty if there is none
@@ -83,7 +83,7 @@ CREATE TABLE blocks (
     octets TEXT NOT NULL,           -- SHA-256 of the block as it is in the file
     repair TEXT,                    -- of a refused block: the steps after which it is accepted, JSON: cause, what was done, what is lost
     repaired TEXT,                  -- SHA-256 of what it means after them
-    note INTEGER,                   -- where its MakerNote begins
+    note INTEGER,                   -- where its MakerNote begins: in the block, or in a TIFF, whose block is laid out anew, in the file
     fields BLOB,                    -- its fields: JSON, compressed by zlib if it is long; of a refused block, those after repair
     PRIMARY KEY (picture, number)
 ) WITHOUT ROWID;

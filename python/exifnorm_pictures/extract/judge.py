@@ -69,14 +69,14 @@ def _says_nothing(it: FoundBlock) -> bool:
 _NOTHING = (b"II*\0\x08\0\0\0\0\0", b"MM\0*\0\0\0\x08\0\0")  # a header, and a directory without entries
 
 
-def _with_notes(it: Block, block: bytes, blocks: Blocks) -> Block:
+def _with_notes(it: Block, at: FoundBlock, blocks: Blocks) -> Block:
     """An Exif block with the place of its MakerNote; the bytes that only it can reach are noted as not read."""
-    if not structure.may_have_notes(block):
+    if not structure.may_have_notes(at.data):
         return it
-    found = structure.notes(block)
+    found = structure.notes(at.data)
     if found.uncovered:
         blocks.leave(found.words + ("" if it.name == NAMES[EXIF] else f" ({it.name})"), found.uncovered)
-    return it if found.place is None else it._replace(note=found.place)
+    return it if found.place is None else it._replace(note=found.place if at.note is None else at.note)
 
 
 def judge_all(blocks: Blocks, with_fields: bool = False) -> List[Block]:
@@ -93,14 +93,15 @@ def judge_all(blocks: Blocks, with_fields: bool = False) -> List[Block]:
             continue
         block = known.get((it.kind, it.data)) if many else None
         if block is not None:
-            found.append(block._replace(name=it.name, source=it.where, extractor=it.extractor))
+            note = block.note if it.note is None else it.note
+            found.append(block._replace(name=it.name, source=it.where, extractor=it.extractor, note=note))
             continue
         if it.kind == XMP and not it.data.startswith(COMPRESSED):
             block = extended.judge(it, with_fields) if extended else _judge_xmp(it, none, {}, with_fields)
         else:
             block = judge(it.kind, it.data, with_fields, it)
             if it.kind == EXIF and with_fields and (block.digest or block.repaired):
-                block = _with_notes(block, it.data, blocks)
+                block = _with_notes(block, it, blocks)
         if many:  # pages of a TIFF can share a value
             blocks.budget.check_time()
             known[it.kind, it.data] = block

@@ -1,4 +1,4 @@
--- version 5
+-- version 6
 CREATE TABLE blocks (
     picture INTEGER NOT NULL REFERENCES pictures(id) ON DELETE CASCADE,
     number INTEGER NOT NULL,        -- the order in the file
@@ -14,7 +14,7 @@ CREATE TABLE blocks (
     octets TEXT NOT NULL,           -- SHA-256 of the block as it is in the file
     repair TEXT,                    -- of a refused block: the steps after which it is accepted, JSON: cause, what was done, what is lost
     repaired TEXT,                  -- SHA-256 of what it means after them
-    note INTEGER,                   -- where its MakerNote begins
+    note INTEGER,                   -- where its MakerNote begins: in the block, or in a TIFF, whose block is laid out anew, in the file
     fields BLOB,                    -- its fields: JSON, compressed by zlib if it is long; of a refused block, those after repair
     PRIMARY KEY (picture, number)
 ) WITHOUT ROWID;
@@ -52,7 +52,7 @@ CREATE TABLE pictures (
     iptc_octets TEXT NOT NULL,
     xmp_octets TEXT NOT NULL,
     exif_repaired TEXT,             -- SHA-256 of what the Exif blocks mean after repairs that lose nothing, if one is refused
-    maker_notes TEXT NOT NULL,      -- where the MakerNotes begin in their blocks, which decides what they mean; empty if there is none
+    maker_notes TEXT NOT NULL,      -- where the MakerNotes begin, which decides what they mean; empty if there is none
     file TEXT NOT NULL,             -- SHA-256 of the whole file, if nothing else of it can be compared; else empty
     coded_picture TEXT,             -- BLAKE2b of the coded picture; empty: not known of this file; NULL: not requested
     sidecars TEXT NOT NULL,         -- names, sizes, times and inodes of its XMP sidecars; empty if there is none

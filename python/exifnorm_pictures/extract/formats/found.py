@@ -79,6 +79,7 @@ class FoundBlock(NamedTuple):
     where: str  # the position in the file, for people: `APP1 segment at 20`
     extractor: str = OWN
     extends: str = ""  # for extended XMP: the digest in its main packet
+    note: Optional[int] = None  # where the MakerNote begins in the file, if the block isn't in it as it is here
 
 
 class NotRead(NamedTuple):
@@ -132,7 +133,7 @@ class Blocks:
     has_more: bool = False  # whether ExifTool may find blocks in a part that was not read
     budget: Budget = field(default_factory=Budget, repr=False, compare=False)
 
-    def add(self, kind: str, data: bytes, where: str, part: str = "", extractor: str = OWN) -> None:
+    def add(self, kind: str, data: bytes, where: str, part: str = "", extractor: str = OWN, note: Optional[int] = None) -> None:
         """Adds the next block of a kind, in the whole file or in one part of it.
 
         >>> some = Blocks()
@@ -143,7 +144,7 @@ class Blocks:
         self.check()
         name = NAMES[kind] + (f" of {part}" if part else "")
         number = self.counts[name] = self.counts.get(name, 0) + 1
-        self.found.append(FoundBlock(kind, data, name if number == 1 else f"{ordinal(number)} {name}", where, extractor))
+        self.found.append(FoundBlock(kind, data, name if number == 1 else f"{ordinal(number)} {name}", where, extractor, note=note))
 
     def check(self) -> None:
         """Raises `TooMuch` if the file may have no further block."""

@@ -189,7 +189,7 @@ class Reader:
         if layout.length > LIMIT:
             raise Broken(f"{of} has more than {LIMIT:,} bytes of values")
         where = f"directory at {page.directory.at}" + (f", without {', '.join(sorted(left_out))}" if left_out else "")
-        self.blocks.add(EXIF, layout.block(), where, page.part)
+        self.blocks.add(EXIF, layout.block(), where, page.part, note=layout.note)
 
     def _is_whole(self, it: Entry) -> bool:
         """Whether an entry that is left out is a list of numbers that the file contains."""

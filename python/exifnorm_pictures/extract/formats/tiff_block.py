@@ -8,11 +8,12 @@ from __future__ import annotations
 
 import struct
 from bisect import bisect_right
-from typing import Dict, List, NamedTuple, Tuple
+from typing import Dict, List, NamedTuple, Optional, Tuple
 
 from .tiff_directories import LONG, Directories, Entry
 
 NOWHERE = 0xFFFFFFFF
+_EXIF, _MAKER_NOTE = 0x8769, 0x927C
 
 
 class Table(NamedTuple):
@@ -59,6 +60,13 @@ class Layout:
             written.append(bytes(4))
         written += [self._directories.part(start, end) for start, end in self._parts]
         return b"".join(written)
+
+    @property
+    def note(self) -> Optional[int]:
+        """Where the MakerNote begins in the file, since its offsets may count from the file's header. None: none, or in its entry."""
+        exif = self._tables[0].below.get(_EXIF)
+        notes = [self._directories.place_of(it) for it in exif.entries if it.tag == _MAKER_NOTE and it.size > 4] if exif else []
+        return notes[-1][0] if notes and notes[-1] else None
 
     def _last_field(self, table: Table, entry: Entry) -> bytes:
         if entry.tag in table.below:
