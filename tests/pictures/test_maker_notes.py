@@ -12,7 +12,7 @@ import hypothesis
 import hypothesis.strategies as st
 import pytest
 from exifnorm_pictures.cli import main
-from exifnorm_pictures.extract import exiftool
+from exifnorm_pictures.extract import exiftool, structure
 from exifnorm_pictures.extract.extraction import blocks_of
 from exifnorm_pictures.extract.judge import judge_all
 from exifnorm_pictures.fields.listing import MAKER_NOTE, Field, digest_but_note, text_of_fields
@@ -86,6 +86,8 @@ FILES = {
     "with a wrong offset": noted(moved=64, wrong=-3),
     "with another artist": noted(artist=b"Eva"),
     "hidden": noted(hidden=b"Anna"),
+    "hidden, moved": noted(hidden=b"Anna", moved=64),
+    "hidden further behind": noted(hidden=b"\0Anna"),
     "hidden otherwise, moved": noted(hidden=b"Otto", moved=64),
     "warned of": noted(bad=True),
     "warned of, moved": noted(bad=True, moved=64),
@@ -424,6 +426,24 @@ def test_other_commands(run, called, folder):
         assert base.execute("SELECT kind, keep FROM groups").fetchall() == [("maker note", None)] * 2
     called("forget", "pb", "--catalogue", "all")
     assert run("same", "--catalogue", "all")[1][-1]["maker_notes_unknown"] == {"gone or changed": 1}
+
+
+# Bytes that no field has
+
+
+def test_offsets_of_uncovered_bytes():
+    """They count from the MakerNote on if nothing else leads to them."""
+
+    def octets(moved, kodak=False):
+        at = 38 + 12 * kodak
+        fields = [entry(0x010F, ASCII, 4, 0x41 << 24), *[entry(0x8290, LONG, 1, 8)] * kodak, entry(0x8769, LONG, 1, at)]
+        note = table([entry(0x927C, UNDEFINED, 8, at + 18 + moved)])
+        found = structure.notes(block(fields) + note + bytes(moved) + b"the note" + b"\0Anna")
+        assert found.place == at + 18 + moved and found.words.startswith("4 bytes that only ")
+        return found.octets
+
+    assert octets(0) == octets(9) == b"9 4 Anna"
+    assert octets(0, kodak=True) == b"77 4 Anna" and octets(9, kodak=True) == b"86 4 Anna"
 
 
 # In a TIFF

@@ -52,6 +52,10 @@ def reached():
             one, other = (holder(make(at) + text) for text in (b"Anna ", b"Otto "))
             yield Pair(f"{kind}: bytes behind {name} that differ", one, other, UNDECIDED)
             yield Pair(f"{kind}: bytes behind {name} that are equal", one, holder(make(at) + b"Anna \0\0"), SAME)
+            yield Pair(f"{kind}: bytes behind {name} that have moved", one, holder(make(at) + b"\0Anna "), UNDECIDED)
+    note = (0x8769, LONG, [(0x927C, UNDEFINED, b"a note that leads elsewhere")])
+    one, other = (tiff(page(note), more=octets) for octets in (b"Anna\0\0", b"\0\0Anna"))
+    yield Pair("TIFF: bytes before a MakerNote that have moved", one, other, UNDECIDED)
     plain = block([MAKE])
     yield Pair("filling that nothing leads to", jpeg(app1(plain + b"\0\0\0")), jpeg(app1(plain)), SAME)
 

@@ -75,7 +75,7 @@ def _with_notes(it: Block, at: FoundBlock, blocks: Blocks) -> Block:
         return it
     found = structure.notes(at.data)
     if found.uncovered:
-        blocks.leave(found.words + ("" if it.name == NAMES[EXIF] else f" ({it.name})"), found.uncovered)
+        blocks.leave(found.words + ("" if it.name == NAMES[EXIF] else f" ({it.name})"), found.octets)
     return it if found.place is None else it._replace(note=found.place if at.note is None else at.note)
 
 

@@ -110,13 +110,32 @@ class Notes(NamedTuple):
     """Where the MakerNote begins (None: none, or in its entry), the bytes that no field covers, and what may lead to them."""
 
     place: Optional[int]
-    uncovered: bytes
+    uncovered: "List[Gap]"
     by: Tuple[str, ...]
 
     @property
     def words(self) -> str:
         """The uncovered bytes for people."""
-        return counted(len(self.uncovered) - self.uncovered.count(0), " and ".join(self.by))
+        return counted(sum(len(octets) - octets.count(0) for _, octets in self.uncovered), " and ".join(self.by))
+
+    @property
+    def octets(self) -> bytes:
+        """The uncovered bytes with their offsets, by which they are found: from the MakerNote on, whose place is compared too, because a
+        program may move both; from the block's header on, if another pointer may lead to them."""
+        start = self.place if self.place is not None and self.by == (PRIVATE[MAKER_NOTE],) else 0
+        return b"".join(placed(at - start, octets) for at, octets in self.uncovered)
+
+
+Gap = Tuple[int, bytes]  # bytes that no field covers, and their offset
+
+
+def placed(at: int, octets: bytes) -> bytes:
+    """Bytes for a digest, with their offset.
+
+    >>> placed(-2, b"Anna")
+    b'-2 4 Anna'
+    """
+    return b"%d %d " % (at, len(octets)) + octets
 
 
 def counted(number: int, by: str) -> str:
@@ -168,21 +187,21 @@ def notes(block: bytes) -> Notes:
         if name == "main" and following + 4 <= end:
             waiting.append(("thumb", four(block, following)[0]))
     if not leads:
-        return Notes(None, b"", ())
-    return Notes(place, b"\0".join(gaps(block, covered)), tuple(leads))
+        return Notes(None, [], ())
+    return Notes(place, gaps(block, covered), tuple(leads))
 
 
-def gaps(block: bytes, covered: List[Tuple[int, int]]) -> List[bytes]:
-    """The bytes between some ranges, without the filling around them.
+def gaps(block: bytes, covered: List[Tuple[int, int]]) -> List[Gap]:
+    """The bytes between some ranges, without the filling around them, and their offsets.
 
     >>> gaps(b"ab\\0cd\\0\\0", [(0, 2)])
-    [b'cd']
+    [(3, b'cd')]
     """
-    found: List[bytes] = []
+    found: List[Gap] = []
     reached = 0
     for start, after in [*sorted(covered), (len(block), len(block))]:
-        if start > reached and (gap := block[reached:start].strip(b"\0")):
-            found.append(gap)
+        if start > reached and (gap := block[reached:start].lstrip(b"\0")):
+            found.append((start - len(gap), gap.rstrip(b"\0")))
         if after > reached:
             reached = after
     return found

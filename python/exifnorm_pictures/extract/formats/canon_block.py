@@ -117,7 +117,7 @@ def _laid_out(note: bytes, budget: Budget) -> bytes:
         return note
     places = [directories.place_of(it) for it in first.entries if it.size > 4]
     reached = [it for it in places if it is not None]
-    rest = gaps(note, [(0, 8), (first.at, first.at + 6 + 12 * len(first.entries)), *reached])
+    rest = [octets for _, octets in gaps(note, [(0, 8), (first.at, first.at + 6 + 12 * len(first.entries)), *reached])]
     if note[:4] not in HEADS or first.following or len(reached) < len(places) or rest not in _NOTHING:
         return note
     return Layout(directories, Table(first.entries, {})).block()

@@ -14,7 +14,7 @@ from typing import Deque, Dict, Iterator, List, NamedTuple, Optional, Set, Tuple
 from exifnorm import LIMIT
 
 from ..budgets import DIRECTORIES, STRIPS
-from ..structure import counted
+from ..structure import counted, placed
 from . import photoshop
 from .found import EXIF, IPTC, XMP, Blocks, Broken, NotRead, length_of
 from .private import RW2_HEAD, Private
@@ -101,6 +101,7 @@ class Reader:
         length = 16 if self.blocks.type in ("CR2", BIG) else 8  # of the header
         self._covered: List[Tuple[int, int]] = [(0, length)]  # all these parts
         self._has_note = False
+        self._notes: Set[int] = set()  # where the MakerNotes begin whose places are compared
         self._end: Optional[int] = length  # after all parts that the directories point to; None if it is unknown
         self._private = Private(directories, self.blocks, self._reaches, whole)
         self._pixels = {tag: name for tag, name in PIXELS.items() if not (self._private.is_panasonic and tag in _FREE)}
@@ -185,6 +186,8 @@ class Reader:
         if not kept:
             return
         layout = Layout(self.directories, self._table(kept, _POINTERS))
+        if layout.note is not None:
+            self._notes.add(layout.note)
         of = page.part or "page 1"
         if layout.length > LIMIT:
             raise Broken(f"{of} has more than {LIMIT:,} bytes of values")
@@ -240,13 +243,17 @@ class Reader:
             self.blocks.not_read.append(NotRead(f"trailer of {length_of(size - self._end)}", digest))
 
     def _between(self) -> None:
-        """The bytes that no directory covers, if they aren't all 0."""
+        """The bytes that no directory covers, if they aren't all 0, with their offsets: from the MakerNote on, if there is one, because a
+        program may move both."""
         stream, end, count = self.directories.stream, 0, 0
+        (first,) = self._notes if len(self._notes) == 1 else (0,)
         found = hashlib.sha256()
         for start, stop in sorted(self._covered):
+            at = end
             for data in pieces(stream, end, min(start, self.directories.size)) if start > end else ():
-                if bare := data.strip(b"\0"):
-                    found.update(bare)
+                at += len(data)
+                if bare := data.lstrip(b"\0"):
+                    found.update(placed(at - len(bare) - first, bare.rstrip(b"\0")))
                     count += len(bare) - bare.count(0)
             end = max(end, stop)
         if count:
