@@ -59,6 +59,20 @@ ROWS = {
         {"creator": "different"},
     ),
     "a date of the same day": (["-ExifIFD:DateTimeOriginal=2003:05:24 22:21:01", "-IPTC:DateCreated=2003:05:24"], {}),
+    "the year alone": (["-ExifIFD:DateTimeOriginal=2003:05:24 22:21:01", "-XMP-photoshop:DateCreated=2003"], {}),
+    "the month alone": (["-ExifIFD:DateTimeOriginal=2003:05:24 22:21:01", "-XMP-photoshop:DateCreated=2003:05"], {}),
+    "the year in IPTC and XMP": (["-IPTC:DateCreated=2003:00:00", "-XMP-photoshop:DateCreated=2003"], {}),
+    "the month in IPTC and XMP": (["-IPTC:DateCreated=2003:05:00", "-XMP-photoshop:DateCreated=2003:05"], {}),
+    "the month, with blanks, and a day": (["-n", "-ExifIFD:DateTimeOriginal=2003:05:     :  :  ", "-IPTC:DateCreated=2003:05:24"], {}),
+    "a day, with a time, of a month": (
+        ["-IPTC:DateCreated=2003:05:00", "-IPTC:TimeCreated=12:00:00+02:00", "-XMP-photoshop:DateCreated=2003:05:24 12:00:00+02:00"],
+        {},
+    ),
+    "another year": (
+        ["-ExifIFD:DateTimeOriginal=2003:05:24 22:21:01", "-XMP-photoshop:DateCreated=2002"],
+        {"date created": "different"},
+    ),
+    "another month": (["-IPTC:DateCreated=2003:05:00", "-XMP-photoshop:DateCreated=2003:06"], {"date created": "different"}),
     "a date of another day": (
         ["-ExifIFD:DateTimeOriginal=2003:05:24 22:21:01", "-IPTC:DateCreated=2003:05:25"],
         {"date created": "different"},

@@ -224,16 +224,32 @@ def _without_accents(text: str, against: str) -> bool:
     return text in (once, each)
 
 
-_TIME = re.compile(r"(\d{4}-\d\d-\d\d)(?: (\d\d:\d\d(?::\d\d)?)(?:\.\d+)?)?(Z|[+-]\d\d:\d\d)?")
+_TIME = re.compile(r"(\d{4}(?:-\d\d){0,2})(?: (\d\d:\d\d(?::\d\d)?)(?:\.\d+)?)?(Z|[+-]\d\d:\d\d)?")
+
+
+_UP_TO_UNKNOWN = re.compile(r"(\d{4}(?:-(?!00)\d\d)?)-(?:00\b|\D|$)")  # IPTC has 00 for a month or a day that isn't known, and Exif blanks
+
+
+def _known(date: str) -> str:
+    """A date as far as it is known.
+
+    >>> _known("1911-00-00"), _known("1911-05-00 00:00:00"), _known("1911-05-24")
+    ('1911', '1911-05', '1911-05-24')
+    """
+    found = _UP_TO_UNKNOWN.match(date)
+    return found[1] if found else date
 
 
 def _is_same_time(one: str, other: str) -> bool:
-    """Whether two dates are the same as far as both are known: to the day, the minute or the second, with or without a time zone.
+    """Whether two dates are the same as far as both are known: to the year, the month, the day, the minute or the second, with or without a
+    time zone.
 
     >>> _is_same_time("2003-05-24", "2003-05-24 22:21:01"), _is_same_time("2003-05-24 22:21:01+02:00", "2003-05-24 20:21:01Z")
     (True, True)
+    >>> _is_same_time("2003-05-00", "2003-05-24"), _is_same_time("2003-05", "2003-06-24")
+    (True, False)
     """
-    found = [_TIME.fullmatch(it) for it in (one, other)]
+    found = [_TIME.fullmatch(_known(it)) for it in (one, other)]
     if not found[0] or not found[1]:
         return False
     zones = [it[3] for it in found if it]
