@@ -60,6 +60,24 @@ def reached():
     yield Pair("filling that nothing leads to", jpeg(app1(plain + b"\0\0\0")), jpeg(app1(plain)), SAME)
 
 
+# Pointers of a TIFF
+
+
+def of_type(octets, tag, kind, order=">"):
+    """A file in which the pointer of a tag has another type."""
+    return octets.replace(struct.pack(order + "HH", tag, LONG), struct.pack(order + "HH", tag, kind))
+
+
+def pointers():
+    """libtiff gives the pointers to the Exif and the GPS directory the type IFD. What is there counts."""
+    for tag, rows in ((0x8769, [(0x8827, 3, 200), (0xA005, LONG, [(1, ASCII, b"R98")])]), (0x8825, [(1, ASCII, b"N\0")])):
+        one, other = (tiff(page((tag, LONG, some))) for some in (rows, [*rows, (0x1D, ASCII, b"2026:11:27\0")]))
+        yield Pair(f"TIFF: the pointer {tag:04x} of type IFD", one, of_type(one, tag, 13), SAME)
+        yield Pair(f"TIFF: the pointer {tag:04x} of type IFD, and another field", one, of_type(other, tag, 13), DIFFERENT)
+    one = of_type(one, 0xA005, 13)
+    yield Pair("TIFF: a pointer of type 14", one, of_type(one, 0x8825, 14), UNDECIDED)
+
+
 # Segments of a JPEG
 
 
@@ -129,7 +147,7 @@ def damages():
     yield Pair("two JPEGs that are cut and have other Exif", cut[:end], cut[:end].replace(b"abc", b"xyz"), DIFFERENT)
 
 
-@of_pairs(parts, reached, segments, texts, damages)
+@of_pairs(parts, reached, pointers, segments, texts, damages)
 def test_pair(pair, compared):
     status, objects = compared(pair.before, pair.after)
     assert status == pair.status, objects

@@ -407,7 +407,9 @@ class Readers(unittest.TestCase):
             (0x8606, LONG, 0),
         )
         octets = tiff(first, page((0x02BC, 1, U)), behind=b"\0behind")
-        with mock.patch.object(tiff_, "Layout", lambda _, table: mock.Mock(length=8, block=lambda: [it.tag for it in table.entries])):
+        with mock.patch.object(
+            tiff_, "Layout", lambda _, table: mock.Mock(length=8, note=None, has_ifd=False, block=lambda: [it.tag for it in table.entries])
+        ):
             found = found_in(octets)
         kept = [0x100, 0x101, 0x102, 0x103, 0x106, 0x10F, 0x115, 0x116, 0x8606]
         places = [it.where.partition(",")[0] for it in found.found if it.kind == "exif"]
@@ -471,12 +473,13 @@ class Readers(unittest.TestCase):
                 self.assertEqual([tuple(it) for it in found_in(tiff([(tag, kind, 8)])).not_read], parts)
 
     def test_pointers_of_a_tiff(self):
-        """A pointer is one LONG (TIFF 6.0 and CIPA DC-008, 4.6.3); what has another type or count is a value, and stays as it is."""
+        """A pointer is one LONG (TIFF 6.0 and CIPA DC-008, 4.6.3), or one IFD (TIFF Technical Note 1), which is LONG in the block; what has
+        another type or count is a value, and stays as it is."""
         for order in "<>":
             head = (b"II*\0" if order == "<" else b"MM\0*") + struct.pack(order + "IH", 8, 1)
             inside = struct.pack(order + "HHHII", 1, 0x9999, ASCII, 4, 0x61626300) + bytes(4)
             for tag in (0x8769, 0x8825):
-                for kind, count in ((LONG, 2), (13, 1), (9, 1), (LONG, 0), (7, 4)):
+                for kind, count in ((LONG, 2), (13, 2), (9, 1), (LONG, 0), (7, 4)):
                     block = head + struct.pack(order + "HHII", tag, kind, count, 26) + bytes(4)
                     block += struct.pack(order + "II", 26, 26) if count == 2 else b""
                     rest = inside if count != 2 else b""
@@ -484,6 +487,8 @@ class Readers(unittest.TestCase):
                     self.seen(block + rest, [("exif", "Exif", "directory at 8", block)], trailer)
                 block = head + struct.pack(order + "HHII", tag, LONG, 1, 26) + bytes(4) + inside
                 self.seen(block, [("exif", "Exif", "directory at 8", block)])
+                as_ifd = block[:12] + struct.pack(order + "H", 13) + block[14:]
+                self.seen(as_ifd, [("exif", "Exif", "directory at 8, with pointers of type IFD as LONG", block)])
                 second = (
                     block[:8]
                     + struct.pack(order + "H", 2)

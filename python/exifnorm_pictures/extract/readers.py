@@ -83,7 +83,7 @@ FORMATS: Tuple[Format, ...] = (
         "TIFF; DNG, CR2, NEF, PEF, ARW, SRW",
         _is_tiff,
         tiff.read,
-        "each page, each SubIFD and each camera profile",
+        "each page, each SubIFD and each camera profile; a pointer of type IFD counts as LONG",
         "tag 83bb; resource 0404",
         "tag 02bc; resource 0424",
         "trailers, Photoshop's layers, bytes that only a MakerNote can reach; the original raw file in a DNG; Sony's private directory",

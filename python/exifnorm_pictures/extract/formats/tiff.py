@@ -19,7 +19,7 @@ from . import photoshop
 from .found import EXIF, IPTC, XMP, Blocks, Broken, NotRead, length_of
 from .private import RW2_HEAD, Private
 from .streams import Stream, digest_of_rest, pieces
-from .tiff_block import Layout, Table, is_pointer
+from .tiff_block import Layout, Table, is_directory
 from .tiff_directories import HEADS, IFD, LONG, Directories, Directory, Entry
 
 __all__ = ["BIG", "HEADS", "PIXELS", "RAW_HEADS", "read", "read_pages"]
@@ -192,6 +192,7 @@ class Reader:
         if layout.length > LIMIT:
             raise Broken(f"{of} has more than {LIMIT:,} bytes of values")
         where = f"directory at {page.directory.at}" + (f", without {', '.join(sorted(left_out))}" if left_out else "")
+        where += ", with pointers of type IFD as LONG" if layout.has_ifd else ""
         self.blocks.add(EXIF, layout.block(), where, page.part, note=layout.note)
 
     def _is_whole(self, it: Entry) -> bool:
@@ -222,7 +223,7 @@ class Reader:
     def _table(self, entries: List[Entry], pointers: _Pointers) -> Table:
         below: Dict[int, Table] = {}
         for it in entries:
-            if it.tag in pointers and is_pointer(it) and it.tag not in below:
+            if it.tag in pointers and is_directory(it) and it.tag not in below:
                 directory = self.directories.read(self.directories.number(it.last))
                 self._reaches(directory.end, directory.at)
                 self._has_note = self._has_note or any(one.tag == _MAKER_NOTE and one.size > 4 for one in directory.entries)

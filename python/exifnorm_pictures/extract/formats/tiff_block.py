@@ -10,7 +10,7 @@ import struct
 from bisect import bisect_right
 from typing import Dict, List, NamedTuple, Optional, Tuple
 
-from .tiff_directories import LONG, Directories, Entry
+from .tiff_directories import IFD, LONG, Directories, Entry
 
 NOWHERE = 0xFFFFFFFF
 _EXIF, _MAKER_NOTE = 0x8769, 0x927C
@@ -26,6 +26,16 @@ class Table(NamedTuple):
 def is_pointer(it: Entry) -> bool:
     """Whether an entry has a pointer's type and count, and is followed."""
     return it.type == LONG and it.elements == 1
+
+
+def is_directory(it: Entry) -> bool:
+    """The same of a pointer to a directory, which may have type IFD, as libtiff writes it (TIFF Technical Note 1): it counts as LONG."""
+    return it.type in (LONG, IFD) and it.elements == 1
+
+
+def is_ifd(table: Table, it: Entry) -> bool:
+    """Whether an entry is a pointer of type IFD that is followed."""
+    return it.tag in table.below and it.type == IFD
 
 
 class Layout:
@@ -56,10 +66,16 @@ class Layout:
         for it in self._tables:
             written.append(struct.pack(order + "H", len(it.entries)))
             for entry in it.entries:
-                written.append(struct.pack(order + "HHI", entry.tag, entry.type, entry.elements) + self._last_field(it, entry))
+                kind = LONG if is_ifd(it, entry) else entry.type
+                written.append(struct.pack(order + "HHI", entry.tag, kind, entry.elements) + self._last_field(it, entry))
             written.append(bytes(4))
         written += [self._directories.part(start, end) for start, end in self._parts]
         return b"".join(written)
+
+    @property
+    def has_ifd(self) -> bool:
+        """Whether a pointer of type IFD is LONG in the block."""
+        return any(is_ifd(it, entry) for it in self._tables for entry in it.entries)
 
     @property
     def note(self) -> Optional[int]:
