@@ -182,7 +182,7 @@ class Mend(InFolder):
 
     def test_a_repair_reports_what_is_lost(self):
         found = self.mended("Doubled.jpg", step="repair", status=1)
-        self.assertEqual(found["lost"], ["[IFD0] Orientation : Rotate 90 CW"])
+        self.assertEqual(found["lost"], ["[IFD0] Orientation : Rotate 90 CW (6)"])
 
     def test_each_cause_that_a_jpeg_can_have(self):
         for name in sorted(it for it in os.listdir(refused()) if it.endswith(".jpg")):

@@ -10,7 +10,7 @@ import pytest
 from exifnorm_pictures.cli import main
 from exifnorm_pictures.extract.formats.found import EXIF, FoundBlock
 from exifnorm_pictures.fields import normal_form
-from exifnorm_pictures.refusals import repaired_file, repairs, steps
+from exifnorm_pictures.refusals import mend, repaired_file, repairs, steps
 from made_blocks import ASCII, BLOCKS, LONG, MAKE, SHORT, entry, table
 from made_files import app1, chunk, exif, jpeg, page, png, tiff, webp
 from studio import needs
@@ -321,6 +321,27 @@ def test_mend_without_exiftool(folder, capsys, monkeypatch):
         found = json.loads(capsys.readouterr().out.splitlines()[0])
         assert found["problem"] == "NeedsExifTool" and why in found["detail"] and "libimage-exiftool-perl" in found["detail"]
         assert not os.path.exists("other")
+
+
+@needs("exiftool")
+def test_mend_compares_exact_numbers(folder):
+    """Fractions that ExifTool rounds to the same text are other values."""
+    listed = []
+    for fraction in ((173, 32), (27, 5)):
+        octets = (
+            b"MM\0*\0\0\0\x08"
+            + table([entry(0x8769, LONG, 1, 26)])
+            + table([entry(0x920A, RATIONAL, 1, 44)])
+            + struct.pack(">II", *fraction)
+        )
+        (folder / "a.jpg").write_bytes(jpeg(app1(octets)))
+        listed += [it for it in mend._printed(str(folder / "a.jpg")) if "FocalLength" in it]
+    assert listed == ["[ExifIFD] FocalLength : 5.4 mm (5.40625)", "[ExifIFD] FocalLength : 5.4 mm (5.4)"]
+    lines = [b"A : a", b"B : b", b"A : 1"]
+    assert mend._with_numbers(lines) == lines and mend._with_numbers([*lines, b"C : b"]) == [
+        *lines,
+        b"C : b",
+    ], "values that aren't in pairs"
 
 
 def test_shown_fields_of_a_refused_block(folder, capsys, monkeypatch):

@@ -103,15 +103,20 @@ class Steps(unittest.TestCase):
             "ExifTool:all",
             "-x",
             "JFIF:all",
+            "-all",
+            "-all#",
             "p",
         ]
         lines = (
             b"[IFD0] Make      : A  b\n\n[IFD0] Make : A b\n[IFD1] ThumbnailOffset : 8\n[IFD1] Thumb : (Binary data 9 bytes, use -b option to extract)\n"
             b"[M] Start Of : 1\n[M] Started : \xff\n[E] Padding : 1\n[P] IPTCDigest : 0\n"
         )
-        calls, found = self.called(mend._printed, (0, lines))
+        calls, found = self.called(mend._printed, (0, lines + b"[IFD0] Flash : Fired\n" + lines + b"[IFD0] Flash : 1\n"))
         self.assertEqual(calls, [words])
-        self.assertEqual(dict(found), {"[IFD0] Make : A b": 2, "[IFD1] Thumb : (Binary data 9 bytes": 1, "[M] Started : \\xff": 1})
+        self.assertEqual(
+            dict(found),
+            {"[IFD0] Make : A b": 2, "[IFD1] Thumb : (Binary data 9 bytes)": 1, "[M] Started : \\xff": 1, "[IFD0] Flash : Fired (1)": 1},
+        )
 
 
 class Copies(WithPictures):

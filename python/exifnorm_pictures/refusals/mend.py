@@ -219,9 +219,22 @@ _OFFSETS = re.compile(rb"Offset|Start |Padding|IPTCDigest")
 
 
 def _printed(name: str) -> "Counter[str]":
-    """All values that ExifTool prints, except offsets."""
+    """All values that ExifTool prints, except offsets: as it prints them, and behind that exactly, since it rounds numbers for people."""
     words = ["-q", "-q", "-m", "-a", "-u", "-s", "-G1", "-x", "System:all", "-x", "File:all", "-x", "Composite:all"]
-    output = programs.run(programs.exiftool(*words, "-x", "ExifTool:all", "-x", "JFIF:all", name)).stdout
-    lines = [it for it in output.split(b"\n") if it and not _OFFSETS.search(it)]
-    cleaned = (re.sub(rb", use -b.*", b"", it).decode("utf-8", "backslashreplace") for it in lines)
-    return Counter(re.sub(r"\s+", " ", it) for it in cleaned)
+    output = programs.run(programs.exiftool(*words, "-x", "ExifTool:all", "-x", "JFIF:all", "-all", "-all#", name)).stdout
+    lines = [re.sub(rb"\s+", b" ", it) for it in output.split(b"\n") if it]
+    both = (re.sub(rb", use -b.*?(?=\)|$)", b"", it) for it in _with_numbers(lines) if not _OFFSETS.search(it))
+    return Counter(it.decode("utf-8", "backslashreplace") for it in both)
+
+
+def _with_numbers(lines: List[bytes]) -> List[bytes]:
+    """Each value as it is printed, and exactly, from a list of the former that is followed by one of the latter.
+
+    >>> _with_numbers([b"FocalLength : 5.4 mm", b"Make : a", b"FocalLength : 5.40625", b"Make : a"])
+    [b'FocalLength : 5.4 mm (5.40625)', b'Make : a']
+    """
+    half = len(lines) // 2
+    pairs = [(one, one.partition(b" : "), other.partition(b" : ")) for one, other in zip(lines[:half], lines[half:])]
+    if len(lines) % 2 or any(shown[0] != exact[0] for _, shown, exact in pairs):
+        return lines
+    return [one if shown == exact else one + b" (" + exact[2] + b")" for one, shown, exact in pairs]
