@@ -94,7 +94,7 @@ class Found(unittest.TestCase):
             self.assertEqual(named(found), [("exif", "Exif", A)], rest)
             where = at + len(rest) - 1 if rest.strip(b"\xff") == b"" else at
             self.assertEqual([it.what for it in found.not_read], [f"the rest of a damaged file ({why} at {where})"], rest)
-            self.assertEqual(found.not_read[0].digest, hashlib.sha256(head + rest).hexdigest())
+            self.assertEqual(found.not_read[0].digest, hashlib.sha256(rest).hexdigest())
             with self.assertRaises(Broken, msg=rest):
                 found_in(b"\xff\xd8" + segment(0xFE, b"c") + rest)
 

@@ -144,6 +144,9 @@ def damages():
     cut = jpeg(app1(exif(b"abc")), segment(0xE4, bytes(100)))
     end = cut.index(b"\xff\xe4") + 40
     yield Pair("a JPEG that is cut after its Exif", cut, cut[:end], UNDECIDED)
+    yield Pair("two JPEGs that are cut in another part", cut[:end], cut[: end - 1], UNDECIDED)
+    commented = [(jpeg(app1(exif(b"abc")), segment(0xFE, it)) + b"\xff\xe4\0\x99a").replace(b"\xff\xd9", b"") for it in (b"one", b"two")]
+    yield Pair("two JPEGs that are cut after another comment", *commented, SAME)
     yield Pair("two JPEGs that are cut and have other Exif", cut[:end], cut[:end].replace(b"abc", b"xyz"), DIFFERENT)
 
 

@@ -340,14 +340,14 @@ class Others(Pairs):
         self.assertIn("not wholly read: the rest of a damaged file (no marker", words)
 
     def test_long_broken_jpeg(self):
-        """It has a digest however long it is, as any part of it may be what was not read."""
+        """What follows the fault has a digest however long it is."""
         from exifnorm_pictures.extract import exiftool
 
-        octets = jpeg(app1(A))[: 2 + 4 + 6 + len(A)] + b"\0\0" + bytes(exiftool.WHOLE_FILE)
-        write(self.path("a.jpg"), octets)
+        following = b"\0\0" + bytes(exiftool.WHOLE_FILE)
+        write(self.path("a.jpg"), jpeg(app1(A))[: 2 + 4 + 6 + len(A)] + following)
         _, (rest,) = sides(self.path("a.jpg"))
         self.assertIn("no marker", rest.what)
-        self.assertEqual(rest.digest, hashlib.sha256(octets).hexdigest())
+        self.assertEqual(rest.digest, hashlib.sha256(following).hexdigest())
 
     def test_iptc_in_a_trailer(self):
         def fotostation(record):

@@ -324,6 +324,19 @@ def test_mend_without_exiftool(folder, capsys, monkeypatch):
 
 
 @needs("exiftool")
+def test_mend_of_a_jpeg_that_is_cut(folder, capsys, monkeypatch):
+    """Its block is mended, which moves the rest, and the rest stays as it is. The status says that this was not read."""
+    monkeypatch.chdir(folder)
+    for name in ("unsorted", "shared", "all"):
+        rest = b"\xff\xdb\0\x43\0cut"
+        (folder / "cut.jpg").write_bytes(b"\xff\xd8" + app1(REFUSED[name]) + rest)
+        assert main._run(["mend", "cut.jpg", f"{name}.jpg", "--json"]) == 2
+        found = json.loads(capsys.readouterr().out.splitlines()[0])
+        assert (found["step"], found["lost"], found["gained"]) == ("repair", [], []) and len(found["damage"]) == 1, found
+        assert (folder / f"{name}.jpg").read_bytes() == b"\xff\xd8" + app1(repairs.repaired(REFUSED[name]).block) + rest
+
+
+@needs("exiftool")
 def test_mend_compares_exact_numbers(folder):
     """Fractions that ExifTool rounds to the same text are other values."""
     listed = []

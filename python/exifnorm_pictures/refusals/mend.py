@@ -14,7 +14,7 @@ from ..cli.output import reason
 from ..compare.verdicts import ACCEPTED
 from ..extract import programs
 from ..extract.extraction import blocks_of
-from ..extract.formats.found import EXIF, Blocks, damage
+from ..extract.formats.found import EXIF, REST, Blocks, damage
 from ..extract.judge import judge_all
 from ..files import atomic, opening
 from .repaired_file import KINDS, repaired_file
@@ -124,8 +124,9 @@ def _repaired(picture: bytes, taken: Blocks, room: str) -> Optional[_Repair]:
 
 
 def _beside_exif(taken: Blocks) -> List[object]:
-    """What a repair of Exif must not change."""
-    return [*((it.kind, it.name, it.data) for it in taken.found if it.kind != EXIF), *sorted(taken.not_read)]
+    """What a repair of Exif must not change: the rest of a damaged file is the same wherever it begins."""
+    parts = ((REST if it.what.startswith(REST) else it.what, it.digest) for it in taken.not_read)
+    return [*((it.kind, it.name, it.data) for it in taken.found if it.kind != EXIF), *sorted(parts)]
 
 
 def _put(made: bytes, picture: bytes, out: bytes) -> None:

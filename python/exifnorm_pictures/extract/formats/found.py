@@ -34,7 +34,7 @@ PROBLEMS = {
     "InternalError": "exifnorm-pictures itself failed on this file; please report it",
 }
 
-REST = "the rest of a damaged file"  # how a part begins that has all of such a file that isn't in its blocks
+REST = "the rest of a damaged file"  # how a part begins that has such a file from its fault on
 BROKEN = "broken: "  # how the reason begins for which a damaged file was left to ExifTool
 UNREAD_TRAILER = "blocks of the trailer, for which ExifTool is needed"  # a part that is read once ExifTool is there
 

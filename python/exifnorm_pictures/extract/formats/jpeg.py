@@ -40,7 +40,7 @@ def read(stream: Stream, whole: bool = False) -> Blocks:
     except Broken as why:  # a lenient form: what a damaged file has before its fault
         if not blocks.found:
             raise
-        blocks.not_read.append(NotRead(f"{REST} ({why})", digest_of(stream, 0, end)))
+        blocks.not_read.append(NotRead(f"{REST} ({why})", digest_of(stream, head.end, end)))
         return blocks
     starts = _further(stream, head, end)
     whole = whole or head.index_is_wrong
@@ -59,7 +59,7 @@ class _Head:
         self.blocks = blocks
         self.part = part
         self.of = f" of {part}" if part else ""
-        self.end = 0  # after the header of the first scan, or after the end mark
+        self.end = 0  # after the header of the first scan, after the end mark, or after the last whole segment
         self.has_scan = False
         self.indexes: List[Tuple[int, bytes]] = []  # MPF indexes, each with the offset of its header
         self.index_is_wrong = False
@@ -76,9 +76,10 @@ class _Head:
             if kind or APP0 <= marker <= APP15:
                 self._segment(marker, kind, begins, at, head.octets[at : at + size])
         self._put_together()
+        self.end = head.end
         if head.fault:
             raise Broken(head.fault)
-        self.end, self.has_scan = head.end, bool(head.parts) and head.parts[-1][0] == SOS
+        self.has_scan = bool(head.parts) and head.parts[-1][0] == SOS
 
     def ends_at(self, end: int) -> bool:
         """Whether the bytes that were read show that the picture has one plain scan, and ends at `end`."""
