@@ -252,7 +252,7 @@ PAIRS = {
     "another layout": (
         WHOLE,
         cr3(*structures(order=">", filling=b"")[::-1], packet=T_OTHERWISE, long=False, behind=box(b"free", b"x")),
-        SAME,
+        UNDECIDED,  # whether its MakerNote reads the same: ExifTool isn't asked
     ),
     "other Exif": (WHOLE, cr3(*structures(exif=[(0x8827, SHORT, 400), *EXIF[1:]]), packet=T), DIFFERENT),
     "other GPS": (WHOLE, cr3(*structures(gps=GPS[:1]), packet=T), DIFFERENT),

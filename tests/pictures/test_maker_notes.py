@@ -379,6 +379,22 @@ def test_without_exiftool(put, same, called, monkeypatch, folder):
     assert is_open(same, {"no ExifTool": 2}, "--kind", "exif") and same("--kind", "iptc") == (0, [], {})
 
 
+def test_blocks_written_anew_without_exiftool(put, same, run, monkeypatch, folder):
+    """A MakerNote of the same bytes at the same place may lead to what has changed its place. Blocks of the same bytes are the same."""
+    put(a=leading(), b=leading(swapped=True), c=leading())
+    monkeypatch.setenv("PATH", str(folder))
+    for words, due in (((), {"no ExifTool": 3}), (("--no-look",), {"not looked at": 3})):
+        status, groups, unknown = same(*words)
+        assert (status, [(it["basis"], names(it)) for it in groups], unknown) == (2, [("meaning", ["a", "c"])], due)
+    status, (answer,) = run("compare", "p/a.jpg", "p/b.jpg")
+    assert (status, answer["result"]) == (2, "not wholly read") and "a MakerNote in a block that was written anew" in answer["note"]
+    assert run("compare", "p/a.jpg", "p/c.jpg")[0] == 0
+    (folder / "p/d.jpg").write_bytes(noted(artist=b"Eva"))
+    (folder / "p/e.jpg").write_bytes(noted())
+    _, (answer,) = run("compare", "p/d.jpg", "p/e.jpg")
+    assert answer["result"] == "different" and "written anew" not in answer["note"], "only where Exif would be the same"
+
+
 @needs("exiftool")
 def test_where_exiftool_fails(put, same, monkeypatch):
     """At one file: what is known of the others is said."""

@@ -190,8 +190,10 @@ def _judge_maker_notes(it: Compared, one: Picture, other: Picture, pairs: Sides,
         if gone:
             note = f"differs in bytes, the {' and the '.join(gone)} picture {'is' if len(gone) == 1 else 'are'} gone or changed"
             it.changes = [change._replace(note=note) if change in lines else change for change in it.changes]
-        if moved and not lines:
-            parts = [*parts, "a MakerNote that has moved, for which ExifTool and both files are needed"]
+        is_open = rewritten and not reached and any(one.kind == EXIF and one.result == SAME for one in it.verdicts)
+        if not lines and (moved or is_open):
+            what = "a MakerNote that has moved" if moved else "a MakerNote in a block that was written anew"
+            parts = [*parts, f"{what}, for which ExifTool and both files are needed"]
             it.result = result(it.verdicts, parts)
         return parts
     if found.doubt and not found.differences:

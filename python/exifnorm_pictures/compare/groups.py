@@ -409,7 +409,8 @@ def _class_of(it: Picture, kinds: Sequence[str]) -> Tuple[object, ...]:
 
 
 def _by_reading(group: Group, readings: Readings) -> Iterator[Group]:
-    """The group; a group for each reading of the MakerNotes by ExifTool, where they are at different places or in different bytes."""
+    """The group; a group for each reading of the MakerNotes by ExifTool, where they are at different places or in different bytes. Where a
+    reading isn't known, a block that was written anew is in no group with others, and its picture is counted."""
     written: Dict[Tuple[str, str], Picture] = {}
     for it in group.members:
         written.setdefault(_note_of(it), it)
@@ -417,10 +418,13 @@ def _by_reading(group: Group, readings: Readings) -> Iterator[Group]:
         yield group
         return
     known = readings.of(written.values())
-    by_reading: Dict[Tuple[object, str], List[Picture]] = {}
+    by_reading: Dict[Tuple[object, object], List[Picture]] = {}
     for it in group.members:
-        found = known.get(written[_note_of(it)].id)
-        key = (None, it.maker_notes) if found is None else (found.key, it.maker_notes if found.is_in_doubt else "")
+        asked = written[_note_of(it)]
+        found = known.get(asked.id)
+        if found is None:
+            readings.count(it, asked)
+        key = (None, _note_of(it)) if found is None else (found.key, it.maker_notes if found.is_in_doubt else "")
         by_reading.setdefault(key, []).append(it)
     for pictures in by_reading.values():
         yield _part_of(group, pictures)
@@ -439,7 +443,7 @@ def _by_maker_notes(group: Group, readings: Readings) -> Iterator[Group]:
         asked = written[_note_of(it)]
         found = known.get(asked.id)
         if found is None or found.is_in_doubt:
-            readings.count(asked)
+            readings.count(it, asked)
         else:
             by_reading.setdefault(found.key, []).append(it)
     lost = sum(_note_of(it) not in written for it in group.lost)

@@ -4,7 +4,7 @@ from __future__ import annotations
 
 import contextlib
 from collections import Counter
-from typing import TYPE_CHECKING, Dict, Iterable, NamedTuple, Optional
+from typing import TYPE_CHECKING, Dict, Iterable, NamedTuple, Optional, Set
 
 from ..catalogue.records import Picture
 from ..catalogue.store import Catalogue
@@ -52,6 +52,7 @@ class Readings:
     def __init__(self, catalogue: Catalogue, look: bool, unknown: Unknown) -> None:
         self.catalogue, self.look, self.unknown = catalogue, look, unknown
         self._known: Dict[int, Optional[Read]] = {}
+        self._counted: Set[int] = set()
 
     def of(self, pictures: Iterable[Picture]) -> Dict[int, Optional[Read]]:
         """The readings of some pictures and of earlier ones, by their numbers: None for one at which ExifTool fails."""
@@ -69,9 +70,12 @@ class Readings:
                 self._known[it.id] = None if found is None else Read.of(found)
         return self._known
 
-    def count(self, it: Picture) -> None:
-        """Counts a picture of which the reading isn't known, or may mean nothing."""
-        if self._known.get(it.id):
+    def count(self, it: Picture, asked: Picture) -> None:
+        """Counts a picture once, of which the reading isn't known, or may mean nothing; `asked` is the one with the same MakerNote."""
+        if it.id in self._counted:
+            return
+        self._counted.add(it.id)
+        if self._known.get(asked.id):
             self.unknown[IN_DOUBT] += 1
         else:
-            self.unknown[FAILED if it.id in self._known else NO_EXIFTOOL if self.look else NOT_LOOKED_AT] += 1
+            self.unknown[FAILED if asked.id in self._known else NO_EXIFTOOL if self.look else NOT_LOOKED_AT] += 1
