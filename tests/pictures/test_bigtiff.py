@@ -136,7 +136,7 @@ def test_a_file_with_a_hole(tmp_path):
 
     found = extraction.blocks_of(os.fsencode(name))
     assert [it.name for it in found.found] == ["Exif"] and b"Anna\0" in found.found[0].data and at
-    assert coded_picture.digest_of(os.fsencode(name), budgets.Budget()) != ""
+    assert coded_picture.of_file(os.fsencode(name), budgets.Budget()).digest != ""
 
 
 def test_many_entries(monkeypatch):

@@ -3,6 +3,7 @@
 What decides the pixels is in the formats' standards: ITU T.81, the PNG specification, RFC 9649, TIFF 6.0.
 """
 
+import hashlib
 import io
 import json
 import os
@@ -15,6 +16,7 @@ from made_files import A, B, Placed, app1, app1_xmp, app13, chunk, iim, jpeg, mp
 from made_raw import dng
 from studio import SMALL_JPEG, needs, put, tool, write
 
+from exifnorm_pictures.catalogue.store import Catalogue
 from exifnorm_pictures.extract import coded_picture
 from exifnorm_pictures.extract.budgets import BYTES_READ, Budget, TooMuch
 from exifnorm_pictures.extract.formats.found import Broken
@@ -115,7 +117,27 @@ def test_different(one, other):
 @pytest.mark.parametrize("octets", NONE.values(), ids=NONE)
 def test_none(octets, tmp_path):
     write(tmp_path / "a", octets)
-    assert coded_picture.digest_of(bytes(tmp_path / "a"), Budget()) == ""
+    assert coded_picture.of_file(bytes(tmp_path / "a"), Budget()).digest == ""
+
+
+@pytest.mark.parametrize("name", NONE)
+def test_damage(name, tmp_path):
+    """A picture that is damaged is told from one whose format has no digest here."""
+    write(tmp_path / "a", NONE[name])
+    damage = coded_picture.of_file(bytes(tmp_path / "a"), Budget()).damage
+    assert bool(damage) == (name.split()[0] == "a" and "old tables" not in name), damage
+
+
+def test_the_whole_file_is_kept(folder, called):
+    """--pixels keeps what sha256sum has, also of a file without a coded picture; without the option nothing is known."""
+    files = {"whole": SMALL_JPEG, "cut": SMALL_JPEG[:-20], "text": b"no picture"}
+    assert called("index", ".", "--catalogue", "plain", **files)[0] == 0
+    assert called("index", *(f"{it}.jpg" for it in files), "--catalogue", "c", "--pixels")[0] == 0
+    with Catalogue("plain") as plain, Catalogue("c") as made:
+        assert {it.sha256 for it in plain.pictures()} == {None}
+        found = {os.path.basename(it.path)[:-4].decode(): it for it in made.pictures()}
+    assert {name: it.sha256 for name, it in found.items()} == {name: hashlib.sha256(octets).hexdigest() for name, octets in files.items()}
+    assert {name: it.damage for name, it in found.items()} == {"whole": "", "cut": "the file ends inside its picture", "text": ""}
 
 
 def test_idat_in_other_pieces():
@@ -169,9 +191,9 @@ def test_a_picture_has_one_budget(tmp_path):
     """What was read for its blocks counts: a digest may not cost a second budget."""
     write(tmp_path / "a", jpeg(base=SMALL_JPEG[:-2] + bytes(100_000) + SMALL_JPEG[-2:]))
     budget = Budget()
-    assert coded_picture.digest_of(bytes(tmp_path / "a"), budget) != ""
+    assert coded_picture.of_file(bytes(tmp_path / "a"), budget).digest != ""
     budget.left[BYTES_READ] = 1000
-    assert coded_picture.digest_of(bytes(tmp_path / "a"), budget) == ""
+    assert coded_picture.of_file(bytes(tmp_path / "a"), budget).digest == ""
 
 
 @needs("exiftool", "convert")
@@ -182,10 +204,10 @@ def test_beside_exiftool(tmp_path):
         colour = "tomato-steelblue" if name[0] == "a" else "black-white"
         more = ["-interlace", "Plane"] if name == "b.jpg" else []
         tool(tmp_path, "convert", "-size", "60x40", "-seed", "7", f"plasma:{colour}", *more, name)
-        before = coded_picture.digest_of(bytes(tmp_path / name), Budget())
+        before = coded_picture.of_file(bytes(tmp_path / name), Budget()).digest
         words = ["-Artist=Anna", "-XMP:Title=Title", "-Comment=words"] + ["-IPTC:Keywords=one"] * (not name.endswith("webp"))
         tool(tmp_path, "exiftool", "-config", "", "-q", "-q", "-m", "-overwrite_original", *words, name)
-        assert coded_picture.digest_of(bytes(tmp_path / name), Budget()) == before != "", name
+        assert coded_picture.of_file(bytes(tmp_path / name), Budget()).digest == before != "", name
         found[name] = before
     assert len(set(found.values())) == len(found)
 

@@ -10,9 +10,8 @@ JPEG: all segments but those of applications and comments, of which Adobe's APP1
 
 from __future__ import annotations
 
-import contextlib
 import hashlib
-from typing import Dict, Iterator, List, Optional, Tuple
+from typing import Dict, Iterator, List, NamedTuple, Optional, Tuple
 
 from ..files import opening
 from .budgets import CHUNKS, STRIPS, Budget, TooMuch
@@ -24,16 +23,30 @@ from .formats.streams import File, Stream, pieces, read_at, size_of
 from .formats.tiff_directories import Directories, Directory, Entry
 
 
-def digest_of(path: bytes, budget: Budget) -> str:
-    """BLAKE2b of the coded picture of a file in 64 hexadecimal digits; empty if its format has none here, if it is damaged, or if it goes
-    over what is left of a budget."""
-    with contextlib.suppress(Broken, TooMuch, OSError):
+class CodedPicture(NamedTuple):
+    """What is known of the coded picture of a file."""
+
+    digest: str = ""  # BLAKE2b in 64 hexadecimal digits; empty if it isn't known
+    damage: str = ""  # what is damaged
+
+
+class NotFollowed(Broken):
+    """A coded picture in a form that isn't followed here, which is no damage."""
+
+
+def of_file(path: bytes, budget: Budget) -> CodedPicture:
+    """The digest of the coded picture of a file: none if its format has none here, if it is damaged, or if it goes over what is left of a
+    budget."""
+    try:
         file = File(*opening.opened(path), budget)
         try:
-            return digest(file, budget)
+            return CodedPicture(digest(file, budget))
         finally:
             file.close()
-    return ""
+    except (NotFollowed, TooMuch, OSError):
+        return CodedPicture()
+    except Broken as why:
+        return CodedPicture(damage=str(why) or "its structure is broken")
 
 
 def digest(stream: Stream, budget: Budget) -> str:
@@ -89,7 +102,7 @@ def _scans(stream: Stream, found: "hashlib.blake2b", at: int, budget: Budget) ->
             budget.check_time()
         marker = markers.following()
         if marker == 0:
-            raise Broken("the picture has no end mark")
+            raise Broken("the file ends inside its picture")
         if marker == EOI:
             _add(stream, found, start, markers.at)
             return
@@ -162,7 +175,7 @@ def _tiff(directories: Directories, found: "hashlib.blake2b", budget: Budget) ->
     for page in tiff.Reader(directories, False).pages():
         by_tag: Dict[int, Entry] = {it.tag: it for it in page.directory.entries}
         if any(tag in by_tag for tag in _OLD_TABLES):
-            raise Broken("old tables of JPEG")
+            raise NotFollowed("old tables of JPEG")
         for tag in _CODING:
             if tag in by_tag:
                 found.update(b"%d:%s " % (tag, _value(directories, by_tag[tag])))

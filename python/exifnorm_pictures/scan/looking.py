@@ -20,6 +20,7 @@ from .walk import FoundFile
 # Nanoseconds in which two edits may have one time: twice a tick of the slowest kernel; and of file systems without parts of a second,
 # of which FAT has two seconds, and others one.
 FINE, COARSE = 20_000_000, 2_000_000_000
+_NOT_OPENED = ("Vanished", "LinkToNothing", "NotAFile", "Unreadable")  # the problems of files whose bytes nobody can read
 
 
 def look(it: FoundFile, how: How) -> PictureRecord:
@@ -32,7 +33,7 @@ def look(it: FoundFile, how: How) -> PictureRecord:
         if it.sidecars:
             whole_file = sidecars.with_sidecars(whole_file, it.path, it.sidecars)
         notes = _maker_notes(it.path, judged) if how.maker_notes else None
-        coded = _coded_picture(it.path, blocks) if how.pixels else None
+        pixels = _pixels(it.path, blocks) if how.pixels else (None, "", None)
     except LibraryMissing:  # an OSError too, but not of this file
         raise
     except programs.Failed as error:
@@ -46,7 +47,8 @@ def look(it: FoundFile, how: How) -> PictureRecord:
     except Exception as error:  # an error of a reader affects only this file
         return PictureRecord.of(it.path, it.root, it.stamp, extraction.failed_here(error))
     found = PictureRecord.of(it.path, it.root, _unless_changed(it, began), blocks, judged, whole_file)
-    return found._replace(notes=notes, coded_picture=coded, sidecars=marks) if notes or marks or how.pixels else found
+    coded, damage, whole = pixels
+    return found._replace(notes=notes, coded_picture=coded, damage=damage, sha256=whole, sidecars=marks)
 
 
 def _read(it: FoundFile, how: How) -> Tuple[Blocks, List[Block]]:
@@ -73,18 +75,20 @@ def _maker_notes(path: bytes, judged: Sequence[Block]) -> Optional[bytes]:
     return maker_notes.packed(maker_notes.readings_of([path])[0])
 
 
-def _coded_picture(path: bytes, blocks: Blocks) -> str:
-    """The digest of the coded picture; empty if there is none, as of a file that can't be read."""
+def _pixels(path: bytes, blocks: Blocks) -> Tuple[Optional[str], str, Optional[str]]:
+    """What --pixels adds to a record: the digest of the coded picture, its damage, and the digest of the whole file; empty if not known."""
     from ..extract import coded_picture
 
-    return "" if blocks.problem else coded_picture.digest_of(path, blocks.budget)
+    coded = coded_picture.CodedPicture() if blocks.problem else coded_picture.of_file(path, blocks.budget)
+    is_read = blocks.problem not in _NOT_OPENED
+    return coded.digest, coded.damage, digest_of_file(path, 1 << 62) if is_read else ""
 
 
 def file_digest(path: bytes, blocks: Blocks, whole: bool) -> str:
     """SHA-256 of a whole file, if nothing else of it can be compared: no block of it was read, or a part has no digest."""
     if not blocks.problem and all(it.digest for it in blocks.not_read):
         return ""
-    if blocks.problem in ("Vanished", "LinkToNothing", "NotAFile", "Unreadable", "NeedsExifTool"):
+    if blocks.problem in (*_NOT_OPENED, "NeedsExifTool"):
         return ""
     return digest_of_file(path, WHOLE_FILE if not whole else 1 << 62)
 
