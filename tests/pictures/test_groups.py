@@ -103,7 +103,7 @@ def test_whoever_keeps_one_of_each_group_loses_nothing(tmp_path_factory, files, 
         os.makedirs("p/sub")
         make_files(files)
         os.symlink("p", "linked")
-        printed("index", "p", *(["linked"] if through_a_link else []), "--catalogue", "c", "--quiet")
+        printed("index", "p", *(["linked"] if through_a_link else []), "--catalogue", "c", "--quiet", "--pixels")
         for number, (name, _, afterwards) in enumerate(files):
             change_file(number, name, afterwards)
         before = contents("p")

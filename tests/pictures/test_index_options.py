@@ -89,7 +89,7 @@ def test_what_to_do_next(folder, called):
         "2 groups of pictures that mean the same: exifnorm-pictures same --catalogue 'my catalogue'\"'\"'s'",
         "1 refused or unreadable: exifnorm-pictures report --catalogue 'my catalogue'\"'\"'s' --html report.html",
     ]
-    assert called("same", "--catalogue", name)[1].splitlines()[-2].startswith("2 groups")
+    assert called("same", "--catalogue", name)[1].splitlines()[-3].startswith("2 groups")
     assert called("index", "p", "--catalogue", name)[1].splitlines() == ["6 unchanged", *lines[2:]]
 
 

@@ -233,7 +233,7 @@ class LeftOut(WithPictures):
         for count, words in ((1, ["1", "picture"]), (2, ["2", "pictures"])):
             write(self.path("p", f"{count}.jpg"), with_exif(SMALL_JPEG, BLOCKS["Loop"]))
             self.asked("index", "p", "--catalogue", "c", "--quiet")
-            self.assertEqual([it.split()[:2] for it in self.asked("same", "--catalogue", "c")][-1:], [words])
+            self.assertIn(words, [it.split()[:2] for it in self.asked("same", "--catalogue", "c")])
 
 
 class Parts(unittest.TestCase):

@@ -326,7 +326,7 @@ class Catalogues(Promises):
         for kind, expected in (("all", ["ab", "de", "fg"]), ("exif", ["ab", "de"]), ("iptc", ["abcde"]), ("xmp", ["fg"])):
             *groups, _ = self.objects("same", "--catalogue", "@/c", "--kind", kind)
             self.assertEqual(["".join(it["path"][-5] for it in group["pictures"]) for group in groups], expected, kind)
-        self.assertTrue(self.printed("same", "--catalogue", "@/c")[-1].startswith("4 pictures can't be the same by meaning"))
+        self.assertTrue(self.printed("same", "--catalogue", "@/c")[-2].startswith("4 pictures can't be the same by meaning"))
 
     def test_pairs_of_changed(self):
         """By the path below a folder if each side has one, otherwise by the whole path. No progress is shown."""
@@ -423,7 +423,7 @@ class Pictures(Promises):
         same = ("same", "--catalogue", "@/c")
         self.assertEqual(self.objects(*same, "--files-from", "@/lines")[:-1], [])
         self.assertEqual(self.objects(*same, "--files-from", "@/nuls", "--null")[0]["count"], 2)
-        self.assertEqual(self.printed(*same)[1:-1], ["  F/p/a.jpg", "  F/p/b\\nc.jpg", "  F/p/\\xff.jpg"])
+        self.assertEqual(self.printed(*same)[1:-2], ["  F/p/a.jpg", "  F/p/b\\nc.jpg", "  F/p/\\xff.jpg"])
 
     def test_names_for_changed(self):
         """Paths below the folder, or whole ones; from standard input, too."""

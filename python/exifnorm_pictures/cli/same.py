@@ -11,6 +11,7 @@ from typing import Dict, Iterator, List, Optional, Sequence, Tuple
 from ..catalogue.records import KIND_OF, KINDS, WORDS, Picture
 from ..catalogue.store import Catalogue
 from ..compare import groups, verdicts
+from ..compare.keeping import NOT_KNOWN, Keep, keeping
 from ..compare.readings import Unknown, of_unknown
 from ..extract import exiftool
 from ..fields.choosing import Choice
@@ -44,19 +45,20 @@ def run(arguments: argparse.Namespace) -> int:
         results: "Counter[str]" = Counter()
         listed: "Counter[str]" = Counter()
         grouped: "Counter[str]" = Counter()
-        partial = 0
+        partial = unknown_pictures = 0
         for it in _groups(catalogue, arguments, kinds, only, choice, fewest, unknown):
             what = "pictures" if it.are_pictures else "files"
             listed[what], grouped[what], partial = listed[what] + 1, grouped[what] + it.count, partial + it.is_partial
             results[it.result] += 1
             count = sum(listed.values())
-            keep = it.to_keep() if has_keep and not choice else None
+            keeps = keeping(it, bool(arguments.json or table)) if has_keep and not choice else {}
             if arguments.json:
-                _print_group(count, it, keep)
+                _print_group(count, it, keeps)
             elif table:
-                _print_rows(table, count, it, keep)
+                _print_rows(table, count, it, keeps)
             else:
-                _print_lines(it, count)
+                _print_lines(it, count, keeps)
+                unknown_pictures += any(one.why == NOT_KNOWN for one in keeps.values())
         if not table:
             left = 0 if arguments.kind == PIXELS else groups.left_out(catalogue, kinds, only)
             if arguments.json:
@@ -72,6 +74,8 @@ def run(arguments: argparse.Namespace) -> int:
                     print_line(of_unknown(unknown))
                 if partial:
                     print_line(BY_LISTING)
+                if unknown_pictures:
+                    print_line(_ONLY_METADATA)
                 if arguments.kind == PIXELS:
                     _print_without_digest(groups.without_coded_picture(catalogue, only)[1])
         else:
@@ -118,6 +122,8 @@ def _groups(
 
 # Lines
 
+Keeps = Dict[int, Keep]  # by the number of a picture; empty if no file was looked at, or fields are left out
+
 
 def _print_totals(listed: "Counter[str]", grouped: "Counter[str]", left: int, fewest: groups.Fewest) -> None:
     if sum(listed.values()) > 1:
@@ -147,7 +153,11 @@ def _print_without_digest(count: int) -> None:
         print_line(f"{have} no digest of the coded picture: the file is of another format than JPEG, PNG, TIFF and WebP, or is damaged")
 
 
-def _print_lines(it: groups.Group, number: int) -> None:
+_ONLY_METADATA = "Only metadata was compared, and pictures with the same metadata may differ: index --pixels compares them too"
+_ALL_THE_SAME = "the pictures are the same too: any one may stay"
+
+
+def _print_lines(it: groups.Group, number: int, keeps: Keeps) -> None:
     if number > 1:
         print_line("")
     print_line(f"{it.count} {'pictures' if it.are_pictures else 'files'}: {it.sentence()}:")
@@ -155,14 +165,19 @@ def _print_lines(it: groups.Group, number: int) -> None:
     for link in it.links:
         links.setdefault(link.of, []).append(link)
     reasons = set(it.reasons.values())
+    has_same_pictures = sorted(filter(None.__ne__, (one.keep for one in keeps.values()))) == [False] * (it.count - 1) + [True]
+    about = {} if has_same_pictures or all(one.why in (NOT_KNOWN, groups.KEEP_ALL) for one in keeps.values()) else keeps
     for picture in it.members:
         reason, others = it.reasons.get(picture.id, ""), it.others.get(picture.id, 0)
         more = f", and {others:,} that {'are' if others > 1 else 'is'} in a group with it above" if others else ""
-        print_line(f"  {shown_path(picture.path)}" + (f"   ({reason})" if reason and len(reasons) > 1 else "") + more)
+        notes = [reason] * (len(reasons) > 1) + [about.get(picture.id, Keep()).note]
+        print_line(f"  {shown_path(picture.path)}" + (f"   ({text})" if (text := "; ".join(filter(None, notes))) else "") + more)
         for link in links.get(picture.path, ()):
             print_line(f"      not counted, {link.how}: {shown_path(link.path)}")
     if len(reasons) == 1 and reasons != {""}:
         print_line(f"    all: {reasons.pop()}")
+    if has_same_pictures:
+        print_line(f"    {_ALL_THE_SAME}")
     if it.rests_on_readings:
         print_line(f"    {groups.KEEP_ALL}")
     for what, paths in (("gone", it.gone), ("changed since it was indexed", it.changed)):
@@ -175,20 +190,21 @@ def _print_lines(it: groups.Group, number: int) -> None:
 _HEADS = ("group", "pictures", "what is the same", "rests on", "picture", "keep", "note")
 
 
-def _print_rows(table: Table, number: int, it: groups.Group, keep: Optional[Picture]) -> None:
+def _print_rows(table: Table, number: int, it: groups.Group, keeps: Keeps) -> None:
     """A row for each picture, and one without a word on keeping for each file that doesn't count."""
     about = (number, it.count, it.sentence(), it.basis)
     for one in it.members:
-        table.row(*about, one.path, None if keep is None else int(one is keep), _note(it, one))
+        keep = keeps.get(one.id, Keep())
+        table.row(*about, one.path, None if keep.keep is None else int(keep.keep), _note(it, one, keep))
     for path, note in _not_counted(it):
         table.row(*about, path, None, note)
 
 
-def _note(group: groups.Group, it: Picture) -> str:
+def _note(group: groups.Group, it: Picture, keep: Keep) -> str:
     others = group.others.get(it.id, 0)
     more = [f"and {others:,} that {'are' if others > 1 else 'is'} in an earlier group with it"] if others else []
-    more += [groups.KEEP_ALL] * group.rests_on_readings
-    return "; ".join([*filter(None, [group.reasons.get(it.id)]), *more])
+    more += [keep.note or groups.KEEP_ALL * group.rests_on_readings]
+    return "; ".join(filter(None, [group.reasons.get(it.id), *more]))
 
 
 def _not_counted(it: groups.Group) -> Iterator[Tuple[bytes, str]]:
@@ -201,7 +217,7 @@ def _not_counted(it: groups.Group) -> Iterator[Tuple[bytes, str]]:
 # --json
 
 
-def _print_group(number: int, it: groups.Group, keep: Optional[Picture]) -> None:
+def _print_group(number: int, it: groups.Group, keeps: Keeps) -> None:
     """One object. Its pictures come last, and one by one: they may be all of an archive."""
     known = {
         "number": number,
@@ -217,10 +233,10 @@ def _print_group(number: int, it: groups.Group, keep: Optional[Picture]) -> None
     }
     print(line_of("same", "group", known)[:-1], end=', "pictures": [')
     for at, one in enumerate(it.members):
-        print(", " * (at > 0) + json.dumps(_picture_members(it, one, keep)), end="")
+        print(", " * (at > 0) + json.dumps(_picture_members(it, one, keeps.get(one.id, Keep()))), end="")
     print("]}")
 
 
-def _picture_members(group: groups.Group, it: Picture, keep: Optional[Picture]) -> Members:
-    known = {"keep": None if keep is None else it is keep, "reason": group.reasons.get(it.id) or None}
+def _picture_members(group: groups.Group, it: Picture, keep: Keep) -> Members:
+    known = {"keep": keep.keep, "keep_note": keep.note or None, "reason": group.reasons.get(it.id) or None}
     return {**path_members(it.path), **known, "others": group.others.get(it.id, 0)}

@@ -108,11 +108,6 @@ class Group:
         """Whether a block of a picture is refused or unreadable."""
         return any(it.meanings[KINDS.index(kind)] is None for it in self.members for kind in self.kinds)
 
-    def to_keep(self) -> Optional[Picture]:
-        """The picture that may stay alone: the first one by path. So of all groups that a picture is in, the one that stays is no later
-        one, and a chain of groups ends at a picture that stays. None where nothing shows which one it is."""
-        return None if self.rests_on_readings else min(self.members, key=lambda it: it.path)
-
     @property
     def rests_on_readings(self) -> bool:
         """Whether MakerNotes count as the same because ExifTool reads the same: then one of them may be damaged."""

@@ -12,6 +12,7 @@ from ..catalogue.texts import texts_of
 from ..cli.output import shown_path
 from ..compare.conflicts import ALIKE, conflicts
 from ..compare.groups import Fewest, groups
+from ..compare.keeping import Keep, keeping
 from ..fields.labels import LabelText
 from ..fields.listing import Field, unpacked
 from ..fields.plain_names import exact_key, group_name
@@ -40,9 +41,9 @@ class Export:
             self._picture(it)
             progress.done(count)
         for number, group in enumerate(groups(self.catalogue, only=self.only, look=self.look, fewest=self.fewest), 1):
-            keep = group.to_keep() if self.look else None  # None too where nobody knows which to keep
+            keeps = keeping(group) if self.look else {}
             about = (number, group.basis, group.sentence())
-            self.tables.add("groups", ((*about, it.id, None if keep is None else int(it is keep)) for it in group.members))
+            self.tables.add("groups", ((*about, it.id, *_keep_row(keeps.get(it.id, Keep()))) for it in group.members))
 
     def _picture(self, it: Picture) -> None:
         self.tables.add("pictures", [_picture_row(it)])
@@ -69,7 +70,11 @@ def _picture_row(it: Picture) -> Row:
     path, is_escaped = _path(it.path)
     names = (path, int(is_escaped), it.path if is_escaped else None, _path(it.root)[0])
     about = (it.type or None, _state(it), it.problem, it.detail or None, it.size, _time(it.modified))
-    return (it.id, *names, *about, *(one or None for one in (*it.meanings, it.coded_picture)))
+    return (it.id, *names, *about, *(one or None for one in (*it.meanings, it.coded_picture, it.sha256, it.damage)))
+
+
+def _keep_row(it: Keep) -> Row:
+    return None if it.keep is None else int(it.keep), it.note or None
 
 
 def _path(path: bytes) -> Tuple[str, bool]:

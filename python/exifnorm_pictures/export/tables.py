@@ -10,7 +10,7 @@ from ..cli import signals
 from ..extract.budgets import STEPS
 
 APPLICATION = 0x45584E54  # 'EXNT', which distinguishes an export from a catalogue and from other SQLite files
-VERSION = 1
+VERSION = 2
 _ROWS = 1000  # that are written at once
 _CACHE = 8_000  # kB
 
@@ -34,7 +34,9 @@ CREATE TABLE pictures (
     exif TEXT,
     iptc TEXT,
     xmp TEXT,
-    coded_picture TEXT
+    coded_picture TEXT,
+    sha256 TEXT,
+    damage TEXT
 );
 CREATE TABLE blocks (
     picture INTEGER NOT NULL REFERENCES pictures(id),
@@ -95,6 +97,7 @@ CREATE TABLE groups (
     description TEXT NOT NULL,
     picture INTEGER NOT NULL REFERENCES pictures(id),
     keep INTEGER,
+    keep_note TEXT,
     PRIMARY KEY (number, picture)
 ) WITHOUT ROWID;
 """

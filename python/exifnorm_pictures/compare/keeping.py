@@ -1,0 +1,92 @@
+"""Which picture of a group may stay alone. The metadata of its pictures mean the same, and the pictures themselves may differ: one may be
+smaller, cropped, or cut off. So one stands for another only if both are whole and known to be equal, by the digests of `index --pixels` or by
+all bytes of their files, which are read then."""
+
+from __future__ import annotations
+
+import contextlib
+from collections import Counter
+from typing import Dict, List, NamedTuple, Optional, Sequence, Tuple
+
+from ..catalogue.records import Picture
+from ..cli.output import shown_path
+from .groups import KEEP_ALL, Group
+
+NOT_KNOWN = "whether its picture is that of another one isn't known: index --pixels finds out"
+OTHER = "no other one has the same picture"
+OTHER_FILE = "no other file has the same bytes, and pictures of this format aren't compared"
+NOT_ALL = "colour profiles and comments aren't compared"
+
+_Key = Tuple[str, str]  # what was compared, and its digest
+
+
+class Keep(NamedTuple):
+    """Whether a picture stays where the others of its group go."""
+
+    keep: Optional[bool] = None  # False: one that stays has the same picture; None: nothing shows that it may go, or that others may
+    why: str = ""  # nothing shows it
+    same_as: Optional[bytes] = None  # the picture that stays for it
+
+    @property
+    def note(self) -> str:
+        """The reason for people."""
+        return self.why or (f"the same picture as {shown_path(self.same_as)}" if self.same_as is not None else "")
+
+
+def keeping(group: Group, reads: bool = True) -> Dict[int, Keep]:
+    """What may be done with each picture of a group, by its number. The first of equal pictures by path stays: so of all groups that a picture
+    is in, the one that stays is no later one, and a chain of groups ends at a picture that stays. `reads` reads files with equal sizes."""
+    if group.rests_on_readings:
+        return {it.id: Keep(why=KEEP_ALL) for it in group.members}
+    members = sorted(group.members, key=lambda it: it.path)
+    keys = _keys(members, reads)
+    damages = {it.id: it.damage for it in members if it.damage}
+    equal: Dict[_Key, List[Picture]] = {}
+    for it in members:
+        if it.id in keys:
+            equal.setdefault(keys[it.id], []).append(it)
+    for key, some in equal.items():
+        if key[0] == "file" and len(some) > 1 and some[0].coded_picture is None:  # nobody has looked whether it is whole
+            damages.update({it.id: damage for damage in [_damage_of(some[0])] if damage for it in some})
+    has_unknown = any(it.coded_picture is None and not (keys.get(it.id) and len(equal[keys[it.id]]) > 1) for it in members)
+    return {it.id: _keep(it, keys, equal, damages, has_unknown) for it in members}
+
+
+def _keep(it: Picture, keys: Dict[int, _Key], equal: Dict[_Key, List[Picture]], damages: Dict[int, str], has_unknown: bool) -> Keep:
+    if it.id in damages:
+        return Keep(why=f"damaged: {damages[it.id]}")
+    if it.id not in keys:
+        return Keep(why=NOT_KNOWN)
+    same = equal[keys[it.id]]
+    if len(same) == 1:
+        return Keep(why=NOT_KNOWN if has_unknown else OTHER if keys[it.id][0] == "picture" else OTHER_FILE)
+    if it is not same[0]:
+        return Keep(False, same_as=same[0].path)
+    has_equal_bytes = keys[it.id][0] == "file" or (len({one.sha256 for one in same}) == 1 and bool(it.sha256))
+    return Keep(True, "" if has_equal_bytes else NOT_ALL)
+
+
+def _keys(members: Sequence[Picture], reads: bool) -> Dict[int, _Key]:
+    """What is known of each picture: the digest of its coded picture, or else of its file."""
+    found: Dict[int, _Key] = {}
+    sizes = Counter(it.size for it in members if not it.coded_picture)
+    for it in members:
+        if it.damage:
+            continue
+        if it.coded_picture:
+            found[it.id] = ("picture", it.coded_picture)
+        elif it.sha256 or it.file:
+            found[it.id] = ("file", it.sha256 or it.file)
+        elif reads and sizes[it.size] > 1:
+            from ..extract.formats.streams import digest_of_file  # which is seldom needed
+
+            with contextlib.suppress(OSError):
+                found[it.id] = ("file", digest_of_file(it.path, 1 << 62))
+    return found
+
+
+def _damage_of(it: Picture) -> str:
+    from ..extract import coded_picture
+    from ..extract.budgets import Budget
+
+    return coded_picture.of_file(it.path, Budget()).damage

@@ -1,0 +1,62 @@
+"""Which picture of a group of `same` may go: one whose metadata and whose whole picture another one has that stays."""
+
+import csv
+import json
+import os
+import sqlite3
+
+import pytest
+from made_files import app1, exif, jpeg, turned
+from studio import SMALL_JPEG, put
+
+A = exif(b"abc")
+OTHER = SMALL_JPEG.replace(b"\xff\xdb\0\x43\0", b"\xff\xdb\0\x43\1", 1)  # another table of quantization, so another picture
+MASTER, AGAIN, SMALLER = jpeg(app1(A)), jpeg(app1(turned(A))), jpeg(app1(A), base=OTHER)
+CUT = MASTER[:-20]
+NOT_KNOWN = "whether its picture is that of another one isn't known: index --pixels finds out"
+DAMAGED = "damaged: the file ends inside its picture"
+ALONE = "no other one has the same picture"
+
+# Files by name, and whether each stays, without the digests of pictures and with them
+CASES = {
+    "a cut copy comes first": ({"copy": CUT, "vase": MASTER}, (NOT_KNOWN, NOT_KNOWN), (DAMAGED, ALONE)),
+    "a smaller copy": ({"a": SMALLER, "m": MASTER}, (NOT_KNOWN, NOT_KNOWN), (ALONE, ALONE)),
+    "equal files": ({"a": MASTER, "b": MASTER}, (True, False), (True, False)),
+    "equal files and a smaller one": ({"a": SMALLER, "b": MASTER, "c": MASTER}, (NOT_KNOWN, True, False), (ALONE, True, False)),
+    "written again": ({"a": MASTER, "b": AGAIN}, (NOT_KNOWN, NOT_KNOWN), (True, False)),
+    "all cut alike": ({"a": CUT, "b": CUT}, (DAMAGED, DAMAGED), (DAMAGED, DAMAGED)),
+    "two pictures twice": ({"a": MASTER, "b": SMALLER, "c": AGAIN, "d": SMALLER}, None, (True, True, False, False)),
+}
+
+
+@pytest.mark.parametrize("pixels", [False, True])
+@pytest.mark.parametrize("name", CASES)
+def test_which_one_stays(name, pixels, folder, called):
+    files, *expected = CASES[name]
+    if not expected[pixels]:
+        return
+    put(folder / "p", {f"{it}.jpg": octets for it, octets in files.items()})
+    called("index", "p", "--catalogue", "c", "--quiet", *["--pixels"] * pixels)
+    rows = list(csv.DictReader(called("same", "--catalogue", "c", "--csv")[1].splitlines()))
+    found = [{"1": True, "0": False}.get(it["keep"], it["note"]) for it in rows]
+    assert found == list(expected[pixels])
+    objects = json.loads(called("same", "--catalogue", "c", "--json")[1].splitlines()[0])["pictures"]
+    assert [it["keep_note"] if it["keep"] is None else it["keep"] for it in objects] == found
+    called("export", "c", "t")
+    with sqlite3.connect("t") as base:
+        exported = base.execute("SELECT keep, keep_note FROM groups JOIN pictures ON id = picture ORDER BY path").fetchall()
+    assert [note if keep is None else bool(keep) for keep, note in exported] == found
+
+
+def test_the_text_says_what_is_known_of_the_pictures(folder, called):
+    put(folder / "p", {"a.jpg": MASTER, "b.jpg": AGAIN})
+    called("index", "p", "--catalogue", "c", "--quiet")
+    assert called("same", "--catalogue", "c")[1].splitlines()[-1].startswith("Only metadata was compared")
+    called("index", "p", "--catalogue", "c", "--quiet", "--pixels")
+    text = called("same", "--catalogue", "c")[1]
+    assert "the pictures are the same too" in text and "Only metadata" not in text
+    put(folder / "p", {"c.jpg": CUT})
+    called("index", "p", "--catalogue", "c", "--quiet", "--pixels")
+    lines = called("same", "--catalogue", "c")[1].splitlines()
+    notes = {os.path.basename(it.split()[0]): it.partition("(")[2] for it in lines[1:4]}
+    assert notes["c.jpg"] == f"{DAMAGED})" and notes["b.jpg"].startswith("the same picture as") and "any one may stay" not in "".join(lines)
