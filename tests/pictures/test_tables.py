@@ -41,6 +41,11 @@ def block_of(kind, text):
     return Block(kind, NAMES[kind], "somewhere", "own", "accepted", digest(text), None, None, 100, digest(text), kept=fields)
 
 
+def written_since(it):
+    """A picture to which somebody wrote: of the same file nothing is in doubt."""
+    return it._replace(stamp=it.stamp and it.stamp._replace(changed=it.stamp.changed + 1))
+
+
 def picture(name, blocks=BASE, parts=(), number=0, problem=None, root="/a", file=""):
     """A row of a catalogue; the number distinguishes files."""
     if not root.startswith("/"):
@@ -79,7 +84,7 @@ class Tables(WithPictures):
         """The results by name, where each picture that moved went, and the counts."""
         number = len(os.listdir(self.folder))
         counts = Counter()
-        sides = self.catalogue(f"before{number}", *before), self.catalogue(f"after{number}", *after)
+        sides = self.catalogue(f"before{number}", *before), self.catalogue(f"after{number}", *map(written_since, after))
         found = list(changed.changed(*sides, counts, only, every))
         self.assertEqual([it.name for it in found], sorted(it.name for it in found))
         return {os.fsdecode(it.name): os.fsdecode(it.moved_to) if it.moved_to else it.result for it in found}, dict(counts)
@@ -329,7 +334,7 @@ class Details(WithPictures):
         for name, blocks in (("before", before), ("after", after)):
             it = blocks if isinstance(blocks, PictureRecord) else picture("p", number=1)._replace(blocks=tuple(blocks))
             by = "own" if isinstance(blocks, PictureRecord) or all(one.extractor == "own" for one in it.blocks) else "exiftool"
-            sides.append(self.catalogue(f"{name}{number}", it._replace(extractor=by)))
+            sides.append(self.catalogue(f"{name}{number}", (it if name == "before" else written_since(it))._replace(extractor=by)))
         (found,) = changed.changed(*sides, Counter(), every=True)
         return (
             found.result,
@@ -741,6 +746,10 @@ class Statuses(unittest.TestCase):
             "unreadable": 2,
             "not wholly read": 2,
             "not read": 2,
+            "the same file": 0,
+            "other picture, the same metadata": 1,
+            "other picture": 1,
+            "damaged": 1,
         }
         self.assertEqual(set(expected), set(changed.RESULTS))
         for one, status in expected.items():

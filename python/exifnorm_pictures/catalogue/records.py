@@ -16,6 +16,7 @@ WORDS = {EXIF: "exif", IPTC: "iptc", XMP: "xmp"}  # the names for people and in 
 KIND_OF = {word: kind for kind, word in WORDS.items()}
 
 TOO_LONG, FAILED = "too long", "failed"
+AS_BEFORE = " as before"
 NOT_THERE = ("Vanished", "Moved", "LinkToNothing", "NotAFile")  # the problems of names that lead to no file, so nothing is compared
 
 
@@ -105,6 +106,17 @@ class Stamp(NamedTuple):
 def is_as_before(one: Stamp, other: Stamp) -> bool:
     """Whether two stamps show no edit."""
     return one[:4] == other[:4]
+
+
+def is_same_file(one: Picture, other: Picture) -> bool:
+    """Whether nothing was written to a file and its sidecars between two looks: size, times and inode are the same. Not if it may have been
+    edited again without a mark, and not if it has rotted, so that something of it has another digest."""
+    if one == other:  # of one look
+        return True
+    has_marks = None not in one.marks and one.changed != RACY
+    digests = zip((one.sha256, one.file, one.not_read, *one.octets), (other.sha256, other.file, other.not_read, *other.octets))
+    has_rotted = any(mine and its and mine != its for mine, its in digests)
+    return has_marks and one.marks == other.marks and one.sidecars == other.sidecars and not has_rotted
 
 
 def is_marked_as(now: Stamp, marks: Sequence[Optional[int]]) -> bool:
@@ -211,6 +223,7 @@ class PictureRecord(NamedTuple):
     damage: str = ""  # what is damaged in the coded picture
     sha256: Optional[str] = None  # of the whole file, empty if it can't be read; None: it was not requested
     sidecars: str = ""  # the marks of its XMP sidecars
+    is_known: bool = False  # whether it had the same problem when it was looked at before
 
     @classmethod
     def of(
@@ -228,8 +241,8 @@ class PictureRecord(NamedTuple):
 
     @property
     def state(self) -> str:
-        """One word for the whole picture: a problem, `refused`, `accepted`, or `no block`."""
-        return state_of(self.problem, self.blocks)
+        """One word for the whole picture: a problem, `refused`, `accepted`, or `no block`; and whether the problem was there before."""
+        return state_of(self.problem, self.blocks) + AS_BEFORE * self.is_known
 
     def picture(self, number: int = 0) -> Picture:
         """The picture as a catalogue keeps it, with its number there."""

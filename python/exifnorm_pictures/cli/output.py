@@ -113,8 +113,9 @@ DAMAGED = {"File is empty": "the file is empty", "Entire file is binary zeros": 
 
 
 def record_lines(it: PictureRecord) -> List[str]:
-    """Lines for a picture with a problem: the problem, the refusal of a block, or what is left of a damaged file."""
-    if it.problem is None and not it.not_read and all(one.status == ACCEPTED for one in it.blocks):
+    """Lines for a picture with a problem: the problem, the refusal of a block, or what is left of a damaged file. None if the
+    problem was there at the last run, which the counts say."""
+    if it.is_known or (it.problem is None and not it.not_read and all(one.status == ACCEPTED for one in it.blocks)):
         return []
     name = shown_path(it.path)
     lines = []

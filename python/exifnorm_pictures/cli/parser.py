@@ -25,7 +25,7 @@ _STATUSES = """Statuses:
        picture wasn't read; changed, compare: or a part of one wasn't; changed,
        compare, same: the same only after a repair, or but for a MakerNote;
        same: or they may be so; index: a picture that should be readable isn't,
-       or a program failed at it; mend: no remedy worked, the file is damaged,
+       or a program failed at it, and not so at the last run; mend: no remedy worked, the file is damaged,
        or the picture wasn't read)
   3    bad arguments; index: no name leads to a folder or a file
   4    the command itself failed: the catalogue, a stream, an output file, the

@@ -48,9 +48,7 @@ def lines(found: Summary, counts: "Counter[str]", notes: Sequence[str] = ()) -> 
 
 
 def _head(counts: "Counter[str]") -> str:
-    files = (changed.NO_PICTURE_SAME, changed.NO_PICTURE_DIFFERENT)
-    total = sum(count for it, count in counts.items() if it not in files)
-    changes = sum(counts[it] for it in changed.DIFFERENCES if it not in files)
+    total, changes = changed.total(counts), changed.number_changed(counts)
     if not total:
         return "No picture to compare."
     many = "all changed" if changes == total > 1 else f"{changes:,} changed" if changes else "none changed"
@@ -152,7 +150,7 @@ def _equal_numbers(found: Summary) -> List[Line]:
 def _results(found: Summary, counts: "Counter[str]") -> Iterator[str]:
     for result in changed.RESULTS:
         if counts[result]:
-            names = [] if result in (SAME, changed.NO_PICTURE_SAME) else _names(found, result)
+            names = [] if result in (SAME, changed.SAME_FILE, changed.NO_PICTURE_SAME) else _names(found, result)
             more = " .." if names and counts[result] > len(names) else ""
             yield f"{counts[result]:,} {result}{': ' * bool(names)}{', '.join(names)}{more}"
 

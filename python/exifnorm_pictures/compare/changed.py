@@ -11,7 +11,7 @@ from collections import Counter
 from dataclasses import dataclass, field
 from typing import TYPE_CHECKING, Dict, Iterable, Iterator, List, Optional, Set, Tuple
 
-from ..catalogue.records import Block, Picture
+from ..catalogue.records import Block, Picture, is_same_file
 from ..catalogue.store import Catalogue
 from ..extract.formats.found import EXIF, NAMES, OWN, PROGRAMS
 from ..fields.choosing import EVERYTHING, Choice
@@ -53,6 +53,7 @@ if TYPE_CHECKING:
 
 MISSING_BEFORE, MISSING_AFTER, MOVED, NOT_READ = "missing before", "missing after", "moved", "not read"
 MOVED_EDITED = "moved and edited"  # which the digest of its coded picture shows
+SAME_FILE = "the same file"  # nothing was written to it, so that what can't be compared hasn't changed either
 FILE_SAME, FILE_DIFFERENT = "not read, the same bytes", "not read, different bytes"
 NO_PICTURE_SAME, NO_PICTURE_DIFFERENT = "no picture, the same bytes", "no picture, different bytes"
 DIFFERENCES = (
@@ -68,9 +69,20 @@ DIFFERENCES = (
     MISSING_AFTER,
 )
 OPEN = (MOVED_NOTE, SAME_REPAIRED, ONLY_REACHED, REFUSED, UNREADABLE, NOT_WHOLLY_READ, NOT_READ)  # it isn't wholly decided
-UNCHANGED = (SAME, SAME_BUT, SAME_NUMBERS, REFUSED_SAME, UNREADABLE_SAME, FILE_SAME, NO_PICTURE_SAME)  # nothing is reported to differ
+UNCHANGED = (
+    SAME,
+    SAME_FILE,
+    SAME_BUT,
+    SAME_NUMBERS,
+    REFUSED_SAME,
+    UNREADABLE_SAME,
+    FILE_SAME,
+    NO_PICTURE_SAME,
+)  # nothing is reported to differ
+_NO_PICTURES = (NO_PICTURE_SAME, NO_PICTURE_DIFFERENT)
 RESULTS = (
     SAME,
+    SAME_FILE,
     SAME_BUT,
     SAME_NUMBERS,
     MOVED_NOTE,
@@ -135,12 +147,15 @@ def compared(pair: Pair, pairs: Sides, ask: bool, choice: Choice = EVERYTHING) -
     if one is None or other is None:
         return Compared(name, MISSING_AFTER) if place is None else Compared(name, MOVED, moved_to=place)
     if one.problem or other.problem:
-        return _unread(name, one, other)
+        it = _unread(name, one, other)
+        return Compared(name, SAME_FILE, it.note) if it.result in OPEN and place is None and is_same_file(one, other) else it
     found = verdicts(one.sides(), other.sides())
     parts: List[str] = []
     if one.not_read is None or one.not_read != other.not_read:
         parts = left_open(pairs.not_read(BEFORE, one), pairs.not_read(AFTER, other))
     it = Compared(name, result(found, parts), "", [], found)
+    if it.result in OPEN and place is None and is_same_file(one, other):
+        return Compared(name, SAME_FILE, _sentence(tuple(found), tuple(parts)), [], found)
     parts = _leave_out_kinds(it, one, other, parts, choice)
     found = it.verdicts
     looked_at = any(one.result in (DIFFERENT, REFUSED, UNREADABLE, SAME_REPAIRED, DIFFERENT_REPAIRED) for one in found)
@@ -379,6 +394,16 @@ def _report_of(name: str, one: Optional[Block], other: Optional[Block]) -> str:
     if None in texts and "accepted" in texts:
         return f"; no {name} {'before' if one is None else 'after'}"
     return f"; {name}: " + ", ".join(f"{word} {text}" for word, text in zip(("before", "after"), texts) if text)
+
+
+def total(counts: "Counter[str]") -> int:
+    """The number of pictures that were compared, or are on one side only."""
+    return sum(count for it, count in counts.items() if it not in _NO_PICTURES)
+
+
+def number_changed(counts: "Counter[str]") -> int:
+    """How many of them have changed. One that can't be compared wholly isn't known to have changed."""
+    return sum(counts[it] for it in DIFFERENCES if it not in _NO_PICTURES)
 
 
 class Equal:

@@ -103,8 +103,7 @@ def _overview(found: Gathered) -> str:
     contradicting = found.contradictions.real
     cards += f'<li class="odd"><b>{contradicting:,}</b> contradict themselves</li>' if contradicting else ""
     if found.since:
-        count = sum(found.results[it] for it in found.results if it not in changed.UNCHANGED)
-        cards += f'<li class="odd"><b>{count:,}</b> changed since the older catalogue</li>'
+        cards += f'<li class="odd"><b>{changed.number_changed(found.results):,}</b> changed since the older catalogue</li>'
     return f'<section><h2>At a glance</h2><ul class="cards">{cards}</ul>{_share(found)}</section>\n'
 
 
@@ -140,6 +139,7 @@ def _bars(counts: List[Tuple[str, int]], tone: str, tones: Optional[Dict[str, st
 _RESULT_TONES = {
     verdicts.SAME: "good",
     verdicts.ONLY_MAKER_NOTE: "plain",
+    changed.SAME_FILE: "plain",
     changed.REFUSED_SAME: "plain",
     verdicts.REFUSED: "bad",
     changed.NOT_READ: "bad",

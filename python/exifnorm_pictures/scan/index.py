@@ -125,7 +125,7 @@ def _work(options: IndexOptions, catalogue: Catalogue) -> Work:
         elif known is not None:
             work.seen[known.id >> 12] = work.seen.get(known.id >> 12, 0) | 1 << (known.id & 4095)
         if options.again or not _is_unchanged(it, known, options.how) or (known and known.id in work.unfinished):
-            work.to_read.append(it)
+            work.to_read.append(it._replace(problem=known.problem) if known and known.problem and not options.again else it)
         else:
             work.counts["unchanged"] += 1
             if known and known.stamp and it.stamp and known.stamp.device != it.stamp.device:  # mounted again

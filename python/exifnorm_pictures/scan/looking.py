@@ -25,6 +25,14 @@ _NOT_OPENED = ("Vanished", "LinkToNothing", "NotAFile", "Unreadable")  # the pro
 
 def look(it: FoundFile, how: How) -> PictureRecord:
     """The result for one file. An error of any kind affects only this file."""
+    return _compared_with_before(it, _look(it, how))
+
+
+def _compared_with_before(it: FoundFile, found: PictureRecord) -> PictureRecord:
+    return found._replace(is_known=True) if found.problem and found.problem == it.problem else found
+
+
+def _look(it: FoundFile, how: How) -> PictureRecord:
     began = _now()
     try:
         marks = sidecars.marks(it.path, it.sidecars, lambda *times: _is_racy(times, began)) if it.sidecars else ""
@@ -95,7 +103,7 @@ def file_digest(path: bytes, blocks: Blocks, whole: bool) -> str:
 
 def failed(it: FoundFile, why: str) -> PictureRecord:
     """The result for a file at which a program or a process failed."""
-    return PictureRecord.of(it.path, it.root, it.stamp, Blocks(problem="ToolFailed", detail=why))
+    return _compared_with_before(it, PictureRecord.of(it.path, it.root, it.stamp, Blocks(problem="ToolFailed", detail=why)))
 
 
 def _now() -> int:

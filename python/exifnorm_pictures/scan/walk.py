@@ -22,6 +22,7 @@ class FoundFile(NamedTuple):
     root: bytes
     stamp: Optional[Stamp]  # None if the file system has none
     sidecars: Tuple[Sidecar, ...] = ()  # if they are asked for
+    problem: Optional[str] = None  # that it had when it was looked at before
 
 
 class Unlisted(NamedTuple):

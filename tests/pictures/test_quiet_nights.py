@@ -1,0 +1,76 @@
+"""A night in which nothing happened ends with 0, whatever an archive has that can't be read or compared wholly."""
+
+import os
+import shutil
+
+import pytest
+from made_blocks import BLOCKS
+from made_files import app1, app1_xmp, exif, jpeg
+from studio import put
+
+from exifnorm_pictures.extract import programs
+from exifnorm_pictures.scan import looking
+
+PICTURE, REFUSED, UNREADABLE = jpeg(app1(exif(b"abc"))), jpeg(app1(BLOCKS["Overlap"])), jpeg(app1_xmp(b"<x"))
+
+
+@pytest.fixture
+def archive(folder, monkeypatch):
+    """Pictures; one of which a part is never read; and five at which a program fails."""
+    put(folder / "p", {"a.jpg": PICTURE, "b.jpg": REFUSED, "c.jpg": UNREADABLE, "d.jpg": PICTURE + b"trailer"})
+    put(folder / "p", {f"failing{it}.jpg": PICTURE + bytes([it]) for it in range(5)})
+    read = looking._read
+
+    def fails(it, how):
+        if b"failing" in it.path:
+            raise programs.Failed("exiv2 ended with status 1")
+        blocks, judged = read(it, how)
+        if it.path.endswith(b"d.jpg"):
+            blocks.not_read[:] = [part._replace(digest="") for part in blocks.not_read]  # as a track of a CR3
+        return blocks, judged
+
+    monkeypatch.setattr(looking, "_read", fails)
+    return folder / "p"
+
+
+def test_nights(archive, called):
+    """The first run rings; the second one only for what is new; and nothing has changed between them."""
+    index = ["index", "p", "--catalogue", "c", "--keep-old", "last"]
+    status, printed, _ = called("index", "p", "--catalogue", "c")
+    assert status == 2 and printed.count("exiv2 ended with status 1") == 5 and "5 ToolFailed" in printed
+    status, printed, _ = called(*index)
+    assert status == 0 and "exiv2 ended" not in printed and "5 ToolFailed as before" in printed and "4 unchanged" in printed
+    status, printed, _ = called("changed", "last", "c")
+    assert status == 0 and printed.startswith("9 pictures compared: none changed."), printed
+    assert "6 the same file" in printed
+    shutil.copy(archive / "failing0.jpg", archive / "failing5.jpg")
+    status, printed, _ = called(*index)
+    assert status == 2 and printed.count("exiv2 ended") == 1 and "5 ToolFailed as before" in printed and "1 ToolFailed" in printed
+
+
+def test_one_catalogue_with_itself(archive, called):
+    called("index", "p", "--catalogue", "c", "--quiet")
+    assert called("changed", "c", "c")[0] == 0
+
+
+def test_the_report_counts_what_changed_counts(archive, called):
+    """A copy of the folder is no same file: what can't be compared is in doubt, and isn't counted as changed."""
+    called("index", "p", "--catalogue", "c", "--quiet")
+    shutil.copytree("p", "q")
+    put(archive.parent / "q", {"a.jpg": jpeg(app1(exif(b"xyz")))})
+    called("index", "q", "--catalogue", "d", "--quiet")
+    status, printed, _ = called("changed", "c", "d")
+    assert status == 2 and "9 pictures compared: 1 changed." in printed
+    assert called("report", "--catalogue", "d", "--since", "c", "--html", "page.html")[0] == 0
+    assert "<b>1</b> changed since the older catalogue" in (archive.parent / "page.html").read_text(encoding="utf-8")
+
+
+def test_an_edit_is_no_same_file(archive, called):
+    """Not even one that keeps size and time, which the ctime shows."""
+    called("index", "p", "--catalogue", "c", "--quiet")
+    before = os.stat(archive / "d.jpg")
+    (archive / "d.jpg").write_bytes(PICTURE + b"TRAILER")
+    os.utime(archive / "d.jpg", ns=(before.st_atime_ns, before.st_mtime_ns))
+    called("index", "p", "--catalogue", "c", "--keep-old", "last", "--quiet")
+    status, printed, _ = called("changed", "last", "c")
+    assert status == 2 and "5 the same file" in printed and "1 not wholly read: d.jpg" in printed
