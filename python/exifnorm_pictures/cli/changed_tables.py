@@ -45,7 +45,7 @@ def print_objects(found: Found, counts: "Counter[str]", choice: Choice) -> None:
     """An object for each picture, and one for all."""
     for it in found:
         print_object("changed", "picture", _members(it))
-    print_object("changed", "summary", {"counts": dict(counts), "left_out": dict(choice.left_out)})
+    print_object("changed", "summary", {"counts": dict(counts), "left_out": dict(choice.left_out), "labels": choice.labels()})
 
 
 def _members(it: Compared) -> Members:

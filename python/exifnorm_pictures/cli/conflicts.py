@@ -5,11 +5,12 @@ from __future__ import annotations
 import argparse
 from collections import Counter
 from dataclasses import dataclass, field
-from typing import Dict, Iterator, List, Sequence
+from typing import Dict, Iterator, List, Sequence, Set
 
 from ..compare.conflicts import ALIKE, CAMERA, CHARACTERS, CUT, EMPTY, JOINED, ORDER, Conflict, conflicts
 from ..extract.formats.found import damage
-from ..fields.labels import STANDARDS
+from ..fields.choosing import UnknownField
+from ..fields.labels import LABELS, STANDARDS, label_of
 from .captions import text_members
 from .exit_codes import DIFFERENCE, SUCCESS, UNKNOWN
 from .labelled import Labelled, origins, pictures, together
@@ -39,14 +40,17 @@ class _Counts:
     unread: int = 0
     labels: "Counter[str]" = field(default_factory=Counter)
     kinds: "Counter[str]" = field(default_factory=Counter)
+    left_out: "Counter[str]" = field(default_factory=Counter)  # contradictions
 
 
 def run(arguments: argparse.Namespace) -> int:
     """Lists contradictions inside pictures."""
-    counts = _Counts()
+    counts, chosen = _Counts(), _chosen(arguments)
     table = Table(["picture", "label", "kind", "detail", *STANDARDS]) if arguments.csv else None
     for it in pictures(arguments):
-        found = [one for one in conflicts(it.texts) if one.kind != ALIKE]
+        every = [one for one in conflicts(it.texts) if one.kind != ALIKE]
+        found = [one for one in every if one.label in chosen]
+        counts.left_out.update(one.label for one in every if one.is_real and one.label not in chosen)
         _count(counts, it, found)
         if table:
             _print_rows(table, it, [one for one in found if one.is_real or arguments.all])
@@ -61,6 +65,18 @@ def run(arguments: argparse.Namespace) -> int:
         for line in _summary(counts, arguments.all):
             print(line)
     return UNKNOWN if counts.unread else DIFFERENCE if counts.real else SUCCESS
+
+
+def _chosen(arguments: argparse.Namespace) -> Set[str]:
+    """The labels that count. Raises `UnknownField`."""
+    known = [it.word for it in LABELS]
+    given = {}
+    for it in (*arguments.ignore, *arguments.only):
+        given[it] = label_of(it) or ""
+        if given[it] not in known:
+            raise UnknownField(f"{escaped(it)} is no label of texts that are compared, which are: {', '.join(known)}")
+    only = {given[it] for it in arguments.only} or set(known)
+    return only - {given[it] for it in arguments.ignore}
 
 
 def _count(counts: _Counts, it: Labelled, found: Sequence[Conflict]) -> None:
@@ -108,6 +124,7 @@ def _summary_members(it: _Counts) -> Members:
         "not_wholly_read": it.unread,
         "labels": dict(it.labels),
         "kinds": dict(it.kinds),
+        "left_out": dict(it.left_out),
     }
 
 
@@ -137,6 +154,8 @@ def _summary(counts: _Counts, every: bool) -> Iterator[str]:
         kinds = Counter({_WORDS[kind]: number for kind, number in counts.kinds.items()})
         yield f"{_pictures(counts.minor)} with differences of form alone" + ("" if every else ", which --all lists")
         yield f"differences of form: {_listed(kinds)}"
+    if counts.left_out:
+        yield f"left out though they contradict: {_listed(counts.left_out)}"
     if counts.unread:
         yield f"{_pictures(counts.unread)} not wholly read: a block is refused or unreadable, or the file is damaged or isn't read (explain)"
 

@@ -254,7 +254,9 @@ def _choice_arguments(it: argparse.ArgumentParser) -> None:
     )
 
 
-_FIELDS = """Each name that is printed can be given, and also Artist, dc:title, 2:25,
+_FIELDS = """A label of captions, such as creator, caption or 'date created', and position
+stand for all their fields of Exif, IPTC and XMP.
+Each name that is printed can be given, and also Artist, dc:title, 2:25,
 0x013b or a group: GPS, IPTC, XMP-crs. The wildcards * and ? are allowed, as
 in xmpMM:*; upper and lower case don't matter. exif:NAME is a field of an
 Exif block; the property of XMP is XMP-exif:NAME. --ignore saves leaves out
@@ -320,6 +322,8 @@ def _conflicts_arguments(it: argparse.ArgumentParser) -> None:
     it.set_defaults(block=False)
     it.add_argument("pictures", nargs="*", type=_name, metavar="PICTURE", help="a picture, or a folder with all below it")
     it.add_argument("--all", action="store_true", help="also list texts that are empty, cut, in a wrong character set, or a camera's own")
+    for word, what in (("ignore", "leave out this label"), ("only", "compare this label alone")):
+        it.add_argument(f"--{word}", action="append", default=[], metavar="LABEL", help=f"{what}, such as title")
     _looking_arguments(it)
 
 

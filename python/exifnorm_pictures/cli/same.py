@@ -16,7 +16,7 @@ from ..compare.readings import Unknown, of_unknown
 from ..extract import exiftool
 from ..fields.choosing import Choice
 from ..files import tempdir
-from .choice import BY_LISTING, choice_of, listings_of, refuse_unknown, say_unseen
+from .choice import BY_LISTING, choice_of, listings_of, of_labels, refuse_unknown, say_unseen
 from .exit_codes import DIFFERENCE, SUCCESS, UNKNOWN, USAGE
 from .names import chosen_paths, say_unknown
 from .objects import line_of, print_object
@@ -72,6 +72,8 @@ def run(arguments: argparse.Namespace) -> int:
                 _print_totals(listed, grouped, left, fewest)
                 if unknown:
                     print_line(of_unknown(unknown))
+                for text in of_labels(choice):
+                    print_line(text)
                 if partial:
                     print_line(BY_LISTING)
                 if unknown_pictures:
@@ -79,7 +81,7 @@ def run(arguments: argparse.Namespace) -> int:
                 if arguments.kind == PIXELS:
                     _print_without_digest(groups.without_coded_picture(catalogue, only)[1])
         else:
-            for note in [of_unknown(unknown)] * bool(unknown) + [_of_absent(fewest.absent)] * bool(fewest.absent):
+            for note in [*of_labels(choice)] + [of_unknown(unknown)] * bool(unknown) + [_of_absent(fewest.absent)] * bool(fewest.absent):
                 signals.say(f"exifnorm-pictures: note: {note}")
         say_unseen(choice, "of the catalogue")
         say_unknown(chosen or (), catalogue.has)

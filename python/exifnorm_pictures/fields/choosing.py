@@ -96,7 +96,9 @@ def hint(pattern: str) -> str:
     names, printed = dictionary()
     group, colon, _ = pattern.partition(":")
     of_group = (f"{group}:{it}" for it in printed if ":" not in it) if colon else ()
-    known = {it.casefold(): it for it in (*(it for it in of_group if it.casefold() in names), *printed, *SETS)}
+    from .labels import fields_by_label
+
+    known = {it.casefold(): it for it in (*(it for it in of_group if it.casefold() in names), *printed, *SETS, *fields_by_label())}
     near = difflib.get_close_matches(pattern.casefold(), known, 1, 0.75)
     return f" (perhaps {known[near[0]]} is meant)" if near and near[0] != pattern.casefold() else ""
 
@@ -111,12 +113,18 @@ class Pattern:
     is_seen: bool = False
 
 
-def _patterns(words: Iterable[str]) -> List[Pattern]:
-    """The patterns of the words of a command line, those of sets one by one. Raises `UnknownField`."""
+def _patterns(words: Sequence[str]) -> List[Pattern]:
+    """The patterns of the words of a command line, those of sets one by one. A label such as `creator` is a set of fields over Exif, IPTC and
+    XMP, also where a field has the same name. Raises `UnknownField`."""
+    if not words:
+        return []
+    from .labels import fields_by_label, label_of  # which loads the library
+
     found: List[Pattern] = []
     for it in dict.fromkeys(words):
-        if it in SETS:
-            found += [Pattern(one, fits_of(one), it) for one in SETS[it]]
+        label = label_of(it)
+        if it in SETS or label:
+            found += [Pattern(one, fits_of(one), label or it) for one in (fields_by_label()[label] if label else SETS[it])]
         elif not it.strip():
             raise UnknownField("the name of a field is empty")
         else:
@@ -182,6 +190,11 @@ class Choice:
         for it in {name[:LONGEST_CACHED] for name in names}:
             if it in self.left_out or len(self.left_out) < MOST_LISTED:
                 self.left_out[it] = self.left_out.get(it, 0) + 1
+
+    def labels(self) -> Dict[str, Tuple[str, ...]]:
+        """The labels that were given, each with its fields."""
+        given = dict.fromkeys(it.of_set for it in (*self.ignore, *self.only) if it.of_set and it.of_set not in SETS)
+        return {it: tuple(dict.fromkeys(one.text for one in (*self.ignore, *self.only) if one.of_set == it)) for it in given}
 
     def unseen(self) -> List[str]:
         """The patterns that fit no field, but for those of sets."""

@@ -5,12 +5,13 @@ Which fields belong together is by the IPTC Photo Metadata Standard (mapping of 
 
 from __future__ import annotations
 
+import functools
 import re
 from typing import Dict, Iterator, List, NamedTuple, Optional, Sequence, Set, Tuple
 
 import exifnorm
 
-from .plain_names import group_name
+from .plain_names import group_name, plain_name
 from .plain_texts import comment
 
 EXIF, IPTC, XMP = "Exif", "IPTC", "XMP"
@@ -51,6 +52,47 @@ COMMENT, DATE = "comment", "date created"
 WORDS = (*(it.word for it in LABELS), COMMENT)
 # Texts that Windows writes beside the others, in UTF-16. They are shown, and nothing is compared with them.
 WINDOWS = {"9c9b": "title", "9c9c": COMMENT, "9c9d": "creator", "9c9e": "keywords", "9c9f": "title"}
+
+
+POSITION = "position"  # no label of a text: where the picture was taken, by GPS
+# The tags of Exif that XMP has too, beside the properties of labels
+_MIRRORS = {"010e": "tiff:ImageDescription", "013b": "tiff:Artist", "8298": "tiff:Copyright", "9003": "exif:DateTimeOriginal"}
+_POSITION = ("0001", "0002", "0003", "0004", "0005", "0006")
+
+
+@functools.lru_cache(maxsize=1)
+def fields_by_label() -> Dict[str, Tuple[str, ...]]:
+    """The fields of each label over Exif, IPTC and XMP, by the names that are printed.
+
+    >>> fields_by_label()["creator"]
+    ('IFD0:Artist', 'IPTC:By-line', 'XMP-dc:creator', 'XMP-tiff:Artist', 'IFD0:XPAuthor')
+    """
+    found: Dict[str, List[Tuple[str, str]]] = {}
+    for it in LABELS:
+        places = [("exif" if it.word == DATE else "main", it.exif), ("iptc", it.iptc), ("xmp", it.xmp), ("xmp", _MIRRORS.get(it.exif, ""))]
+        found[it.word] = [(where, key) for where, key in places if key]
+    found[DATE] += [("exif", "9291"), ("exif", "9011"), ("iptc", "2:60")]
+    found[COMMENT] = [("exif", "9286"), ("xmp", "exif:UserComment")]
+    for tag, word in WINDOWS.items():
+        found[word].append(("main", tag))
+    found[POSITION] = [
+        *(("gps", it) for it in _POSITION),
+        *(("xmp", f"exif:{plain_name('gps', it)}") for it in ("0002", "0004", "0005", "0006")),
+    ]
+    return {word: tuple(group_name(*it) for it in fields) for word, fields in found.items()}
+
+
+def label_of(word: str) -> Optional[str]:
+    """The label that somebody has typed: upper and lower case, hyphens and the apostrophe don't matter.
+
+    >>> label_of("Date-Created"), label_of("creators job"), label_of("Artist")
+    ('date created', "creator's job", None)
+    """
+    return {_typed(it): it for it in fields_by_label()}.get(_typed(word))
+
+
+def _typed(word: str) -> str:
+    return re.sub(r"[-_ ]+", " ", word.casefold().replace("'", ""))
 
 
 class LabelText(NamedTuple):

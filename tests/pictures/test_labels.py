@@ -1,0 +1,78 @@
+"""The labels of `captions` as words of --only and --ignore: each stands for its fields over Exif, IPTC and XMP. ExifTool writes the fields."""
+
+import subprocess
+
+import pytest
+from made_files import app1, exif, jpeg
+from studio import needs, put
+from test_captions import data_set, with_record, with_texts
+
+# By the IPTC Photo Metadata Standard (mapping of IIM and XMP), the guidelines of the Metadata Working Group, and Windows' own tags
+FIELDS = {
+    "creator": ["IFD0:Artist", "IPTC:By-line", "XMP-dc:Creator", "XMP-tiff:Artist", "IFD0:XPAuthor"],
+    "caption": ["IFD0:ImageDescription", "IPTC:Caption-Abstract", "XMP-dc:Description"],
+    "title": ["IPTC:ObjectName", "XMP-dc:Title", "IFD0:XPTitle"],
+    "copyright": ["IFD0:Copyright", "IPTC:CopyrightNotice", "XMP-dc:Rights"],
+    "keywords": ["IPTC:Keywords", "XMP-dc:Subject", "IFD0:XPKeywords"],
+    "credit": ["IPTC:Credit", "XMP-photoshop:Credit"],
+    "headline": ["IPTC:Headline", "XMP-photoshop:Headline"],
+    "creator's job": ["IPTC:By-lineTitle", "XMP-photoshop:AuthorsPosition"],
+    "date created": ["ExifIFD:DateTimeOriginal", "XMP-photoshop:DateCreated"],
+    "comment": ["ExifIFD:UserComment"],
+    "position": ["GPS:GPSLatitude", "XMP-exif:GPSLongitude"],
+}
+VALUES = {"date created": "2001:02:03 04:05:06", "position": "12.5"}
+BASE = jpeg(with_texts(artist=b"Anna"), with_record(data_set(15, b"one")))
+
+
+@needs("exiftool")
+def test_each_field_of_a_label(folder, called):
+    """A field that is added counts with --only LABEL, and nothing counts with --ignore LABEL, whatever is added."""
+    names = {f"{label}-{at}.jpg": (label, field) for label, fields in FIELDS.items() for at, field in enumerate(fields)}
+    put(folder / "before", {it: BASE for it in names})
+    put(folder / "after", {it: BASE for it in names})
+    words = [f"-{field}={VALUES.get(label, 'Other')}\n{folder}/after/{name}\n-execute" for name, (label, field) in names.items()]
+    (folder / "words").write_text("\n".join(words), encoding="utf-8")
+    subprocess.run(["exiftool", "-q", "-@", "words", "-common_args", "-overwrite_original"], cwd=folder, check=True, capture_output=True)
+    for label in FIELDS:
+        ours = [name for name, (of, _) in names.items() if of == label]
+        (folder / "list").write_text("".join(f"{it}\n" for it in ours), encoding="utf-8")
+        status, printed, _ = called("changed", "before", "after", "--only", label, "--files-from", "list", "--no-exiftool")
+        assert status == 1 and printed.startswith(f"{len(ours)} picture") and ("all changed" in printed or "1 changed" in printed), printed
+        assert f"{label} stands for " in printed
+        ignored = ["--ignore", label.upper().replace(" ", "-"), "--ignore", "IPTC:EnvelopeRecordVersion", "--ignore", "XMP-x:*"]
+        printed = called("changed", "before", "after", *ignored, "--files-from", "list", "--no-exiftool", "--json")[1]
+        assert f'"{FIELDS[label][0]}' not in printed.split('"left_out"')[0], printed
+
+
+def test_a_label_wins_over_a_field(folder, called):
+    """`creator` is also the name of XMP-dc:creator, and `copyright` of IFD0:Copyright: the label has them and more."""
+    put(folder, {"a.jpg": jpeg(with_record(data_set(80, b"Anna"))), "b.jpg": jpeg(with_record(data_set(80, b"Otto")))})
+    for words, status in ((["--only", "creator"], 1), (["--ignore", "creator"], 0), (["--only", "XMP-dc:creator"], 0)):
+        assert called("compare", "a.jpg", "b.jpg", *words)[0] == status, words
+    assert "creator stands for IFD0:Artist, IPTC:By-line, XMP-dc:creator" in called("compare", "a.jpg", "b.jpg", "--only", "creator")[1]
+    assert "perhaps creator is meant" in called("compare", "a.jpg", "b.jpg", "--only", "creatoor")[2]
+
+
+def test_groups_by_a_label(folder, called):
+    put(
+        folder / "p",
+        {"a.jpg": jpeg(with_record(data_set(80, b"Anna"))), "b.jpg": jpeg(with_record(data_set(80, b"Anna") + data_set(5, b"b")))},
+    )
+    called("index", "p", "--catalogue", "c", "--quiet")
+    printed = called("same", "--catalogue", "c", "--only", "creator")[1]
+    assert "1 group of 2 pictures" in printed and "creator stands for " in printed
+
+
+@pytest.mark.parametrize("words, status", [([], 1), (["--ignore", "title"], 1), (["--only", "headline"], 0)])
+def test_contradictions(words, status, folder, called):
+    octets = jpeg(with_texts(artist=b"Anna"), with_record(data_set(80, b"Otto")))
+    put(folder, {"a.jpg": octets, "b.jpg": jpeg(app1(exif(b"abc")))})
+    found, printed, _ = called("conflicts", "a.jpg", "b.jpg", *words)
+    assert (found, "creator 1" in printed) == (status, True)
+    assert ("left out though they contradict: creator 1" in printed) == (words == ["--only", "headline"])
+
+
+def test_what_is_no_label(folder, called):
+    status, _, messages = called("conflicts", ".", "--ignore", "Artist")
+    assert status == 3 and "Artist is no label" in messages and "creator" in messages
