@@ -314,3 +314,29 @@ def test_values_of_a_damaged_catalogue(run, folder):
             ("exif", "9003", "ASCII"),
         ):
             counted((one(where, key, kind, value), one(where, key, kind, "1" + value)))
+
+
+# Fields of blocks that came or went
+
+
+@needs("exiftool")
+def test_a_removed_block_hides_no_labelled_field(run, folder):
+    """Three pictures lose their copyright, two of them with all of Exif; with --only each field is counted by itself."""
+    (folder / "before").mkdir()
+    (folder / "before/0.jpg").write_bytes(SMALL_JPEG)
+    words = ["-Copyright=Museum", "-Artist=Anna", "-Make=Abc", *(f"-{it}=1" for it in ("ISO", "FNumber", "Flash", "Sharpness", "Contrast"))]
+    tool(folder, "exiftool", "-q", "-overwrite_original", *words, "before/0.jpg")
+    for number in (1, 2, 3):
+        shutil.copy(folder / "before/0.jpg", folder / f"before/{number}.jpg")
+    shutil.copytree(folder / "before", folder / "after")
+    tool(folder, "exiftool", "-q", "-overwrite_original", "-Copyright=", "after/0.jpg")
+    tool(folder, "exiftool", "-q", "-overwrite_original", "-EXIF:all=", "after/1.jpg", "after/2.jpg")
+    status, lines = run("changed", "before", "after")
+    assert status == 1
+    found = rows(lines)
+    assert found["IFD0:Copyright removed"] == (3, ", 2 of them with all of Exif")
+    assert found["IFD0:Artist removed"] == (2, ", with all of Exif") and "IFD0:Make removed" not in found
+    for word in ("Copyright", "IFD0:Copyright"):
+        assert rows(run("changed", "before", "after", "--only", word)[1]) == {"IFD0:Copyright removed": (3, ", 2 of them with all of Exif")}
+    assert rows(run("changed", "before", "after", "--only", "IFD0:Make")[1]) == {"IFD0:Make removed": (2, ", with all of Exif")}
+    assert rows(run("changed", "after", "before", "--only", "Copyright")[1]) == {'IFD0:Copyright -> "Museum"': (3, ", which had none")}

@@ -85,7 +85,7 @@ def _print_each(arguments: argparse.Namespace, found: Found, counts: "Counter[st
 
 
 def _print_summary(found: Found, counts: "Counter[str]", choice: Choice) -> None:
-    counted = Summary()
+    counted = Summary(choice)
     for it in found:
         counted.add(it)
     for text in lines(counted, counts, list(lines_of_choice(choice, True))):

@@ -108,7 +108,14 @@ def _field(it: FieldCount) -> List[Line]:
         many = f"more than {len(it.values)}" if it.uncounted else f"{len(it.values)}"
         example = f"{cut(first.before, 30)}{' ' * bool(first.before)}{cut(first.text.strip(' :'), 34)}"
         rows.append(Line(f"{it.name}: {many} different values ({example} ..)", it.has_value, _had_none(it.came, it.has_value)))
-    return rows + [Line(f"{it.name} removed", it.went)] * bool(it.went)
+    return rows + [Line(f"{it.name} removed", it.went, _with_parts(it))] * bool(it.went)
+
+
+def _with_parts(it: FieldCount) -> str:
+    """In how many pictures a field went with a whole block."""
+    count = sum(it.in_parts.values())
+    what = f"all of {next(iter(it.in_parts))}" if len(it.in_parts) == 1 else "a whole block or directory"
+    return "" if not count else f", with {what}" if count == it.went else f", {count:,} of them with {what}"
 
 
 def _had_none(came: int, count: int) -> str:

@@ -6,6 +6,7 @@ from collections import Counter
 from dataclasses import dataclass, field
 from typing import Dict, List, Sequence, Set, Tuple
 
+from ..fields.choosing import EVERYTHING, Choice
 from ..fields.listing import Field
 from .changed import Compared
 from .differing import NUMBERS, Difference
@@ -40,6 +41,7 @@ class FieldCount:
     values: Dict[bytes, ValueCount] = field(default_factory=dict)
     uncounted: int = 0  # pictures whose values aren't counted one by one
     steps: "Counter[str]" = field(default_factory=Counter)  # how much later or earlier a date is
+    in_parts: "Counter[str]" = field(default_factory=Counter)  # in how many pictures it went with a whole block or directory, by its name
 
     @property
     def has_value(self) -> int:
@@ -55,6 +57,7 @@ class FieldCount:
         """Counts one more picture."""
         if it.sign == "-":
             self.went += 1
+            self.in_parts.update([it.part] if it.part else ())
             return
         self.came += it.sign == "+"
         self.changed += it.sign == "~"
@@ -74,6 +77,7 @@ class FieldCount:
         whole = FieldCount(self.name, self.came + other.came, self.changed + other.changed, self.went + other.went)
         whole.uncounted = self.uncounted + other.uncounted
         whole.steps = self.steps + other.steps
+        whole.in_parts = self.in_parts + other.in_parts
         for key, value in [*self.values.items(), *other.values.items()]:
             known = whole.values.setdefault(key, ValueCount(value.first))
             known.count += value.count
@@ -94,9 +98,11 @@ class PartCount:
 
 
 class Summary:
-    """Counts what `changed` finds."""
+    """Counts what `changed` finds. A block that came or went is counted as a whole, but for its fields that have a label of captions: they are
+    counted with those of other pictures. If only some fields are compared, each is counted by itself."""
 
-    def __init__(self) -> None:
+    def __init__(self, choice: Choice = EVERYTHING) -> None:
+        self._has_parts = not choice.only
         self.parts: Dict[Tuple[str, str], PartCount] = {}
         self.pictures: Dict[str, List[Tuple[bytes, bytes]]] = {}  # the first ones of each result, and where they are now
         self.equal_numbers: Set[str] = set()  # fields with equal numbers that are written otherwise
@@ -115,10 +121,10 @@ class Summary:
         self.equal_pictures += bool(equal)
         for one in equal:
             self._add_equal(one)
-        for part in {(one.sign, one.part) for one in it.changes if one.part}:
+        for part in {(one.sign, one.part) for one in it.changes if one.part and self._has_parts}:
             self._add_part(*part, [one for one in it.changes if (one.sign, one.part) == part])
         for one in it.changes:
-            if not one.part and not one.is_equal_number:
+            if not one.is_equal_number and not (one.part and self._has_parts and not _is_labelled(one.name)):
                 self._add_field(self._fields, one)
 
     def _add_equal(self, it: Difference) -> None:
@@ -135,7 +141,7 @@ class Summary:
         for it in changes:
             if len(part.names) < FIELDS:
                 part.names.add(cut(it.name, LONGEST_NAME))
-            if sign == "+":
+            if sign == "+" and not _is_labelled(it.name):
                 self._add_field(part.fields, it)
 
     def _add_field(self, counted: Dict[str, FieldCount], it: Difference) -> None:
@@ -156,6 +162,13 @@ class Summary:
                 if len(part.names) <= FEW or is_batch:
                     found[it.name] = found[it.name].joined(it) if it.name in found else it
         return sorted(found.values(), key=lambda it: (-it.most, it.name))
+
+
+def _is_labelled(name: str) -> bool:
+    """Whether a field has a label of `captions`."""
+    from ..fields.labels import fields_by_label  # which loads the library
+
+    return any(name in fields for fields in fields_by_label().values())
 
 
 def _number(it: Field) -> str:
