@@ -523,7 +523,9 @@ class Kinds(InFolder):
         os.symlink("nothing", self.path("after", "d.jpg"))
         write(self.path("after", "b.jpg"), ONE)
         lines = self.asked("changed", "before", "after", "--each", status=1)
-        self.assertEqual(lines, ["b.jpg: missing before", "1 same, 1 missing before"])
+        self.assertEqual(
+            lines, ["b.jpg: missing before", "1 same, 1 missing before", "Only metadata was compared: --pixels compares the pictures, too."]
+        )
 
     def test_what_was_never_compared_is_the_same_by_its_bytes_alone(self):
         from made_files import page, tiff
@@ -548,4 +550,4 @@ class Kinds(InFolder):
         )
         self.assertEqual([it.strip() for it in lines[2:14]], [f"{number:02}.jpg" for number in range(12)])
         self.assertEqual(lines[14].split(":")[0], "other.jpg")
-        self.assertEqual(lines[-1], "13 different")
+        self.assertEqual(lines[-2], "13 different")

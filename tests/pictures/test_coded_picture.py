@@ -294,7 +294,7 @@ class TestChanged:
     def test_names_come_first(self, folder, moved):
         """A picture under its own name is compared there, even if its coded picture is elsewhere now."""
         put(folder, {"b/x.jpg": jpeg(app1(A)), "a/x.jpg": jpeg(app1(A), base=OTHER), "a/y.jpg": jpeg(app1(B))})
-        assert moved()[1] == {"y.jpg": ("missing before", None)}
+        assert moved()[1] == {"x.jpg": ("other picture, the same metadata", None), "y.jpg": ("missing before", None)}
 
 
 def test_same_beside_what_was_indexed_without(folder, called_lines):

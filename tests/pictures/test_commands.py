@@ -103,7 +103,7 @@ class SameAndChanged(InFolder):
     def test_the_same_folder_twice(self):
         self.copied(collection())
         lines = self.asked("changed", "pictures", "pictures", "--all", status=0 if shutil.which("exiv2") else 1)
-        self.assertEqual(len(lines), 8)
+        self.assertEqual(len(lines), 9)
 
 
 @needs("exiftool")

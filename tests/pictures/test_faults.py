@@ -16,6 +16,7 @@ from studio import SMALL_JPEG, Studio, WithPictures, needs, read, run, write
 from exifnorm_pictures.catalogue.store import VERSION
 
 EXV = b"\xff\x01Exiv2\xff\xd9"  # exiv2's own format, which has no reader here
+ONLY_METADATA = "Only metadata was compared: index --pixels compares the pictures, too."
 GOOD = with_exif(SMALL_JPEG, block([MAKE]))
 PAGE = b"<!DOCTYPE html>an earlier page"
 
@@ -456,7 +457,7 @@ class Outputs(WithPictures):
         self.asked("index", "p", "--catalogue", "c", "--quiet", "--keep-old", "d")
         self.asked("index", "p", "--catalogue", "c", "--quiet", "--keep-old", "new")
         self.assertEqual(read(self.path("new"))[18:20], b"\1\1", "no write-ahead log is needed to read it")
-        self.assertEqual(self.asked("changed", "d", "new", "--each"), ["1 same, 1 refused, the same bytes"])
+        self.assertEqual(self.asked("changed", "d", "new", "--each"), ["1 same, 1 refused, the same bytes", ONLY_METADATA])
 
     def test_a_folder_that_is_missing(self):
         """The message has the name that was given, not that of the file that is renamed in the end."""
@@ -627,7 +628,7 @@ class Arguments(WithPictures):
             self.asked("index", side, "--catalogue", side + ".c", "--quiet")
         for listed in (os.fsencode(self.path("two", "a.jpg")), os.fsencode(self.path("one", "a.jpg")), b"a.jpg"):
             lines = self.asked("changed", "one.c", "two.c", "--each", "--files-from", "-", given=listed, status=1)
-            self.assertEqual(lines[-1], "1 different")
+            self.assertEqual(lines[-2:], ["1 different", ONLY_METADATA])
         given = os.fsencode(self.path("two", "a.jpg"))
         found = [
             json.loads(it)

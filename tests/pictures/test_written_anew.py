@@ -53,4 +53,4 @@ def test_it(kind, folder, capsys):
         )
     assert (folder / "after" / f"a.{kind}").read_bytes() != MADE[kind]
     status = main._run(["changed", str(folder / "before"), str(folder / "after"), "--all"])
-    assert (status, capsys.readouterr().out.splitlines()[-1]) == (0, "1 same")
+    assert (status, capsys.readouterr().out.splitlines()[-2]) == (0, "1 same")

@@ -12,7 +12,7 @@ from collections import Counter
 from typing import Callable, Iterable, Iterator, List
 
 from ..catalogue.store import Catalogue, NoCatalogue
-from ..compare import changed as changes
+from ..compare import changed as changes, coded
 from ..compare.summary import Summary
 from ..compare.wording import NONE, line_of
 from ..extract import exiftool, programs
@@ -22,7 +22,7 @@ from ..fields.plain_names import group_name
 from ..files import tempdir
 from ..scan.batches import How
 from ..scan.index import IndexOptions, index
-from . import changed_tables
+from . import changed_tables, signals
 from .choice import choice_of, lines as lines_of_choice, listings_of, refuse_unknown, say_unseen
 from .exit_codes import DIFFERENCE, SUCCESS, UNKNOWN, USAGE
 from .names import from_list, refuse_pictures, say_unknown
@@ -45,6 +45,8 @@ def run(arguments: argparse.Namespace) -> int:
     names = from_list(arguments)
     only = None if names is None else {*names, *(os.path.abspath(it) for it in names)}
     counts: "Counter[str]" = Counter()
+    pictures: "Counter[str]" = Counter()  # by what is known of the coded ones
+    notes = _Notes(arguments, pictures)
     with contextlib.ExitStack() as open_:
         _go_on_with_sidecars(arguments)
         before, after = (open_.enter_context(_side(it, arguments, open_)) for it in (arguments.before, arguments.after))
@@ -54,16 +56,18 @@ def run(arguments: argparse.Namespace) -> int:
         open_.callback(exiftool.finish)
         choice = choice_of(arguments)
         refuse_unknown(choice, itertools.chain(listings_of(before), listings_of(after)))
-        found = changes.changed(before, after, counts, only, arguments.all, not arguments.no_exiftool, choice)
+        found = changes.changed(before, after, counts, only, arguments.all, not arguments.no_exiftool, choice, pictures)
         listed = (it for it in found if it.result not in changes.UNCHANGED or arguments.all)
         if arguments.csv:
             changed_tables.print_table(listed, choice)
+            for text in notes.of_pictures():
+                signals.say(f"exifnorm-pictures: note: {text}")
         elif arguments.json:
-            changed_tables.print_objects(listed, counts, choice)
+            changed_tables.print_objects(listed, counts, choice, pictures)
         elif arguments.each or arguments.all or arguments.exact:
-            _print_each(arguments, listed, counts, choice)
+            _print_each(arguments, listed, counts, choice, notes)
         else:
-            _print_summary(found, counts, choice)
+            _print_summary(found, counts, choice, notes)
         say_unseen(choice, "that differs")
         if names:
             say_unknown(names, _knows(before, after))
@@ -73,22 +77,37 @@ def run(arguments: argparse.Namespace) -> int:
 Found = Iterable[changes.Compared]
 
 
-def _print_each(arguments: argparse.Namespace, found: Found, counts: "Counter[str]", choice: Choice) -> None:
+class _Notes:
+    """What was compared of the coded pictures, once all are compared."""
+
+    def __init__(self, arguments: argparse.Namespace, counts: "Counter[str]") -> None:
+        self.has_folders = all(map(os.path.isdir, (arguments.before, arguments.after)))
+        self.is_asked = not (arguments.only or arguments.only_file)  # the words of --only are all that is asked
+        self.counts = counts
+
+    def of_pictures(self) -> List[str]:
+        """A sentence, if there are pictures on both sides."""
+        return (
+            list(filter(None, [coded.sentence(self.counts, "--pixels" if self.has_folders else "index --pixels")])) if self.is_asked else []
+        )
+
+
+def _print_each(arguments: argparse.Namespace, found: Found, counts: "Counter[str]", choice: Choice, notes: _Notes) -> None:
     """Each picture with its fields."""
     with contextlib.closing(changes.Equal()) as equal:
         for it in found:
             equal.add(json.dumps(_parts_of(it, arguments.exact)), it.name, it.moved_to is not None)
         _print_equal(equal)
     print_line(", ".join(f"{counts[it]} {it}" for it in changes.RESULTS if counts[it]) or "no picture")
-    for text in lines_of_choice(choice, True):
+    for text in [*notes.of_pictures(), *lines_of_choice(choice, True)]:
         print_line(text)
 
 
-def _print_summary(found: Found, counts: "Counter[str]", choice: Choice) -> None:
+def _print_summary(found: Found, counts: "Counter[str]", choice: Choice, notes: _Notes) -> None:
     counted = Summary(choice)
     for it in found:
         counted.add(it)
-    for text in lines(counted, counts, list(lines_of_choice(choice, True))):
+    for text in lines(counted, counts, [*notes.of_pictures(), *lines_of_choice(choice, True)]):
         print_line(text)
 
 

@@ -22,7 +22,7 @@ from .tables import Table
 Found = Iterable[Compared]
 
 _MAKER_NOTE = group_name(*MAKER_NOTE)
-_HEADS = ("picture", "result", "moved to", "field", "before", "after", "exact before", "exact after", "note")
+_HEADS = ("picture", "result", "moved to", "field", "before", "after", "exact before", "exact after", "note", "coded picture")
 
 
 def print_table(found: Found, choice: Choice) -> None:
@@ -32,25 +32,30 @@ def print_table(found: Found, choice: Choice) -> None:
         about = (it.name, it.result, it.moved_to)
         for one in it.changes:
             values = (None,) * 4 if one.note else (*plain_sides(one), exact(one.before), exact(one.after))
-            table.row(*about, one.name, *values, one.note or it.note)
+            table.row(*about, one.name, *values, one.note or it.note, it.picture)
         for value in it.maker_note or ():
-            table.row(*about, f"{_MAKER_NOTE} {value.name}", value.before, value.after, None, None, "as ExifTool reads it")
+            table.row(*about, f"{_MAKER_NOTE} {value.name}", value.before, value.after, None, None, "as ExifTool reads it", it.picture)
         if not it.changes:
-            table.row(*about, *(None,) * 5, it.note)
+            table.row(*about, *(None,) * 5, it.note, it.picture)
     for text in lines(choice, True):
-        table.row(*(None,) * 8, text)
+        table.row(*(None,) * 8, text, None)
 
 
-def print_objects(found: Found, counts: "Counter[str]", choice: Choice) -> None:
+def print_objects(found: Found, counts: "Counter[str]", choice: Choice, pictures: "Counter[str]") -> None:
     """An object for each picture, and one for all."""
     for it in found:
         print_object("changed", "picture", _members(it))
-    print_object("changed", "summary", {"counts": dict(counts), "left_out": dict(choice.left_out), "labels": choice.labels()})
+    print_object(
+        "changed",
+        "summary",
+        {"counts": dict(counts), "left_out": dict(choice.left_out), "labels": choice.labels(), "coded_pictures": dict(pictures)},
+    )
 
 
 def _members(it: Compared) -> Members:
     """A picture that was compared."""
     found: Members = {**path_members(it.name), "result": it.result, "note": it.note or None}
+    found["coded_picture"] = it.picture
     found["moved_to"] = None if it.moved_to is None else path_members(it.moved_to)
     found["kinds"] = {WORDS[one.kind]: one.result for one in it.verdicts}
     found["maker_note"] = None

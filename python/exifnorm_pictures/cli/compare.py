@@ -10,7 +10,7 @@ from typing import Iterator, List, Optional, Sequence
 
 from ..catalogue.records import WORDS, PictureRecord
 from ..compare import changed as changes
-from ..compare import verdicts
+from ..compare import coded, verdicts
 from ..compare.two_pictures import Comparison, Row, compare, read, with_position
 from ..compare.wording import NONE, tag_of
 from ..extract import exiftool, programs
@@ -36,7 +36,7 @@ def run(arguments: argparse.Namespace) -> int:
     with tempdir.room() as room:
         exiftool.begin(room)
         try:
-            how = How(1, whole=arguments.whole, seconds=arguments.limit, room=room)
+            how = How(1, whole=arguments.whole, pixels=True, seconds=arguments.limit, room=room)
             one, other = (read(os.fsencode(it), how) for it in (arguments.before, arguments.after))
             choice = _choice(arguments, one, other)
             found = compare(one, other, arguments.exact, not arguments.no_exiftool, arguments.whole, choice)
@@ -94,18 +94,25 @@ _SENTENCES = {
     changes.NO_PICTURE_SAME: "The same bytes, and no pictures.",
     changes.NO_PICTURE_DIFFERENT: "Different bytes, and no pictures.",
     changes.NOT_READ: "The metadata can't be compared: a file isn't read.",
+    changes.SAME_FILE: "The same file, which isn't wholly read.",
+    changes.OTHER_PICTURE_ALONE: "The same metadata, and another picture.",
+    changes.OTHER_PICTURE: "Another picture, and no difference of the metadata is known.",
+    changes.DAMAGED: "The second picture is damaged.",
 }
 
 
 def _lines(found: Comparison, rows: Sequence[Row], names: Sequence[bytes], exact: bool, notes: Sequence[str]) -> Iterator[str]:
     yield _sentence(found, rows)
-    if found.is_identical or found.is_empty:
+    if found.is_identical:
+        return
+    if found.is_empty:
+        yield from [_of_pictures(found, names)] * (found.found.picture != coded.UNKNOWN)
         return
     if any(it.problem for it in found.records):
         yield from (f"{shown_path(name)}: {it.problem}: {it.detail}" for name, it in zip(names, found.records) if it.problem)
         return
     note = found.found.note
-    yield f"{note[:1].upper()}{note[1:]}. Only metadata was compared."
+    yield f"{note[:1].upper()}{note[1:]}. {_of_pictures(found, names)}".rstrip()
     if any(it.status != verdicts.ACCEPTED for record in found.records for it in record.blocks):
         yield "More about a block that isn't accepted: exifnorm-pictures explain PICTURE"
     yield from notes
@@ -120,6 +127,8 @@ def _sentence(found: Comparison, rows: Sequence[Row]) -> str:
         return "The two files are identical, byte for byte."
     if found.is_empty:
         return "Nothing to compare: neither picture has Exif, IPTC or XMP."
+    if found.result == changes.DAMAGED:
+        return "Both pictures are damaged." if found.records[0].damage else _SENTENCES[found.result]
     if found.result not in (verdicts.DIFFERENT, verdicts.DIFFERENT_REPAIRED, changes.ONLY_NUMBERS):
         return _SENTENCES[found.result]
     equal = sum(it.is_equal_number for it in rows)
@@ -128,6 +137,23 @@ def _sentence(found: Comparison, rows: Sequence[Row]) -> str:
     what += [f"{equal} equal number{'s are' if equal != 1 else ' is'} only written otherwise"] if equal else []
     head = "Different metadata" + (" after a repair in memory" if found.result == verdicts.DIFFERENT_REPAIRED else "")
     return f"{head}: {', and '.join(what)}." if what else f"{head}."
+
+
+_OF_PICTURES = {
+    coded.SAME: "The pictures are the same: the data from which their pixels are decoded are equal.",
+    coded.OTHER: "The pictures differ in the data from which their pixels are decoded: one may be edited, smaller, or only saved again.",
+    coded.UNKNOWN: "Only metadata was compared: there is no reader here for pictures of this format.",
+}
+
+
+def _of_pictures(found: Comparison, names: Sequence[bytes]) -> str:
+    """What is known of the coded pictures; nothing if only some fields are compared."""
+    if found.has_only_fields:
+        return "Only these fields were compared."
+    if found.found.picture == coded.UNKNOWN and len({it.type for it in found.records}) > 1:
+        return "Only metadata was compared: the pictures are in two formats."
+    damages = [f"{shown_path(name)} is damaged: {it.damage}." for name, it in zip(names, found.records) if it.damage]
+    return " ".join(damages) or _OF_PICTURES[found.found.picture]
 
 
 def _heads(names: Sequence[bytes]) -> List[str]:
@@ -183,8 +209,10 @@ def _members(found: Comparison, rows: Sequence[Row], names: Sequence[bytes]) -> 
     pictures = []
     for name, it in zip(names, found.records):
         unread = [part.what for part in it.not_read]
-        pictures.append({**picture_object(name, it.problem, it.detail), "type": it.type or None, "not_read": unread})
+        about = {"type": it.type or None, "not_read": unread, "damage": it.damage or None}
+        pictures.append({**picture_object(name, it.problem, it.detail), **about})
     whole: Members = {"pictures": pictures, "result": found.result, "identical_files": found.is_identical}
+    whole["coded_picture"] = coded.SAME if found.is_identical else found.found.picture
     kinds = {WORDS[it.kind]: it.result for it in found.found.verdicts}
     return {
         **whole,

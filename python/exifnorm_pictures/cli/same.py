@@ -167,7 +167,7 @@ def _print_lines(it: groups.Group, number: int, keeps: Keeps) -> None:
     for link in it.links:
         links.setdefault(link.of, []).append(link)
     reasons = set(it.reasons.values())
-    has_same_pictures = sorted(filter(None.__ne__, (one.keep for one in keeps.values()))) == [False] * (it.count - 1) + [True]
+    has_same_pictures = sum(one.keep is False for one in keeps.values()) == it.count - 1 > 0
     about = {} if has_same_pictures or all(one.why in (NOT_KNOWN, groups.KEEP_ALL) for one in keeps.values()) else keeps
     for picture in it.members:
         reason, others = it.reasons.get(picture.id, ""), it.others.get(picture.id, 0)

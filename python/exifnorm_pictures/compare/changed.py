@@ -19,6 +19,7 @@ from ..fields.listing import MAKER_NOTE
 from ..fields.plain_names import group_name
 from ..refusals import steps
 from ..refusals.steps import Step
+from . import coded
 from .differing import Difference, differences
 from .pairs import AFTER, BEFORE, Pair, Pairs
 from .sides import Sides
@@ -52,6 +53,8 @@ if TYPE_CHECKING:
     from . import maker_notes
 
 MISSING_BEFORE, MISSING_AFTER, MOVED, NOT_READ = "missing before", "missing after", "moved", "not read"
+OTHER_PICTURE_ALONE, OTHER_PICTURE = "other picture, the same metadata", "other picture"  # of the latter it isn't wholly known
+DAMAGED = "damaged"  # whatever its metadata are
 MOVED_EDITED = "moved and edited"  # which the digest of its coded picture shows
 SAME_FILE = "the same file"  # nothing was written to it, so that what can't be compared hasn't changed either
 FILE_SAME, FILE_DIFFERENT = "not read, the same bytes", "not read, different bytes"
@@ -65,6 +68,9 @@ DIFFERENCES = (
     NO_PICTURE_DIFFERENT,
     MOVED,
     MOVED_EDITED,
+    OTHER_PICTURE_ALONE,
+    OTHER_PICTURE,
+    DAMAGED,
     MISSING_BEFORE,
     MISSING_AFTER,
 )
@@ -113,6 +119,7 @@ class Compared:
     maker_note: "Optional[List[maker_notes.Difference]]" = None  # the values that ExifTool reads otherwise, if it was asked
     repairs: List[Tuple[str, Tuple[Step, ...], Tuple[Step, ...]]] = field(default_factory=list)  # of each block, before and after
     left_out: List[str] = field(default_factory=list)  # fields and kinds that differ and don't count
+    picture: str = coded.UNKNOWN  # what is known of the coded picture
 
 
 def changed(
@@ -123,11 +130,12 @@ def changed(
     every: bool = False,
     ask: bool = True,
     choice: Choice = EVERYTHING,
+    pictures: "Optional[Counter[str]]" = None,
 ) -> Iterator[Compared]:
     """Compares each picture of two catalogues, in the order of their names, or only some pictures, by name or by path.
 
     Those that are the same are only counted, unless `every` is set. `ask` asks ExifTool for the values of MakerNotes. Fields that the
-    choice leaves out don't count. In the end `counts` has the number of each result.
+    choice leaves out don't count. In the end `counts` has the number of each result, and `pictures` those of the coded pictures.
     """
     with contextlib.closing(Pairs(before, after, only)) as pairs:
         there = 0
@@ -137,12 +145,30 @@ def changed(
             counts[it.result] += 1
             choice.add_left_out(it.left_out)
             yield it
+        if pictures is not None:
+            pictures.update(pairs.coded())
         if not every and pairs.count() > there:
             counts[SAME] += pairs.count() - there
 
 
 def compared(pair: Pair, pairs: Sides, ask: bool, choice: Choice = EVERYTHING) -> Compared:
-    """Compares one picture before and after."""
+    """Compares one picture before and after. Its coded picture counts, unless only some fields do."""
+    it = _compared(pair, pairs, ask, choice)
+    found = coded.result_of(pair.old, pair.new)
+    it.picture = found.result
+    if choice.only or pair.place is not None:
+        return it
+    if found.result == coded.DAMAGED:
+        it.result = DAMAGED
+    elif found.result == coded.OTHER and it.result in (*UNCHANGED, *OPEN):
+        it.result = OTHER_PICTURE_ALONE if it.result in (SAME, REFUSED_SAME, UNREADABLE_SAME) else OTHER_PICTURE
+    elif found.result == coded.OTHER:
+        it.note += "; the picture is another one, too"
+    it.note = "; ".join(filter(None, [found.note, it.note]))
+    return it
+
+
+def _compared(pair: Pair, pairs: Sides, ask: bool, choice: Choice) -> Compared:
     name, one, other, place = pair
     if one is None or other is None:
         return Compared(name, MISSING_AFTER) if place is None else Compared(name, MOVED, moved_to=place)

@@ -6,6 +6,7 @@ import contextlib
 import hashlib
 import os
 import sqlite3
+from collections import Counter
 from typing import Callable, Iterator, List, NamedTuple, Optional, Set, Tuple, TypeVar
 
 from ..catalogue.records import NOT_THERE, Block, Damaged, Picture, block_of_row, not_read_of_row, picture_of_row
@@ -13,6 +14,7 @@ from ..catalogue.store import BLOCK_COLUMNS, PICTURE_COLUMNS, Catalogue, NoCatal
 from ..cli import signals
 from ..extract.formats.found import NotRead
 from ..fields.listing import Field, unpacked
+from . import coded
 from .moved import content_key
 
 BEFORE, AFTER = 0, 1  # the two sides
@@ -29,10 +31,13 @@ PRAGMA main.journal_mode = OFF;
 PRAGMA main.synchronous = OFF;
 """
 
-# The pairs for which nothing is reported: all kinds are known and mean the same, and what wasn't read is known to be the same.
+# The pairs for which nothing is reported: all kinds are known and mean the same, what wasn't read is known to be the same, and the coded
+# pictures aren't known to differ.
 _SAME = """(typeof(old.path) = 'blob' AND old.problem IS NULL AND new.problem IS NULL AND old.exif = new.exif
     AND old.iptc = new.iptc AND old.xmp = new.xmp AND old.not_read = new.not_read
-    AND (old.exif_octets = new.exif_octets OR old.maker_notes = '' OR new.maker_notes = '')) IS NOT TRUE"""
+    AND (old.exif_octets = new.exif_octets OR old.maker_notes = '' OR new.maker_notes = '')
+    AND old.damage = new.damage
+    AND (old.coded_picture = new.coded_picture OR ifnull(old.coded_picture, '') = '' OR ifnull(new.coded_picture, '') = '')) IS NOT TRUE"""
 
 # The new names of pictures, the surest first: the same file under the same name, the same file, the same blocks under the same name, ..
 # A file by itself doesn't show whether its sidecars are the same, so its XMP counts, too.
@@ -188,6 +193,18 @@ class Pairs:
         """How many pictures were there before."""
         query = f"SELECT count(*) FROM before.pictures AS old WHERE {_is_there('old')} AND {self._is_chosen(BEFORE)}"
         return next(self._rows(query, lambda row: int(row[0])))
+
+    def coded(self) -> "Counter[str]":
+        """How many pictures that are on both sides have the same coded picture, another one, and so on."""
+        pictures = (
+            f"FROM before.pictures AS old JOIN after.pictures AS new ON new.path = {self._other_path(BEFORE)}"
+            f" WHERE old.problem IS NULL AND new.problem IS NULL AND {self._is_chosen(BEFORE)}"
+        )
+        known = [f"SELECT 1 FROM {base}.pictures WHERE coded_picture != '' OR sha256 != '' LIMIT 1" for base in _BASES]
+        result = f"'{coded.UNKNOWN}'"
+        if all(next(self._rows(it, bool), False) for it in known):
+            result = coded.SQL
+        return Counter(dict(self._rows(f"SELECT {result}, count(*) {pictures} GROUP BY 1", lambda row: (str(row[0]), int(row[1])))))
 
     def blocks(self, side: int, picture: Picture) -> List[Tuple[Block, Optional[bytes]]]:
         """A picture's blocks, each with its packed fields."""

@@ -22,7 +22,7 @@ from ..scan.batches import How
 from ..scan.walk import FoundFile
 from ..scan.looking import look
 from ..xmp.texts import texts
-from .changed import Compared, compared
+from .changed import DAMAGED, OTHER_PICTURE_ALONE, Compared, compared
 from .differing import Difference, exact
 from .pairs import Pair
 from .sides import Made
@@ -84,6 +84,7 @@ class Comparison:
     found: Compared
     is_identical: bool
     rows: List[Row] = field(default_factory=list)
+    has_only_fields: bool = False  # whether only some fields were compared, and no pictures
 
     @property
     def result(self) -> str:
@@ -98,7 +99,12 @@ class Comparison:
     @property
     def is_empty(self) -> bool:
         """Whether neither picture has metadata."""
-        return all(it.result == ABSENT for it in self.found.verdicts) and not any(it.problem or it.not_read for it in self.records)
+        is_other = self.found.result in (DAMAGED, OTHER_PICTURE_ALONE)
+        return (
+            not is_other
+            and all(it.result == ABSENT for it in self.found.verdicts)
+            and not any(it.problem or it.not_read for it in self.records)
+        )
 
 
 def read(name: bytes, how: How) -> PictureRecord:
@@ -117,7 +123,7 @@ def compare(one: PictureRecord, other: PictureRecord, each: bool, ask: bool, who
     each that differs."""
     files = TwoFiles((one, other))
     found = compared(Pair(os.path.basename(one.path), one.picture(), other.picture(), None), files, ask, choice)
-    result = Comparison((one, other), found, _is_identical(one.path, other.path))
+    result = Comparison((one, other), found, _is_identical(one.path, other.path), has_only_fields=bool(choice.only))
     if not result.is_identical and found.changes:
         result.rows = _rows(found.changes, [_Whole(it.path, whole) for it in files.records])
     if not result.is_identical and each:

@@ -87,6 +87,7 @@ class Gathered:
     results: "Counter[str]" = field(default_factory=Counter)
     changed: List[EqualChanges] = field(default_factory=list)
     all_changed: int = 0  # different changes
+    coded: "Counter[str]" = field(default_factory=Counter)  # what is known of the coded pictures of both catalogues
     fields: "Counter[str]" = field(default_factory=Counter)
     since: bool = False
     left_out: List[str] = field(default_factory=list)  # lines about what differs and is left out
@@ -168,7 +169,10 @@ def _part_of_row(row: Tuple[str, int]) -> Tuple[str, int]:
 def _gather_changes(found: Gathered, about: About) -> None:
     assert about.old is not None
     equal = changed.Equal()
-    for it in changed.changed(about.old, about.catalogue, found.results, about.only, ask=about.look, choice=about.choice):
+    found_changes = changed.changed(
+        about.old, about.catalogue, found.results, about.only, ask=about.look, choice=about.choice, pictures=found.coded
+    )
+    for it in found_changes:
         if it.result in changed.UNCHANGED:
             continue
         found.fields.update({change.name for change in it.changes})

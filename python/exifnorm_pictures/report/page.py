@@ -10,7 +10,7 @@ from html import escape
 from typing import Dict, List, Optional, Tuple
 
 from ..cli.output import escaped, safe, shown_path
-from ..compare import changed, verdicts
+from ..compare import changed, coded, verdicts
 from ..compare.readings import of_unknown
 from ..compare.conflicts import Conflict
 from ..extract.formats.found import PROBLEMS
@@ -143,6 +143,7 @@ _RESULT_TONES = {
     changed.REFUSED_SAME: "plain",
     verdicts.REFUSED: "bad",
     changed.NOT_READ: "bad",
+    changed.DAMAGED: "bad",
 }
 
 
@@ -157,6 +158,8 @@ def _changes(found: Gathered) -> str:
     parts.append(_more(found.all_changed, MOST_CHANGES, "differences"))
     if not found.changed:
         parts.append("<p>Nothing has changed.</p>")
+    sentence = coded.sentence(found.coded)
+    parts += [f"<p>{_text(sentence)}</p>"] * bool(sentence)
     parts += [f"<p>{_text(it)}</p>" for it in found.left_out]
     return "".join(parts) + "</section>\n"
 

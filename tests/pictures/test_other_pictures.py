@@ -1,0 +1,76 @@
+"""The file, the picture and its metadata are three answers: what `changed`, `compare` and `report` say where the coded picture is another one."""
+
+import json
+
+import pytest
+from made_files import A, B, app1, jpeg
+from made_more_files import gif
+from studio import SMALL_JPEG, put
+
+OTHER = SMALL_JPEG.replace(b"\xff\xdb\0\x43\0", b"\xff\xdb\0\x43\1", 1)  # another table of quantization
+MASTER, EDITED, REPLACED, BOTH = jpeg(app1(A)), jpeg(app1(B)), jpeg(app1(A), base=OTHER), jpeg(app1(B), base=OTHER)
+CUT = MASTER[:-20]
+
+# before, after; the result without and with --pixels, the coded picture, and the statuses
+CASES = {
+    "the same": (MASTER, MASTER, "same", "same", "the same", 0, 0),
+    "captioned": (MASTER, EDITED, "different", "different", "the same", 1, 1),
+    "replaced": (MASTER, REPLACED, "same", "other picture, the same metadata", "other", 0, 1),
+    "replaced and captioned": (MASTER, BOTH, "different", "different", "other", 1, 1),
+    "cut": (MASTER, CUT, "same", "damaged", "damaged", 0, 1),
+    "mended": (CUT, MASTER, "same", "other picture, the same metadata", "other", 0, 1),
+    "cut before too": (CUT, CUT, "same", "same", "damaged before and after", 0, 0),
+    "another format": (gif(), gif() + b"", "same", "same", "the same", 0, 0),
+}
+
+
+@pytest.mark.parametrize("name", CASES)
+def test_changed(name, folder, called):
+    before, after, without, result, coded, *statuses = CASES[name]
+    put(folder / "a", {"x.jpg": before})
+    put(folder / "b", {"x.jpg": after})
+    for words, expected, picture, status in (([], without, "not compared", statuses[0]), (["--pixels"], result, coded, statuses[1])):
+        found, printed, _ = called("changed", "a", "b", "--all", "--json", "--no-exiftool", *words)
+        (it, summary) = map(json.loads, printed.splitlines())
+        assert (found, it["result"], it["coded_picture"]) == (status, expected, picture), it["note"]
+        assert summary["coded_pictures"] == {picture: 1}
+        text = called("changed", "a", "b", "--no-exiftool", *words)[1]
+        assert ("Only metadata was compared: --pixels" in text) == (not words) and (f"1 {coded}." in text) == bool(words), text
+        assert ("none changed" in text) == (status == 0)
+    found, printed, _ = called("compare", "a/x.jpg", "b/x.jpg", "--json", "--no-exiftool")
+    it = json.loads(printed)
+    assert (found, it["result"]) == (statuses[1], result) and it["coded_picture"] in (coded, "the same")
+
+
+def test_what_the_report_says(folder, called):
+    """It counts what the terminal counts, and says whether pictures were compared."""
+    put(folder / "p", {"cut.jpg": MASTER, "other.jpg": MASTER, "same.jpg": MASTER})
+    for words, before, after in (([], "a", "b"), (["--pixels"], "c", "d")):
+        put(folder / "p", {"cut.jpg": MASTER, "other.jpg": MASTER})
+        called("index", "p", "--catalogue", before, "--quiet", *words)
+        put(folder / "p", {"cut.jpg": CUT, "other.jpg": REPLACED})
+        called("index", "p", "--catalogue", after, "--quiet", *words)
+        called("report", "--catalogue", after, "--since", before, "--html", f"{after}.html")
+    plain, page = ((folder / it).read_text(encoding="utf-8") for it in ("b.html", "d.html"))
+    assert "Only metadata was compared: index --pixels" in plain and "<b>0</b> changed since" in plain
+    assert "<b>2</b> changed since" in page and "1 the same, 1 other, 1 damaged" in page and "the file ends inside its picture" in page
+
+
+def test_only_some_fields(folder, called):
+    """Whoever asks for fields alone isn't told of pictures, and the answer says so."""
+    put(folder, {"a.jpg": MASTER, "b.jpg": REPLACED})
+    status, printed, _ = called("compare", "a.jpg", "b.jpg", "--only", "IFD0:Make")
+    assert status == 0 and "Only these fields were compared." in printed
+    assert called("compare", "a.jpg", "b.jpg", "--ignore", "IFD0:Make")[0] == 1
+
+
+def test_words_for_two_pictures(folder, called):
+    put(
+        folder,
+        {"a.jpg": MASTER, "b.jpg": REPLACED, "c.jpg": CUT, "d.gif": gif(), "e.gif": gif(b"other"), "f.jpg": SMALL_JPEG, "g.jpg": OTHER},
+    )
+    assert called("compare", "a.jpg", "b.jpg")[1].startswith("The same metadata, and another picture.")
+    assert "c.jpg is damaged: the file ends inside its picture." in called("compare", "a.jpg", "c.jpg")[1]
+    assert called("compare", "c.jpg", "a.jpg")[1].count("damaged") == 2
+    status, printed, _ = called("compare", "f.jpg", "g.jpg")  # neither has metadata
+    assert status == 1 and "another picture" in printed
