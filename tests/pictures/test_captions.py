@@ -232,9 +232,16 @@ CREATOR = app1_xmp(xmp(f"<dc:creator><rdf:Seq><rdf:li>{LONG_NAME}</rdf:li></rdf:
         ([with_record(data_set(80, LONG_NAME[:32].encode())), CREATOR], "creator", LONG_NAME),
         ([with_texts(artist=b"    "), CREATOR], "creator", LONG_NAME),
         ([with_texts(description=b"SONY DSC"), with_record(data_set(120, b"Vase"))], "caption", "Vase"),
-        ([with_texts(description=b"SONY DSC")], "caption", "SONY DSC"),
+        ([with_texts(description=b"SONY DSC")], "caption", ""),
     ],
-    ids=["Exif wins over IPTC", "IPTC wins over XMP", "a cut text doesn't win", "nor an empty one", "nor a camera's", "unless it is alone"],
+    ids=[
+        "Exif wins over IPTC",
+        "IPTC wins over XMP",
+        "a cut text doesn't win",
+        "nor an empty one",
+        "nor a camera's",
+        "not even if it is alone",
+    ],
 )
 def test_which_text_wins_in_a_table(segments, label, text, captions):
     _, out = captions("--csv", a=jpeg(*segments))

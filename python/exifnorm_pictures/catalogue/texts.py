@@ -9,7 +9,7 @@ from ..cli.labelled import labelled
 from ..extract import sidecars
 from ..extract.formats.found import NAMES
 from ..fields.kept_labels import of_kept
-from ..fields.labels import STANDARDS, WORDS, LabelText
+from ..fields.labels import STANDARDS, WORDS, LabelText, with_own
 from ..fields.listing import Field
 from .records import Block, Picture, Stamp, is_marked_as
 
@@ -27,8 +27,10 @@ def texts_of(picture: Picture, blocks: Sequence[Tuple[Block, List[Field]]], look
     Those of sidecars are the kept ones.
     """
     inside, beside = PictureTexts([], set()), PictureTexts([], set())
+    camera = ("", "")
     for block, fields in blocks:
         kept = of_kept(fields)
+        camera = camera if any(camera) else kept.camera
         part = "" if block.name == NAMES[block.kind] else block.name
         into = beside if sidecars.NAME in block.name else inside
         into.texts.extend(it._replace(block=part) for it in kept.texts)
@@ -37,7 +39,7 @@ def texts_of(picture: Picture, blocks: Sequence[Tuple[Block, List[Field]]], look
         it = labelled(picture.path)
         inside = inside if it.problem else PictureTexts(it.texts, set())
     found = sorted([*inside.texts, *beside.texts], key=lambda it: STANDARDS.index(it.standard))
-    return PictureTexts(found, inside.missing | beside.missing)
+    return PictureTexts(with_own(found, *camera), inside.missing | beside.missing)
 
 
 def _is_unchanged(it: Picture) -> bool:

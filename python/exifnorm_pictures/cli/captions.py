@@ -6,7 +6,7 @@ import argparse
 import os
 from typing import Iterator, List
 
-from ..compare.conflicts import ALIKE, best, conflicts
+from ..compare.conflicts import ALIKE, best, conflicts, own_texts
 from ..extract.formats.found import each_kind
 from ..fields.labels import WORDS, LabelText
 from .columns import width
@@ -16,13 +16,14 @@ from .objects import print_object
 from .output import Members, escaped, print_line, shown_path
 from .tables import Cell, Table
 
+_OWN = "a camera's or a program's own text"
 _WIDTH = max(map(len, WORDS)) + 1
 
 
 def run(arguments: argparse.Namespace) -> int:
     """Lists captions of Exif, IPTC and XMP."""
     worst = SUCCESS
-    table = Table(["picture", *WORDS, "contradicts itself", "not read"]) if arguments.csv else None
+    table = Table(["picture", *WORDS, "camera's text", "contradicts itself", "not read"]) if arguments.csv else None
     has_heads = len(arguments.pictures) != 1 or bool(arguments.files_from) or os.path.isdir(arguments.pictures[0])
     for it in pictures(arguments):
         worst = max(worst, it.status)
@@ -37,12 +38,12 @@ def run(arguments: argparse.Namespace) -> int:
 
 
 def _row(it: Labelled) -> List[Cell]:
-    """A row of a table: the text of each label, of several standards the first one that is whole."""
+    """A row of a table: the text of each label, of several standards one that is whole, and no camera's."""
     known = conflicts(it.texts)
     texts = [best([one for one in it.texts if one.label == word], known) for word in WORDS]
     problem = [f"{it.problem}: {it.detail}"] if it.problem else []
     unread = "; ".join([*problem, *it.refused, *each_kind(it.not_read)])
-    return [it.name, *texts, "; ".join(one.label for one in known if one.is_real), unread]
+    return [it.name, *texts, "; ".join(own_texts(it.texts)), "; ".join(one.label for one in known if one.is_real), unread]
 
 
 def _lines(it: Labelled) -> Iterator[str]:
@@ -56,7 +57,8 @@ def _lines(it: Labelled) -> Iterator[str]:
         mark = f"   <- {conflict.detail or 'they differ'}" if conflict and conflict.kind != ALIKE else ""
         for ours in together([one for one in it.texts if one.label == word]):
             is_compared = not all(one.is_extra or one.block for one in ours)
-            yield f"{_padded(word)} {escaped(ours[0].line)}   [{origins(ours)}]{mark if is_compared else ''}"
+            note = f"   <- {_OWN}" if any(one.is_own for one in ours) else mark if is_compared else ""
+            yield f"{_padded(word)} {escaped(ours[0].line)}   [{origins(ours)}]{note}"
     if not it.has_blocks:
         yield "no Exif, IPTC or XMP block"
     elif not it.refused and all(one.is_empty for one in it.texts):
@@ -76,4 +78,4 @@ def _members(it: Labelled) -> Members:
 def text_members(it: LabelText) -> Members:
     """A text as a JSON object."""
     known: Members = {"label": it.label, "standard": it.standard, "field": it.field, "block": it.block or None}
-    return {**known, "texts": list(it.texts), "guess": it.guess or None}
+    return {**known, "texts": list(it.texts), "guess": it.guess or None, "own": it.is_own}

@@ -5,7 +5,7 @@ from __future__ import annotations
 import argparse
 import os
 from dataclasses import dataclass, field
-from typing import Dict, Iterable, Iterator, List, Sequence
+from typing import Dict, Iterable, Iterator, List, Sequence, Tuple
 
 import exifnorm
 
@@ -16,7 +16,7 @@ from ..extract import exiftool, extraction, programs
 from ..extract.budgets import TooMuch
 from ..extract.formats.found import EXIF, NAMES, XMP, Blocks, FoundBlock, damage
 from ..extract.judge import judge_all
-from ..fields.labels import STANDARDS, LabelText, of_fields, of_properties
+from ..fields.labels import STANDARDS, LabelText, camera_of, of_fields, of_properties, with_own
 from ..files import tempdir
 from ..refusals import repairs, steps
 from ..scan.walk import Unlisted, below
@@ -39,6 +39,7 @@ class Labelled:
     refused: List[str] = field(default_factory=list)  # the blocks that aren't accepted, in a line each
     not_read: List[str] = field(default_factory=list)
     has_blocks: bool = False
+    camera: Tuple[str, str] = ("", "")  # its make and its model
 
     @property
     def status(self) -> int:
@@ -83,7 +84,7 @@ def labelled(name: bytes, whole: bool = False, is_block: bool = False) -> Labell
         it = Labelled(name, blocks.problem or "", blocks.detail, has_blocks=bool(judged), not_read=[one.what for one in blocks.not_read])
         for block in judged:
             _add(it, block, blocks)
-        it.texts.sort(key=lambda one: STANDARDS.index(one.standard))
+        it.texts = with_own(sorted(it.texts, key=lambda one: STANDARDS.index(one.standard)), *it.camera)
         return it
     except TooMuch as why:
         blocks = extraction.too_much(why)
@@ -101,9 +102,10 @@ def _add(it: Labelled, block: Block, blocks: Blocks) -> None:
             return
         data = made.block
     part = "" if block.name == NAMES[block.kind] else block.name
-    it.texts += [
-        one._replace(block=part) for one in (_of_packet(found, blocks.found) if block.kind == XMP else of_fields(exifnorm.fields(data)))
-    ]
+    fields = [] if block.kind == XMP else exifnorm.fields(data)
+    it.texts += [one._replace(block=part) for one in (_of_packet(found, blocks.found) if block.kind == XMP else of_fields(fields))]
+    if block.kind == EXIF and not any(it.camera):
+        it.camera = camera_of(fields)
 
 
 def _of_packet(packet: FoundBlock, every: Iterable[FoundBlock]) -> Iterator[LabelText]:

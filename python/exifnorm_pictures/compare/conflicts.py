@@ -4,6 +4,7 @@ from __future__ import annotations
 
 import re
 import unicodedata
+from collections import Counter
 from datetime import datetime
 from typing import Iterator, List, NamedTuple, Optional, Sequence, Tuple
 
@@ -42,29 +43,6 @@ _CHARACTER_SETS = {
     "big5": "Big5",
     "euc_kr": "EUC-KR",
 }
-# What cameras write into ImageDescription by themselves, in capitals
-_CAMERAS = {
-    "OLYMPUS DIGITAL CAMERA",
-    "SONY DSC",
-    "MINOLTA DIGITAL CAMERA",
-    "KONICA MINOLTA DIGITAL CAMERA",
-    "DIGITAL CAMERA",
-    "DCIM",
-    "SAMSUNG",
-    "SAMSUNG DIGITAL CAMERA",
-    "SAMSUNG CAMERA PICTURES",
-    "KODAK DIGITAL STILL CAMERA",
-    "DIGITAL STILL CAMERA",
-    "DEFAULT",
-    "MAGINON",
-    "EXIF_JPEG_PICTURE",
-    "EXIF JPEG",
-    "JPEG",
-    "USER COMMENTS",
-    "PENTAX DIGITAL CAMERA",
-    "CASIO COMPUTER CO.,LTD",
-    "DIGITAL IMAGE",
-}
 _CLEAREST = (XMP, IPTC, EXIF)  # the order in which two texts are compared: that which is least often cut first
 
 
@@ -101,8 +79,8 @@ def conflicts(found: Sequence[LabelText]) -> List[Conflict]:
 
 def _conflict(label: Label, ours: Sequence[LabelText]) -> Conflict:
     hows = [_How(EMPTY, f"{it.field} is empty") for it in ours if it.is_empty]
-    hows += [_How(CAMERA, f"{it.field} has a camera's own text") for it in ours if is_of_a_camera(it)]
-    texts = [it for it in ours if not it.is_empty and not is_of_a_camera(it)]
+    hows += [_How(CAMERA, f"{it.field} has a camera's own text") for it in ours if it.is_own]
+    texts = [it for it in ours if not it.is_empty and not it.is_own]
     texts.sort(key=lambda it: _CLEAREST.index(it.standard))
     hows += [_pair(label, one, other) for at, one in enumerate(texts) for other in texts[at + 1 :] if one.standard != other.standard]
     kind = max((it.kind for it in hows), key=KINDS.index, default=ALIKE)
@@ -112,17 +90,19 @@ def _conflict(label: Label, ours: Sequence[LabelText]) -> Conflict:
     return Conflict(label.word, kind, "; ".join(details), tuple(shown), worse)
 
 
-def is_of_a_camera(it: LabelText) -> bool:
-    """Whether a camera wrote the text by itself."""
-    return it.standard == EXIF and it.label == "caption" and it.line.strip().upper() in _CAMERAS
-
-
 def best(found: Sequence[LabelText], known: Sequence[Conflict]) -> str:
-    """The text of a label where there is space for one: the first in the order of the standards that is whole and isn't a camera's."""
+    """The text of a label where there is space for one, which isn't a camera's: one that is whole, on which two standards agree, and the first
+    in their order."""
     worse = {field for it in known for field in it.worse}
-    some = [it for it in found if not it.block and not it.is_empty]
-    ranked = sorted(some, key=lambda it: (it.is_extra, is_of_a_camera(it), it.field in worse, STANDARDS.index(it.standard)))
+    some = [it for it in found if not it.block and not it.is_empty and not it.is_own]
+    agreeing = Counter(text for text, _ in {(_plain(it.line), it.standard) for it in some if not it.is_extra})
+    ranked = sorted(some, key=lambda it: (it.is_extra, it.field in worse, agreeing[_plain(it.line)] < 2, STANDARDS.index(it.standard)))
     return ranked[0].line if ranked else ""
+
+
+def own_texts(found: Sequence[LabelText]) -> List[str]:
+    """The texts that a camera or a program writes by itself, each once."""
+    return list(dict.fromkeys(it.line for it in found if it.is_own))
 
 
 def _plain(text: str) -> str:

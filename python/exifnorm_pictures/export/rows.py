@@ -60,7 +60,7 @@ class Export:
     def _texts(self, it: Picture, blocks: Sequence[Tuple[Block, List[Field]]]) -> None:
         found = texts_of(it, blocks, self.look)
         self.missing += bool(found.missing)
-        rows = [*_text_rows(found.texts), *((word, None, None, None, None, None) for word in sorted(found.missing))]
+        rows = [*_text_rows(found.texts), *((word, *(None,) * 6) for word in sorted(found.missing))]
         self.tables.add("captions", ((it.id, at, *row) for at, row in enumerate(rows)))
         known = [one for one in conflicts(found.texts) if one.kind != ALIKE and one.label not in found.missing]
         self.tables.add("conflicts", ((it.id, one.label, one.kind, one.detail or None) for one in known))
@@ -117,4 +117,4 @@ def _text_rows(found: Sequence[LabelText]) -> Iterator[Row]:
     for it in found:
         for text in it.texts:
             if text:
-                yield it.label, it.standard, it.field, it.block or None, text, it.guess or None
+                yield it.label, it.standard, it.field, it.block or None, text, it.guess or None, int(it.is_own)

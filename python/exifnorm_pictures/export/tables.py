@@ -76,6 +76,7 @@ CREATE TABLE captions (
     block TEXT,
     text TEXT,
     guess TEXT,
+    own INTEGER,
     PRIMARY KEY (picture, position)
 ) WITHOUT ROWID;
 CREATE TABLE conflicts (

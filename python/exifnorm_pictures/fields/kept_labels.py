@@ -7,11 +7,11 @@ from typing import Iterable, List, NamedTuple, Optional, Sequence, Set, Tuple
 
 import exifnorm
 
-from .labels import COMMENT, DATE, LABELS, WINDOWS, LabelText, of_fields, of_properties
+from .labels import COMMENT, DATE, LABELS, WINDOWS, LabelText, camera_of, of_fields, of_properties
 from .listing import DIGITS, Field
 from .plain_texts import octets_of, text_of, xmp_texts
 
-_EXIF = {it.exif: it.word for it in LABELS if it.exif} | {"9291": DATE, "9011": DATE, "9286": COMMENT} | WINDOWS
+_EXIF = {it.exif: it.word for it in LABELS if it.exif} | {"9291": DATE, "9011": DATE, "9286": COMMENT, "010f": "", "0110": ""} | WINDOWS
 _IPTC = {it.iptc: it.word for it in LABELS if it.iptc} | {"1:90": "", "2:60": DATE}
 _XMP = {it.xmp: it.word for it in LABELS if it.xmp}
 _MARKS = {'"': ("", "utf-8"), 'ascii "': ("ASCII\0\0\0", "utf-8"), 'utf-16 "': ("", "utf-16-le")}
@@ -22,6 +22,7 @@ class KeptTexts(NamedTuple):
 
     texts: List[LabelText]
     missing: Set[str]
+    camera: Tuple[str, str] = ("", "")  # its make and its model
 
 
 def of_kept(found: Sequence[Field]) -> KeptTexts:
@@ -42,7 +43,8 @@ def _of_properties(found: Sequence[Field]) -> KeptTexts:
 def _of_octets(found: Sequence[Field]) -> KeptTexts:
     asked = [(it, word, _octets(it)) for it in found for word in [_word(it)] if word is not None]
     missing = {word for it, word, octets in asked if octets is None and word and not _is_blank(it)}
-    return _without(missing, of_fields([_field(it, octets) for it, _, octets in asked if octets is not None]))
+    fields = [_field(it, octets) for it, _, octets in asked if octets is not None]
+    return _without(missing, of_fields(fields))._replace(camera=camera_of(fields))
 
 
 def _without(missing: Set[str], texts: Iterable[LabelText]) -> KeptTexts:

@@ -12,6 +12,7 @@ from typing import Dict, Iterator, List, NamedTuple, Optional, Sequence, Set, Tu
 import exifnorm
 
 from .plain_names import group_name, plain_name
+from .own_texts import is_own
 from .plain_texts import comment
 
 EXIF, IPTC, XMP = "Exif", "IPTC", "XMP"
@@ -106,6 +107,7 @@ class LabelText(NamedTuple):
     guess: str = ""  # about the character set
     block: str = ""  # of which block; empty for the first one of its kind
     is_extra: bool = False  # nothing is compared with it
+    is_own: bool = False  # a camera or a program writes it by itself
 
     @property
     def is_empty(self) -> bool:
@@ -159,6 +161,22 @@ def of_fields(found: Sequence[exifnorm.Field]) -> Iterator[LabelText]:
             is_utf8 = record.get("1:90") == [b"\x1b%G"]
             yield _of_octets(label, IPTC, group_name("iptc", label.iptc), record[label.iptc], is_utf8)
     yield from _extra(exif)
+
+
+def with_own(found: Sequence[LabelText], make: str = "", model: str = "") -> List[LabelText]:
+    """The texts of a picture, of which captions and comments are marked that a camera with this make and model, or a program, writes by
+    itself; also where another program has copied them to IPTC or XMP."""
+    return [it._replace(is_own=it.label in _CAN_BE_OWN and is_own(it.line, make, model)) for it in found]
+
+
+def camera_of(found: Sequence[exifnorm.Field]) -> Tuple[str, str]:
+    """The make and the model in a block of Exif."""
+    values = {it.tag: it.values for it in found if it.directory == "main" and it.tag in (0x010F, 0x0110) and isinstance(it.values, bytes)}
+    make, model = (decoded(values.get(tag, b""))[0] for tag in (0x010F, 0x0110))
+    return make, model
+
+
+_CAN_BE_OWN = ("caption", COMMENT)
 
 
 def _of_octets(label: Label, standard: str, field: str, values: Sequence[bytes], is_utf8: bool) -> LabelText:

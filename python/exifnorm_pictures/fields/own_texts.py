@@ -1,0 +1,58 @@
+"""Texts that a camera or a program writes by itself, in the place of a caption that a person would write.
+
+A text is one only if nothing else is in it: a caption that names a camera, as "Man with a digital camera" or "The Canon of the cathedral",
+is a person's. Each rule is of texts in real files; tests/pictures/test_own_texts.py has them, and captions that are none.
+"""
+
+from __future__ import annotations
+
+import re
+
+# Whole texts, in capitals
+_TEXTS = {
+    "SONY DSC",
+    "DCIM",
+    "DEFAULT",
+    "MAGINON",
+    "SAMSUNG",
+    "SAMSUNG CAMERA PICTURES",
+    "CASIO COMPUTER CO.,LTD",
+    "EXIF_JPEG_PICTURE",
+    "EXIF JPEG",
+    "JPEG",
+    "DCF 1.0",
+    "USER COMMENTS",
+    "SCREENSHOT",
+    "DIGITAL IMAGE",
+    "DIGITAL STILLCAMERA",
+    "SAMSUNG CSC",
+}
+# In capitals, as cameras write it: GE DIGITAL CAMERA, KODAK DIGITAL STILL CAMERA
+_CAMERA = re.compile(r"(\S+ ){0,4}DIGITAL (STILL |VIDEO )?(CAMERA|CAMCORDER|IMAGE)( PICTURES?)?")
+# Design rule for Camera File system (JEITA CP-3461): DCIM, a folder of three digits and five letters, four letters and four digits
+_FILE = re.compile(r"(.*\bDCIM[\\/])?(\d{3}\w{5}[\\/])?[A-Z0-9_]{4}\d{4}\.[A-Z0-9]{3,4}", re.I)
+_PROGRAM = re.compile(
+    r"(created|edited|made|processed|saved) (with|by|in|using) (the )?(gimp|adobe|imagemagick|inkscape|paint\.net|paint shop|picasa|ebay)\b.*"
+    r"|software: .*|file written by adobe photoshop.*|creator: gd-jpeg .*|optimized by jpegmini .*|lead technologies inc\..*|intel\(r\) jpeg library.*",
+    re.I,
+)
+_FILLING = {"DIGITAL", "STILL", "CAMERA", "IMAGE", "PICTURE", "PHOTO", "DSC", "JPEG", "EXIF", "CORPORATION", "CORP", "INC", "CO", "LTD"}
+
+
+def is_own(text: str, make: str = "", model: str = "") -> bool:
+    """Whether a camera with this make and model, or a program, writes the text by itself.
+
+    >>> is_own("SANYO DIGITAL CAMERA"), is_own("Man with a digital camera"), is_own("GC-X1E Image", "HITACHI", "GC-X1E")
+    (True, False, True)
+    """
+    line = " ".join(text.strip(" \0").split())
+    if not line:
+        return False
+    if line.upper() in _TEXTS or _CAMERA.fullmatch(line) or _FILE.fullmatch(line) or _PROGRAM.fullmatch(line):
+        return True
+    words, names = _words(line), _words(f"{make} {model}")
+    return any(it in names and it not in _FILLING for it in words) and all(it in names or it in _FILLING for it in words)
+
+
+def _words(text: str) -> "list[str]":
+    return [it for it in re.split(r"[^\w-]+", text.upper()) if it]
