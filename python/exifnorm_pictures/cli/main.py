@@ -6,9 +6,11 @@ from . import search_path
 
 search_path.leave_out_current_folder()  # before other modules are imported
 
+import argparse
 import gc
 import importlib
 import sys
+from types import ModuleType
 from typing import Optional, Sequence
 
 from . import signals
@@ -51,7 +53,9 @@ def _run(words: Optional[Sequence[str]]) -> int:
         module = importlib.import_module(f".{command}", __package__)
         gc.freeze()
         gc.set_threshold(COLLECTED)
-        return int(module.run(arguments))
+        if not getattr(arguments, "xlsx", None):
+            return int(module.run(arguments))
+        return _with_spreadsheet(module, arguments)
     except KeyboardInterrupt:
         more = "; the same command goes on from there" if command == "index" else ""
         signals.say(f"exifnorm-pictures: stopped{more}")
@@ -60,6 +64,15 @@ def _run(words: Optional[Sequence[str]]) -> int:
         return _failed("out of memory")
     except Exception as error:
         return _failed_by(error)
+
+
+def _with_spreadsheet(module: ModuleType, arguments: argparse.Namespace) -> int:
+    """Runs a command whose table goes to a file."""
+    from . import sheets
+
+    arguments.csv = True
+    with sheets.written(arguments.xlsx):
+        return int(module.run(arguments))
 
 
 def _failed_by(error: Exception) -> int:

@@ -131,6 +131,8 @@ def parsers() -> "Tuple[_Parser, Dict[str, _Parser]]":
         forms = one.add_mutually_exclusive_group()
         if name in _TABLES:
             forms.add_argument("--csv", action="store_true", help=f"a table for spreadsheets: {_TABLES[name]}")
+            words = "the same table as a new spreadsheet file, in which 1998.10 stays as it is (needs python3-xlsxwriter)"
+            forms.add_argument("--xlsx", type=_name, metavar="FILE", help=words)
         forms.add_argument("--json", action="store_true", help="print one JSON object for each line")
         one.add_argument("--debug", action="store_true", help="print the traceback of an internal error, as EXIFNORM_DEBUG=1 does")
         if name not in ("merge", "compare"):

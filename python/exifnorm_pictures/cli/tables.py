@@ -1,4 +1,4 @@
-r"""Tables for spreadsheets (--csv): RFC 4180 in UTF-8, a line of heads first.
+r"""Tables for spreadsheets (--csv, --xlsx): RFC 4180 in UTF-8, a line of heads first.
 
 A text that a spreadsheet would run as a formula gets an apostrophe in front. Bytes that are no UTF-8 and control characters are escaped
 as in all other output; only ends of lines and tabs inside a text stay.
@@ -10,9 +10,10 @@ import csv
 import sys
 from typing import Optional, Sequence, Union
 
+from . import sheets
 from .output import escaped, shown_path
 
-Cell = Union[str, bytes, int, None]
+Cell = sheets.Cell
 
 _FORMULA = tuple("=+-@\t\n＝＋－＠")  # Excel and LibreOffice take these as the beginning of a formula, the wide ones in East Asian settings
 
@@ -28,17 +29,24 @@ def cell(text: str) -> str:
 
 
 class Table:
-    """A table on standard output."""
+    """A table on standard output, or in a spreadsheet file."""
 
     def __init__(self, heads: Sequence[str]) -> None:
         self._width = len(heads)
+        self._sheet = sheets.current()
+        if self._sheet:
+            self._sheet.heads(heads)
+            return
         self._rows = csv.writer(sys.stdout, lineterminator="\r\n")
         self._rows.writerow(heads)
 
     def row(self, *cells: Cell) -> None:
         """Writes a row: a path is bytes, a number stays one, and None is an empty cell."""
         assert len(cells) == self._width
-        self._rows.writerow([_written(it) for it in cells])
+        if self._sheet:
+            self._sheet.row(cells)
+        else:
+            self._rows.writerow([_written(it) for it in cells])
 
 
 def _written(it: Cell) -> Optional[Union[str, int]]:

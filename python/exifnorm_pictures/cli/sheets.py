@@ -1,0 +1,111 @@
+"""Tables as a spreadsheet file (--xlsx), in which each text is one: a spreadsheet that opens a CSV file takes the number 1998.10 for 1998.1,
+and 2003-12 for a date. XlsxWriter writes it, a package that only this option needs."""
+
+from __future__ import annotations
+
+import contextlib
+import os
+import shutil
+from typing import Iterator, Optional, Sequence, Union
+
+from ..files import atomic, tempdir
+from .output import escaped, print_line, shown_path
+from .signals import Failure
+
+Cell = Union[str, bytes, int, None]
+ROWS, LONGEST = 1_048_576, 32_767  # of a sheet, and characters of a cell, of Excel and LibreOffice
+WIDTH, WIDEST = 24, 60  # of a column, in characters
+
+
+class NoSpreadsheet(Failure):
+    """The file can't be written. The text is the reason."""
+
+
+class Sheet:
+    """A sheet of a new file, which is written row by row."""
+
+    def __init__(self, name: str) -> None:
+        try:
+            import xlsxwriter
+        except ImportError:
+            why = "it needs the Python package XlsxWriter (Debian: apt-get install python3-xlsxwriter). --csv needs no package"
+            raise NoSpreadsheet(f"--xlsx: {why}") from None
+        self._book = xlsxwriter.Workbook(name, {"constant_memory": True, "tmpdir": os.path.dirname(name)})
+        self._sheet = self._book.add_worksheet()
+        self._text = self._book.add_format({"num_format": "@", "valign": "top"})
+        self._head = self._book.add_format({"num_format": "@", "bold": True})
+        self.rows = 0
+
+    def heads(self, heads: Sequence[str]) -> None:
+        """Writes the first row, which stays in sight."""
+        self._sheet.freeze_panes(1, 1)
+        for at, it in enumerate(heads):
+            self._sheet.set_column(at, at, WIDEST if it == "picture" else max(WIDTH, len(it) + 2), self._text)
+            self._sheet.write_string(0, at, it, self._head)
+        self.rows = 1
+
+    def row(self, cells: Sequence[Cell]) -> None:
+        """Writes a row. Raises `NoSpreadsheet` if a sheet has no more."""
+        if self.rows == ROWS:
+            raise NoSpreadsheet(f"a sheet of a spreadsheet has no more than {ROWS:,} rows: use --csv")
+        for at, it in enumerate(cells):
+            if isinstance(it, int):
+                self._sheet.write_number(self.rows, at, it)
+            elif it:
+                self._sheet.write_string(self.rows, at, _fitting(_shown(it)), self._text)
+        self.rows += 1
+
+    def close(self) -> None:
+        """Writes what is left."""
+        self._book.close()
+
+
+def _shown(it: Union[str, bytes]) -> str:
+    text = shown_path(it) if isinstance(it, bytes) else it
+    return "".join(one if one in "\n\t" or one.isprintable() else escaped(one) for one in text)
+
+
+def _fitting(text: str) -> str:
+    """A text that a cell has room for.
+
+    >>> _fitting("Vase"), _fitting("a" * 40_000)[-27:]
+    ('Vase', 'aaaaa.. (40,000 characters)')
+    """
+    if len(text) <= LONGEST:
+        return text
+    end = f".. ({len(text):,} characters)"
+    return text[: LONGEST - len(end)] + end
+
+
+_open: Optional[Sheet] = None  # the sheet of the command that is running
+
+
+def current() -> Optional[Sheet]:
+    """The sheet that tables are written to, if --xlsx was given."""
+    return _open
+
+
+@contextlib.contextmanager
+def written(name: Optional[str]) -> Iterator[None]:
+    """Writes the table of a command to a file, which it makes at the end, and only if the command didn't fail. Raises `NoSpreadsheet`."""
+    global _open
+    if name is None:
+        yield
+        return
+    if os.path.lexists(name):
+        raise NoSpreadsheet(atomic.not_written(escaped(name), "it is there already, and may have somebody's work in it"))
+    with tempdir.room() as room:
+        made = os.path.join(room, "table.xlsx")
+        _open = Sheet(made)
+        try:
+            yield
+            _open.close()
+            rows = _open.rows
+        finally:
+            _open = None
+        with open(made, "rb") as whole:
+            try:
+                atomic.replace(os.fsencode(name), lambda file: shutil.copyfileobj(whole, file), lambda _: False)
+            except atomic.NotReplaced as error:
+                raise atomic.NotReplaced(atomic.not_written(escaped(name), error)) from None
+    print_line(f"{escaped(name)}: {max(0, rows - 1):,} row{'s' * (rows != 2)}")
