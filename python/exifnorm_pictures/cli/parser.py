@@ -18,15 +18,17 @@ _STATUSES = """Statuses:
        catalogue records)
   1    different (changed, compare: something differs, also after repair, was
        moved or is missing; same: MakerNotes of a group differ in bytes;
-       conflicts: a picture contradicts itself; mend: the copy differs in a
+       verify: a file is damaged, missing or has another picture; conflicts: a
+       picture contradicts itself; mend: the copy differs in a
        printed value)
   2    it can't be decided wholly (changed, compare, show, captions, conflicts,
        explain: a block is refused or unreadable, a file is damaged, or a
        picture wasn't read; changed, compare: or a part of one wasn't; changed,
        compare, same: the same only after a repair, or but for a MakerNote;
        same: or they may be so; index: a picture that should be readable isn't,
-       or a program failed at it, and not so at the last run; mend: no remedy worked, the file is damaged,
-       or the picture wasn't read)
+       or a program failed at it, and not so at the last run; verify: a file
+       can't be read, or has no digest; mend: no remedy worked, the file is
+       damaged, or the picture wasn't read)
   3    bad arguments; index: no name leads to a folder or a file
   4    the command itself failed: the catalogue, a stream, an output file, the
        disk or the memory
@@ -284,6 +286,16 @@ def _changed_arguments(it: argparse.ArgumentParser) -> None:
     _many_arguments(it)
 
 
+def _verify_arguments(it: argparse.ArgumentParser) -> None:
+    _example(it, "verify --catalogue archive.catalogue --evidence sums.txt")
+    it.add_argument("folders", nargs="*", type=_name, metavar="FOLDER", help="a folder, with all below it (all that were indexed)")
+    it.add_argument("--catalogue", required=True, type=_name, metavar="FILE", help="a catalogue of index --pixels, which stays as it is")
+    it.add_argument("--evidence", type=_name, metavar="FILE", help="write SHA-256 of each file to a new file, for sha256sum -c")
+    _limit_arguments(it)
+    _jobs_argument(it)
+    it.add_argument("--quiet", action="store_true", help="no progress on standard error")
+
+
 def _example(it: argparse.ArgumentParser, text: str) -> None:
     it.description = f"{it.description}\n\nExample:\n  exifnorm-pictures {text}"
 
@@ -369,6 +381,7 @@ _COMMANDS: Tuple[Tuple[str, str, Callable[[argparse.ArgumentParser], None]], ...
     ("index", "look at all new and changed pictures, and keep their metadata in a catalogue", _index_arguments),
     ("merge", "join catalogues of several folders or machines", _merge_arguments),
     ("forget", "remove folders or pictures from a catalogue", _forget_arguments),
+    ("verify", "read files again, and tell what is damaged from what is captioned", _verify_arguments),
     ("same", "list groups of pictures that mean the same", _same_arguments),
     ("changed", "list the differences between two catalogues or folders, with the fields", _changed_arguments),
     ("compare", "compare two pictures: what differs, side by side, in plain words", _compare_arguments),

@@ -1,0 +1,158 @@
+"""The command `verify`: reads files again, and tells what is damaged from what is captioned."""
+
+from __future__ import annotations
+
+import argparse
+import contextlib
+import os
+import sys
+from collections import Counter
+from datetime import datetime, timezone
+from typing import BinaryIO, Dict, Iterator, List, Sequence
+
+from ..catalogue.store import Catalogue, NoCatalogue
+from ..compare import verified
+from ..extract import exiftool, programs
+from ..files import atomic, tempdir
+from ..scan.batches import How
+from ..scan.index import IndexOptions, index
+from .exit_codes import DIFFERENCE, SUCCESS, UNKNOWN, USAGE
+from .names import named
+from .objects import print_object
+from .output import closed_folder, escaped, path_members, print_line, shown_path
+from .signals import Failure
+
+SHOWN = 10  # files that are named of each state
+
+
+class NotThere(Failure):
+    """A folder that isn't there, as of a disk that isn't mounted: each of its files would seem to be missing."""
+
+    status = USAGE
+
+
+def run(arguments: argparse.Namespace) -> int:
+    """Compares the files that are there with a catalogue."""
+    if arguments.evidence and os.path.lexists(arguments.evidence):
+        raise atomic.NotReplaced(atomic.not_written(escaped(arguments.evidence), "it is there already"))
+    counts: "Counter[str]" = Counter()
+    listed: Dict[str, List[str]] = {}
+    with contextlib.ExitStack() as open_:
+        before = open_.enter_context(Catalogue(arguments.catalogue))
+        given = bool(arguments.folders or arguments.files_from)
+        folders = _folders(named(arguments, arguments.folders) if given else [], before)
+        programs.set_limit(arguments.limit)
+        now = open_.enter_context(_read_again(folders, arguments, before, open_.enter_context(tempdir.room())))
+        for it in verified.verified(before, now, folders):
+            counts[it.state] += 1
+            if it.state != verified.AS_IT_WAS or it.note:
+                _add(arguments, listed.setdefault(it.state, []), it)
+        new = verified.new_files(before, now) - counts[verified.MOVED]
+        size, files = next(now.rows("SELECT ifnull(sum(size), 0), count(*) FROM pictures WHERE sha256 != ''"))
+        if arguments.evidence:
+            _write_evidence(arguments, now)
+    if arguments.json:
+        print_object("verify", "summary", {"counts": dict(counts), "new": new, "files": files, "bytes": size})
+    else:
+        for line in _lines(counts, listed, new, files, size):
+            print_line(line)
+        if arguments.evidence:
+            print_line(f"{escaped(arguments.evidence)}: SHA-256 of {files:,} files, for sha256sum -c")
+    if any(counts[it] for it in verified.UNKNOWN):
+        return UNKNOWN
+    return DIFFERENCE if any(counts[it] for it in verified.BAD) else SUCCESS
+
+
+def _folders(names: Sequence[bytes], catalogue: Catalogue) -> List[bytes]:
+    """The folders to read. Raises `NotThere`."""
+    folders = [os.path.abspath(it) for it in names] or catalogue.roots()
+    for it in folders:
+        if not os.path.lexists(it):
+            raise NotThere(f"{shown_path(it)} isn't there, so nothing is verified: is its file system mounted?")
+    return folders
+
+
+def _read_again(folders: Sequence[bytes], arguments: argparse.Namespace, before: Catalogue, room: str) -> Catalogue:
+    """A new catalogue of the files that are there now, with their digests."""
+    exiftool.begin(room)
+    made = Catalogue(os.path.join(room, "catalogue"), make=True)
+    try:
+        closed: List[str] = []
+        how = How(arguments.jobs, pixels=True, sidecars=before.has_sidecars(), seconds=arguments.limit, room=room, lines=closed_folder)
+        index(IndexOptions(folders, quiet=arguments.quiet or not sys.stderr.isatty(), how=how, print_line=closed.append), made)
+        if closed:
+            raise NoCatalogue("; ".join(closed))
+    except BaseException:
+        made.close()
+        raise
+    finally:
+        exiftool.finish()
+    return made
+
+
+# What is printed
+
+
+def _add(arguments: argparse.Namespace, listed: List[str], it: verified.Verified) -> None:
+    """Prints an object, or notes the line of a file if it is one of the first."""
+    if arguments.json:
+        place = None if it.place is None else path_members(it.place)
+        print_object("verify", "picture", {**path_members(it.path), "state": it.state, "note": it.note or None, "place": place})
+    elif len(listed) <= SHOWN and it.state != verified.AS_IT_WAS:
+        words = [it.note] * bool(it.note)
+        if it.place is not None:
+            words = [f"to {shown_path(it.place)}", *words] if it.state == verified.MOVED else [f"{it.note} {shown_path(it.place)}"]
+        listed.append(shown_path(it.path) + (f" ({', '.join(words)})" if words else ""))
+
+
+def _lines(counts: "Counter[str]", listed: Dict[str, List[str]], new: int, files: int, size: int) -> Iterator[str]:
+    yield f"{files:,} file{'s' * (files != 1)} read again, {_size(size)}."
+    for state in verified.WORDS:
+        if not counts[state]:
+            continue
+        yield f"{counts[state]:>11,} {verified.WORDS[state]}"
+        names = listed.get(state, [])
+        yield from (f"              {it}" for it in names[:SHOWN])
+        yield from ["              .."] * (len(names) > SHOWN)
+    if new:
+        yield f"{new:>11,} that the catalogue doesn't know"
+
+
+def _size(octets: int) -> str:
+    """A number of bytes for people.
+
+    >>> _size(900), _size(1_100_000), _size(1_100_000_000_000)
+    ('900 bytes', '1.1 MB', '1.1 TB')
+    """
+    for power, unit in ((4, "TB"), (3, "GB"), (2, "MB"), (1, "kB")):
+        if octets >= 1000**power:
+            return f"{octets / 1000**power:.1f} {unit}"
+    return f"{octets} bytes"
+
+
+# --evidence
+
+
+def _write_evidence(arguments: argparse.Namespace, now: Catalogue) -> None:
+    """Writes the digest of each file, in the form of sha256sum."""
+    time = datetime.now(timezone.utc).strftime("%Y-%m-%d %H:%M:%S")
+
+    def write(file: BinaryIO) -> None:
+        file.write(f"# exifnorm-pictures verify, {time} UTC. To check again: sha256sum --quiet -c FILE\n".encode("ascii"))
+        for path, digest in now.rows("SELECT path, sha256 FROM pictures WHERE sha256 != '' ORDER BY path"):
+            file.write(line_of_sums(path, digest))
+
+    try:
+        atomic.replace(os.fsencode(arguments.evidence), write, lambda _: False)
+    except atomic.NotReplaced as error:
+        raise atomic.NotReplaced(atomic.not_written(escaped(arguments.evidence), error)) from None
+
+
+def line_of_sums(path: bytes, digest: str) -> bytes:
+    r"""A line as sha256sum writes it, which escapes some characters of a name.
+
+    >>> line_of_sums(b"/a/b.jpg", "12"), line_of_sums(b"/a\n\\", "12")
+    (b'12  /a/b.jpg\n', b'\\12  /a\\n\\\\\n')
+    """
+    shown = path.replace(b"\\", b"\\\\").replace(b"\n", b"\\n").replace(b"\r", b"\\r")
+    return (b"\\" if shown != path else b"") + digest.encode("ascii") + b"  " + shown + b"\n"

@@ -1,0 +1,157 @@
+"""`verify`: files read again, against a catalogue of index --pixels. What happens to a file is done by other programs, or byte by byte."""
+
+import json
+import os
+import shutil
+import subprocess
+
+import pytest
+from made_files import A, B, app1, jpeg
+from made_more_files import gif
+from studio import SMALL_JPEG, needs, put, tool
+
+PICTURE, CAPTIONED = jpeg(app1(A)), jpeg(app1(B))
+OTHER = jpeg(app1(A), base=SMALL_JPEG.replace(b"\xff\xdb\0\x43\0", b"\xff\xdb\0\x43\1", 1))
+OLD = 1_000_000_000 * 10**9  # nanoseconds
+
+
+def aged(path):
+    os.utime(path, ns=(OLD, OLD))
+
+
+@pytest.fixture
+def archive(folder, called):
+    """An archive that was indexed, with files of 2001."""
+    put(folder / "p", {"a.jpg": PICTURE, "b.jpg": PICTURE + b"trailer", "c.gif": gif(), "d.txt": b"no picture"})
+    for name in os.listdir(folder / "p"):
+        aged(folder / "p" / name)
+    called("index", "p", "--catalogue", "c", "--pixels", "--quiet")
+    return folder / "p"
+
+
+@pytest.fixture
+def verified(called):
+    """Runs `verify`: its status, and the state of each file that isn't as it was."""
+
+    def call(*words):
+        status, printed, messages = called("verify", "--catalogue", "c", "--json", *words)
+        objects = [json.loads(it) for it in printed.splitlines()]
+        return status, {os.path.basename(it["path"]): (it["state"], it["note"]) for it in objects[:-1]}, objects[-1:] or messages
+
+    return call
+
+
+def written(path, octets, keeps_time=False):
+    path.write_bytes(octets)
+    if keeps_time:
+        aged(path)
+
+
+SAME_TIME = "size and time are as before"
+# What happens to a.jpg, its state, and the status
+HAPPENS = {
+    "nothing": (lambda it: None, None, 0),
+    "touched": (lambda it: os.utime(it), None, 0),
+    "copied back": (lambda it: (shutil.copy(it, "t"), shutil.copy("t", it)), None, 0),
+    "captioned": (lambda it: written(it, CAPTIONED), ("captioned", None), 0),
+    "captioned, with its time": (lambda it: written(it, CAPTIONED, True), ("captioned", None), 0),
+    "written again": (lambda it: written(it, jpeg(app1(A + b"\0\0"))), ("written again", None), 0),
+    "replaced": (lambda it: written(it, OTHER), ("other picture", None), 1),
+    "rotted": (lambda it: written(it, OTHER, True), ("DAMAGED", SAME_TIME), 1),
+    "cut": (lambda it: written(it, PICTURE[:-20]), ("cut off", "the file ends inside its picture"), 1),
+    "empty": (lambda it: written(it, b""), ("other file", None), 1),
+    "gone": (lambda it: it.unlink(), ("missing", None), 1),
+    "moved": (lambda it: it.rename(it.parent / "z.jpg"), ("moved", None), 0),
+    "moved and captioned": (lambda it: (it.unlink(), written(it.parent / "z.jpg", CAPTIONED)), ("moved", "captioned, too"), 0),
+}
+
+
+@pytest.mark.parametrize("name", HAPPENS)
+def test_what_happens_to_a_picture(name, archive, verified):
+    happens, state, status = HAPPENS[name]
+    happens(archive / "a.jpg")
+    if name in ("gone", "moved", "moved and captioned"):  # b.jpg has the same picture
+        (archive / "b.jpg").write_bytes(b"text")
+        status = 1
+    found, states, (summary,) = verified()
+    states.pop("b.jpg", None)
+    assert (found, states) == (status, {"a.jpg": state} if state else {})
+    assert summary["new"] == 0
+
+
+def test_a_missing_picture_that_is_there_elsewhere(archive, called, verified):
+    (archive / "a.jpg").unlink()
+    status, states, _ = verified()
+    assert (status, states) == (1, {"a.jpg": ("missing", "the same picture is")})
+    assert f"a.jpg (the same picture is {archive / 'b.jpg'})" in called("verify", "--catalogue", "c")[1]
+
+
+def test_metadata_that_rotted(archive, verified, monkeypatch):
+    """Bytes that differ while the inode's time stayed are no edit, even if the picture is the same."""
+    from exifnorm_pictures.catalogue.records import Stamp
+
+    before = os.stat(archive / "a.jpg")
+    with open(archive / "a.jpg", "r+b") as file:
+        file.seek(PICTURE.index(b"Abc"))
+        octet = file.read(1)
+        file.seek(-1, 1)
+        file.write(bytes([octet[0] ^ 1]))
+    of = Stamp.of
+    monkeypatch.setattr(Stamp, "of", lambda it: of(before) if it.st_ino == before.st_ino else of(it))
+    status, states, _ = verified()
+    assert status == 1 and states == {"a.jpg": ("DAMAGED", "in its metadata")}
+
+
+def test_other_formats(archive, verified):
+    """Of formats without a digest of the picture the bytes of the file count."""
+    written(archive / "c.gif", gif() + b"x", True)
+    written(archive / "d.txt", b"other text")
+    assert verified()[1] == {"c.gif": ("other file", None), "d.txt": ("other file", None)}
+    written(archive / "c.gif", gif().replace(b"GIF89a", b"GIF87a"), True)
+    assert verified()[1]["c.gif"] == ("DAMAGED", SAME_TIME)
+
+
+def test_folders_and_catalogues(archive, called, verified):
+    put(archive / "sub", {"new.jpg": CAPTIONED})
+    status, states, (summary,) = verified()
+    assert (status, states, summary["new"], summary["files"]) == (0, {}, 1, 5)
+    (archive / "a.jpg").unlink()
+    assert verified("p/sub")[0] == 0  # what isn't below the folder isn't asked
+    assert called("verify", "nothing", "--catalogue", "c")[0] == 3
+    archive.rename(archive.parent / "unmounted")
+    status, printed, messages = called("verify", "--catalogue", "c")
+    assert (status, printed) == (3, "") and "is its file system mounted?" in messages
+    called("index", "unmounted", "--catalogue", "plain", "--quiet")
+    assert "without a digest" in called("verify", "--catalogue", "plain")[1] and called("verify", "--catalogue", "plain")[0] == 2
+
+
+@needs("exiftool")
+def test_exiftool_only_captions(archive, verified):
+    tool(
+        archive,
+        "exiftool",
+        "-q",
+        "-P",
+        "-overwrite_original",
+        "-Artist=Anna",
+        "-IPTC:Keywords=clay",
+        "-XMP-dc:Title=Vase",
+        "a.jpg",
+        "b.jpg",
+    )
+    assert verified()[:2] == (0, {"a.jpg": ("captioned", None), "b.jpg": ("captioned", None)})
+
+
+def test_evidence(archive, called):
+    """sha256sum reads it, also of names with a line end, a backslash and no UTF-8, and it replaces no file."""
+    for name in (b"line\nend.jpg", b"back\\slash.jpg", b"\xff.jpg", b" blank .jpg"):
+        with open(os.path.join(os.fsencode(archive), name), "wb") as file:
+            file.write(PICTURE + name)
+    called("index", "p", "--catalogue", "c", "--pixels", "--quiet")
+    assert called("verify", "--catalogue", "c", "--evidence", "e")[0] == 0
+    checked = subprocess.run(["sha256sum", "-c", "e"], capture_output=True)
+    assert checked.returncode == 0 and checked.stdout.count(b": OK") == 8, checked
+    (archive / "a.jpg").write_bytes(b"x")
+    assert subprocess.run(["sha256sum", "--quiet", "-c", "e"], capture_output=True).returncode == 1
+    status, printed, messages = called("verify", "--catalogue", "c", "--evidence", "e")
+    assert (status, printed) == (4, "") and "e isn't written: it is there already" in messages
