@@ -156,6 +156,20 @@ class Progress(unittest.TestCase):
         )
         self.assertEqual(stream.flushed, 3)
 
+    def test_a_message_stands_alone(self):
+        """On a terminal the line that changes is taken away before a message; elsewhere nothing is."""
+        stream = Stream(on_terminal=True)
+        it = progress.Progress(3, stream)
+        it.done(1)
+        it.clear()
+        it.clear()
+        self.assertEqual(stream.getvalue(), "\r\x1b[K1 of 3 pictures\r\x1b[K")
+        other = Stream()
+        it = progress.Progress(3, other)
+        it.done(1)
+        it.clear()
+        self.assertEqual(other.getvalue(), "1 of 3 pictures\n")
+
     def test_the_time_left(self):
         """From 5 s on it is within a factor of 2, however long the first results take, and soon after pictures take longer or shorter."""
         for begin, rates in ((0.5, [240]), (3.0, [240]), (8.0, [240]), (1.0, [50]), (1.0, [400, 100]), (1.0, [100, 400]), (3.0, [8])):

@@ -270,4 +270,5 @@ class _Looking:
         """Prints lines about pictures."""
         if self.options.print_line:
             for line in lines:
+                self.progress.clear()
                 self.options.print_line(line)

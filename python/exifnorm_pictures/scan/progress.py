@@ -10,6 +10,7 @@ from typing import Deque, Optional, TextIO, Tuple
 from ..cli.signals import drop
 
 WINDOW = 20.0  # seconds over which the speed is measured: pictures of some folders take longer than others
+_CLEAR = "\r\x1b[K"
 LEAST = 1.5  # seconds without which it isn't known: at first processes start, and results come in batches
 
 
@@ -34,6 +35,7 @@ class Progress:
         self.quiet = quiet
         self.began = time.monotonic()
         self.last = 0.0
+        self.is_shown = False  # whether a line that will change is on the terminal
         self._reports: Deque[Tuple[float, int]] = deque()  # when how many were done, the newest last
 
     def start(self) -> None:
@@ -52,8 +54,18 @@ class Progress:
             return
         self.last = now
         end = "\n" if not on_terminal or count == self.total else ""
+        self._write((_CLEAR if on_terminal else "") + self.text(count, now - self.began) + end)
+        self.is_shown = on_terminal and not end
+
+    def clear(self) -> None:
+        """Takes the line that changes off the terminal, before another one is printed there."""
+        if self.is_shown:
+            self._write(_CLEAR)
+            self.is_shown = False
+
+    def _write(self, text: str) -> None:
         try:
-            print(("\r\x1b[K" if on_terminal else "") + self.text(count, now - self.began), end=end, file=self.stream, flush=True)
+            print(text, end="", file=self.stream, flush=True)
         except OSError:  # nobody reads it: the run goes on
             drop(self.stream)
             self.quiet = True
