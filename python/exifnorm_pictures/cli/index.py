@@ -18,7 +18,7 @@ from ..scan.index import IndexOptions, index
 from .exit_codes import SUCCESS, UNKNOWN, USAGE
 from .names import named
 from . import objects, signals
-from .output import escaped, kind_of_part, print_line, record_lines, shown_path
+from .output import escaped, kind_of_part, moved_line, print_line, record_lines, shown_path
 from .signals import Failure
 
 # Pictures that should be readable and aren't
@@ -70,6 +70,7 @@ def run(arguments: argparse.Namespace) -> int:
         excluded = Excluded(arguments.exclude)
         how = How.of(arguments, room, lines)
         options = IndexOptions(names, arguments.again, arguments.quiet, how, print_line, excluded=excluded, lines=lines or record_lines)
+        options.moved_line = None if arguments.json or arguments.quiet else moved_line
         if arguments.scheduler:
             from ..scan import cluster  # only this needs Dask
 

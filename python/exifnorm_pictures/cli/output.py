@@ -128,6 +128,11 @@ def record_lines(it: PictureRecord) -> List[str]:
     return lines
 
 
+def moved_line(old: bytes, new: bytes, count: int) -> str:
+    """A line for the pictures of a folder that moved together."""
+    return f"{shown_path(old)}: Moved: {count:,} pictures to {shown_path(new)}"
+
+
 def closed_folder(it: PictureRecord) -> List[str]:
     """A line for a folder that can't be read, which has no row in a catalogue and so no folder above it."""
     return [] if it.root else [f"the folder {shown_path(it.path)} can't be read: {it.detail}"]

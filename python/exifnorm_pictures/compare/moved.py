@@ -78,6 +78,22 @@ class Departed:
                     yield PictureRecord(old, b"")
 
 
+def moved_together(went: Dict[bytes, bytes]) -> Dict[Tuple[bytes, bytes], List[bytes]]:
+    """The pictures that moved from one folder to another with the path below it, by these two folders; two and more of each.
+
+    >>> moved_together({b"/a/x/1.jpg": b"/b/x/1.jpg", b"/a/x/2.jpg": b"/b/x/2.jpg", b"/a/3.jpg": b"/c/4.jpg"})
+    {(b'/a', b'/b'): [b'/a/x/1.jpg', b'/a/x/2.jpg']}
+    """
+    found: Dict[Tuple[bytes, bytes], List[bytes]] = {}
+    for old, new in went.items():
+        one, other = old.split(b"/"), new.split(b"/")
+        while len(one) > 1 and len(other) > 1 and one[-1] == other[-1]:
+            del one[-1], other[-1]
+        if len(one) < old.count(b"/") + 1:
+            found.setdefault((b"/".join(one) or b"/", b"/".join(other) or b"/"), []).append(old)
+    return {key: paths for key, paths in found.items() if len(paths) > 1}
+
+
 _REMOUNTED = """SELECT old.path, new.path FROM pictures AS new JOIN pictures AS old USING (inode, size, modified, exif_octets, iptc_octets, xmp_octets)
     WHERE new.run = ? AND new.problem IS NULL AND old.root = ? AND old.problem IS NULL AND old.id != new.id ORDER BY old.path"""
 

@@ -12,7 +12,7 @@ from typing import Callable, Dict, Iterable, Iterator, List, Optional, Sequence,
 
 from ..catalogue.records import PictureRecord, is_as_before
 from ..catalogue.store import Catalogue, Known
-from ..compare.moved import Departed
+from ..compare.moved import Departed, moved_together
 from ..extract import programs
 from ..extract.formats.found import EXIFTOOL, EXIV2, PROBLEMS, UNREAD_TRAILER
 from ..extract.sidecars import marks
@@ -53,6 +53,7 @@ class IndexOptions:
     print_line: Optional[PrintLine] = None  # prints a line about a picture that was looked at, once it is committed
     look: Look = _looked
     excluded: Excluded = field(default_factory=Excluded)
+    moved_line: Optional[Callable[[bytes, bytes, int], str]] = None  # makes one line for all pictures that moved with their folder
     lines: Optional[Lines] = None  # makes the lines about folders that can't be read and names without a file; that of `how` by default
 
 
@@ -88,8 +89,13 @@ def index(options: IndexOptions, catalogue: Catalogue) -> "Counter[str]":
         catalogue.put(run, gone)
     at_work = _Looking(options, catalogue, run, work)
     at_work.all()
-    for it in departed.settle(catalogue, run, gone, work.new):
-        at_work.count(it, options.how.lines)
+    left = list(departed.settle(catalogue, run, gone, work.new))
+    together = moved_together(departed.went) if options.moved_line else {}
+    in_folders = {path for paths in together.values() for path in paths}
+    for it in left:
+        at_work.count(it, None if it.path in in_folders else options.how.lines)
+    if options.moved_line:
+        at_work.print_lines(options.moved_line(*key, len(paths)) for key, paths in together.items())
     for it in _named_wrong(work, catalogue):
         at_work.count(it, options.lines or options.how.lines)
     catalogue.end_run(run, _now())

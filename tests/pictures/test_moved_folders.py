@@ -1,0 +1,59 @@
+"""`index`: a folder that moved is one line, and not one for each of its pictures."""
+
+import json
+import os
+
+import pytest
+from made_files import app1, exif, jpeg
+from studio import put
+
+FILES = {f"{name}.jpg": jpeg(app1(exif(name.encode() * 3))) for name in ("a", "b", "c")}
+
+
+@pytest.fixture
+def archive(folder, called):
+    put(folder / "p" / "monday", FILES)
+    put(folder / "p" / "monday" / "raw", {"d.jpg": jpeg(app1(exif(b"ddd")))})
+    called("index", "p", "--catalogue", "c", "--quiet")
+    return folder / "p"
+
+
+def moves(printed):
+    return [it for it in printed.splitlines() if ": Moved: " in it]
+
+
+def test_a_folder(archive, called):
+    (archive / "monday").rename(archive / "tuesday")
+    status, printed, _ = called("index", "p", "--catalogue", "c")
+    assert (
+        status == 0 and moves(printed) == [f"{archive}/monday: Moved: 4 pictures to {archive}/tuesday"] and "4 Moved, 4 accepted" in printed
+    )
+
+
+def test_objects_are_of_pictures(archive, called):
+    (archive / "monday").rename(archive / "tuesday")
+    objects = [json.loads(it) for it in called("index", "p", "--catalogue", "c", "--json")[1].splitlines()]
+    assert sorted(os.path.basename(it["path"]) for it in objects[:-1] if it["problem"] == "Moved") == ["a.jpg", "b.jpg", "c.jpg", "d.jpg"]
+
+
+def test_single_pictures_have_their_names(archive, called):
+    """Also where two go to two places, or get another name."""
+    (archive / "x").mkdir()
+    (archive / "monday/a.jpg").rename(archive / "x/a.jpg")
+    (archive / "monday/b.jpg").rename(archive / "b.jpg")
+    (archive / "monday/c.jpg").rename(archive / "monday/new.jpg")
+    found = moves(called("index", "p", "--catalogue", "c")[1])
+    assert {it.partition(": Moved: to ")[::2] for it in found} == {
+        (f"{archive}/monday/a.jpg", f"{archive}/x/a.jpg"),
+        (f"{archive}/monday/b.jpg", f"{archive}/b.jpg"),
+        (f"{archive}/monday/c.jpg", f"{archive}/monday/new.jpg"),
+    }
+
+
+def test_a_folder_and_a_picture(archive, called):
+    (archive / "monday/a.jpg").rename(archive / "first.jpg")
+    (archive / "monday").rename(archive / "tuesday")
+    assert sorted(moves(called("index", "p", "--catalogue", "c")[1])) == [
+        f"{archive}/monday/a.jpg: Moved: to {archive}/first.jpg",
+        f"{archive}/monday: Moved: 3 pictures to {archive}/tuesday",
+    ]
