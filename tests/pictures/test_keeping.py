@@ -6,16 +6,22 @@ import os
 import sqlite3
 
 import pytest
-from made_files import app1, exif, jpeg, turned
+from made_blocks import segment
+from made_files import app1, chunk, exif, jpeg, png, turned
 from studio import SMALL_JPEG, put
 
 A = exif(b"abc")
 OTHER = SMALL_JPEG.replace(b"\xff\xdb\0\x43\0", b"\xff\xdb\0\x43\1", 1)  # another table of quantization, so another picture
 MASTER, AGAIN, SMALLER = jpeg(app1(A)), jpeg(app1(turned(A))), jpeg(app1(A), base=OTHER)
 CUT = MASTER[:-20]
+PROFILE = jpeg(app1(A), segment(0xE2, b"ICC_PROFILE\0\1\1a profile"))
+COMMENT = jpeg(app1(A), segment(0xFE, b"scanned by Anna"))
+PNG_A, PNG_B = png(chunk(b"eXIf", A)), png(chunk(b"eXIf", A), chunk(b"tEXt", b"Comment\0by Anna"))
+PNG_C, PNG_D = png(chunk(b"eXIf", A), chunk(b"iCCP", b"x\0\0abc")), png(chunk(b"eXIf", A), chunk(b"tIME", b"1234567"))
 NOT_KNOWN = "whether its picture is that of another one isn't known: index --pixels finds out"
 DAMAGED = "damaged: the file ends inside its picture"
 ALONE = "no other one has the same picture"
+BESIDE = "one with the same picture has another colour profile or comment"
 
 # Files by name, and whether each stays, without the digests of pictures and with them
 CASES = {
@@ -24,6 +30,10 @@ CASES = {
     "equal files": ({"a": MASTER, "b": MASTER}, (True, False), (True, False)),
     "equal files and a smaller one": ({"a": SMALLER, "b": MASTER, "c": MASTER}, (NOT_KNOWN, True, False), (ALONE, True, False)),
     "written again": ({"a": MASTER, "b": AGAIN}, (NOT_KNOWN, NOT_KNOWN), (True, False)),
+    "a copy without the colour profile": ({"a": MASTER, "m": PROFILE}, (NOT_KNOWN, NOT_KNOWN), (BESIDE, BESIDE)),
+    "two with the colour profile": ({"a": MASTER, "m": PROFILE, "n": PROFILE}, (NOT_KNOWN, True, False), (BESIDE, True, False)),
+    "a comment": ({"a": MASTER, "b": COMMENT, "c": MASTER}, (True, NOT_KNOWN, False), (True, BESIDE, False)),
+    "PNG": ({"a": PNG_A, "b": PNG_B, "c": PNG_C, "d": PNG_D}, (NOT_KNOWN,) * 4, (True, BESIDE, BESIDE, False)),
     "all cut alike": ({"a": CUT, "b": CUT}, (DAMAGED, DAMAGED), (DAMAGED, DAMAGED)),
     "two pictures twice": ({"a": MASTER, "b": SMALLER, "c": AGAIN, "d": SMALLER}, None, (True, True, False, False)),
 }

@@ -523,7 +523,7 @@ class File(WithPictures):
         compared = {it: it for it in Digests._fields}
         marks = {"size": 1, "modified": 2, "changed": 3, "inode": 4, "device": 5}
         about = {"path": b"/a/b", "root": b"/a", "type": "JPEG", "extractor": "own", "problem": "TooSlow", "detail": "why"}
-        more = {"file": "file", "coded_picture": "coded", "damage": "cut", "sha256": "whole", "sidecars": "beside"}
+        more = {"file": "file", "coded_picture": "coded", "beside": "icc", "damage": "cut", "sha256": "whole", "sidecars": "beside"}
         record = PictureRecord(**about, **more, stamp=Stamp(**marks), digests=Digests(**compared))
         with Catalogue(self.path("c"), make=True) as made:
             run = made.begin_run("2000-01-01T00:00:00Z")

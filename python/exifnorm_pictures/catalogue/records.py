@@ -169,6 +169,7 @@ class Picture(NamedTuple):
     maker_notes: str
     file: str
     coded_picture: Optional[str]
+    beside: str
     damage: str
     sha256: Optional[str]
     sidecars: str
@@ -220,6 +221,7 @@ class PictureRecord(NamedTuple):
     file: str = ""  # SHA-256 of the whole file, if nothing else can be compared
     notes: Optional[bytes] = None  # what ExifTool reads of its MakerNotes, if it was asked
     coded_picture: Optional[str] = None  # the digest of the coded picture, empty if it isn't known; None: it was not requested
+    beside: str = ""  # the digest of its colour profiles and comments
     damage: str = ""  # what is damaged in the coded picture
     sha256: Optional[str] = None  # of the whole file, empty if it can't be read; None: it was not requested
     sidecars: str = ""  # the marks of its XMP sidecars
@@ -248,7 +250,7 @@ class PictureRecord(NamedTuple):
         """The picture as a catalogue keeps it, with its number there."""
         marks = self.stamp or (None,) * len(Stamp._fields)
         known = (self.path, self.root, *marks, self.type, self.extractor, self.problem, self.detail, *digests(self))
-        return Picture._make((number, *known, self.file, self.coded_picture, self.damage, self.sha256, self.sidecars))
+        return Picture._make((number, *known, self.file, self.coded_picture, self.beside, self.damage, self.sha256, self.sidecars))
 
 
 def state_of(problem: Optional[str], blocks: Iterable[Block]) -> str:

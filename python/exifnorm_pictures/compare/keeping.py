@@ -14,8 +14,9 @@ from .groups import KEEP_ALL, Group
 
 NOT_KNOWN = "whether its picture is that of another one isn't known: index --pixels finds out"
 OTHER = "no other one has the same picture"
+OTHER_BESIDE = "one with the same picture has another colour profile or comment"
 OTHER_FILE = "no other file has the same bytes, and pictures of this format aren't compared"
-NOT_ALL = "colour profiles and comments aren't compared"
+NOT_ALL = "its file has other bytes, outside of metadata, picture, colour profile and comments"
 
 _Key = Tuple[str, str]  # what was compared, and its digest
 
@@ -59,6 +60,8 @@ def _keep(it: Picture, keys: Dict[int, _Key], equal: Dict[_Key, List[Picture]], 
         return Keep(why=NOT_KNOWN)
     same = equal[keys[it.id]]
     if len(same) == 1:
+        if any(one is not it and one.coded_picture == it.coded_picture for some in equal.values() for one in some if it.coded_picture):
+            return Keep(why=OTHER_BESIDE)
         return Keep(why=NOT_KNOWN if has_unknown else OTHER if keys[it.id][0] == "picture" else OTHER_FILE)
     if it is not same[0]:
         return Keep(False, same_as=same[0].path)
@@ -74,7 +77,7 @@ def _keys(members: Sequence[Picture], reads: bool) -> Dict[int, _Key]:
         if it.damage:
             continue
         if it.coded_picture:
-            found[it.id] = ("picture", it.coded_picture)
+            found[it.id] = ("picture", it.coded_picture + it.beside)
         elif it.sha256 or it.file:
             found[it.id] = ("file", it.sha256 or it.file)
         elif reads and sizes[it.size] > 1:

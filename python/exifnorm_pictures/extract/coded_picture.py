@@ -27,6 +27,7 @@ class CodedPicture(NamedTuple):
     """What is known of the coded picture of a file."""
 
     digest: str = ""  # BLAKE2b in 64 hexadecimal digits; empty if it isn't known
+    beside: str = ""  # the same of its colour profiles and comments; empty without any
     damage: str = ""  # what is damaged
 
 
@@ -40,7 +41,10 @@ def of_file(path: bytes, budget: Budget) -> CodedPicture:
     try:
         file = File(*opening.opened(path), budget)
         try:
-            return CodedPicture(digest(file, budget))
+            beside = hashlib.blake2b(digest_size=32)
+            nothing = beside.digest()
+            found = digest(file, budget, beside)
+            return CodedPicture(found, "" if beside.digest() == nothing else beside.hexdigest())
         finally:
             file.close()
     except (NotFollowed, TooMuch, OSError):
@@ -49,21 +53,22 @@ def of_file(path: bytes, budget: Budget) -> CodedPicture:
         return CodedPicture(damage=str(why) or "its structure is broken")
 
 
-def digest(stream: Stream, budget: Budget) -> str:
-    """The same of a file that is open. Raises `Broken` and `TooMuch`."""
+def digest(stream: Stream, budget: Budget, beside: "Optional[hashlib.blake2b]" = None) -> str:
+    """The same of a file that is open. Colour profiles and comments are added to `beside`. Raises `Broken` and `TooMuch`."""
+    beside = beside or hashlib.blake2b()
     stream.seek(0)
     head = stream.read(12)
     found = hashlib.blake2b(digest_size=32)
     if head.startswith(jpeg.START):
-        _jpeg(stream, found, budget)
+        _jpeg(stream, found, budget, beside)
     elif head.startswith(png.START):
-        _png(stream, found, budget)
+        _png(stream, found, budget, beside)
     elif webp.is_webp(head):
-        _webp(stream, found, budget)
+        _webp(stream, found, budget, beside)
     elif head[:4] in tiff.HEADS:
-        _tiff(Directories(stream), found, budget)
+        _tiff(Directories(stream), found, budget, beside)
     elif head[:4] in bigtiff.HEADS:
-        _tiff(bigtiff.BigDirectories(stream), found, budget)
+        _tiff(bigtiff.BigDirectories(stream), found, budget, beside)
     else:
         return ""
     return found.hexdigest()
@@ -77,10 +82,11 @@ def _add(stream: Stream, found: "hashlib.blake2b", start: int, end: int) -> None
 # JPEG
 
 _METADATA = frozenset((*range(0xE0, 0xEE), 0xEF, 0xFE))  # APP0 to APP13, APP15 and COM
+_PROFILE, _COMMENT = 0xE2, 0xFE
 _ALONE = frozenset((0x01, *range(0xD0, 0xD8)))  # markers without a segment
 
 
-def _jpeg(stream: Stream, found: "hashlib.blake2b", budget: Budget) -> None:
+def _jpeg(stream: Stream, found: "hashlib.blake2b", budget: Budget, beside: "hashlib.blake2b") -> None:
     head = read_head(stream, 0, budget)
     if head.fault or not head.parts or head.parts[-1][0] != SOS:
         raise Broken(head.fault or f"no scan before {head.end}")
@@ -89,6 +95,8 @@ def _jpeg(stream: Stream, found: "hashlib.blake2b", budget: Budget) -> None:
             raise Broken(f"no segment at {start - 2}")
         if marker not in _METADATA and marker not in _ALONE:
             found.update(head.octets[start - 4 : start + size])
+        elif marker == _COMMENT or (marker == _PROFILE and head.octets.startswith(b"ICC_PROFILE\0", start)):
+            beside.update(head.octets[start - 4 : start + size])
     _scans(stream, found, head.parts[-1][3] - 4, budget)
 
 
@@ -117,11 +125,14 @@ def _scans(stream: Stream, found: "hashlib.blake2b", at: int, budget: Budget) ->
 # PNG and WebP
 
 _PNG = frozenset((b"IHDR", b"PLTE", b"tRNS", b"IDAT", b"acTL", b"fcTL", b"fdAT"))
+_PNG_COLOURS = frozenset((b"iCCP", b"gAMA", b"cHRM", b"sRGB", b"cICP"))
+_PNG_TEXTS = frozenset((b"tEXt", b"zTXt", b"iTXt"))
+_PNG_METADATA = (b"XML:com.adobe.xmp", b"Raw profile type ")  # the beginnings of texts that are blocks
 _WEBP = frozenset((b"VP8 ", b"VP8L", b"ALPH", b"ANIM", b"ANMF"))
 _MOVES = 0x02  # the bit of VP8X that says so; a picture that doesn't move has VP8X only if it has metadata or ALPH
 
 
-def _png(stream: Stream, found: "hashlib.blake2b", budget: Budget) -> None:
+def _png(stream: Stream, found: "hashlib.blake2b", budget: Budget, beside: "hashlib.blake2b") -> None:
     at, size, last = len(png.START), size_of(stream), b""
     while True:
         budget.spend(CHUNKS)
@@ -136,10 +147,13 @@ def _png(stream: Stream, found: "hashlib.blake2b", budget: Budget) -> None:
                 found.update(kind if kind == b"IDAT" else kind + head[:4])
             _add(stream, found, at + 8, at + 8 + length)
             last = kind
+        elif kind in _PNG_COLOURS or (kind in _PNG_TEXTS and not read_at(stream, at + 8, min(length, 17)).startswith(_PNG_METADATA)):
+            beside.update(kind + head[:4])
+            _add(stream, beside, at + 8, at + 8 + length)
         at += 12 + length
 
 
-def _webp(stream: Stream, found: "hashlib.blake2b", budget: Budget) -> None:
+def _webp(stream: Stream, found: "hashlib.blake2b", budget: Budget, beside: "hashlib.blake2b") -> None:
     end = 8 + int.from_bytes(read_at(stream, 4, 4), "little")
     at = 12
     if end > size_of(stream):
@@ -157,6 +171,8 @@ def _webp(stream: Stream, found: "hashlib.blake2b", budget: Budget) -> None:
         elif head[:4] in _WEBP:
             found.update(head)
             _add(stream, found, at + 8, at + 8 + length)
+        elif head[:4] == b"ICCP":
+            _add(stream, beside, at + 8, at + 8 + length)
         at += 8 + length + length % 2
 
 
@@ -167,13 +183,16 @@ _CODING = (
     *(0x0152, 0x0153, 0x015B, 0x0200, 0x0203, 0x0205, 0x0206, 0x0211, 0x0212, 0x0214),
 )
 _OFFSETS = {0x0111: 0x0117, 0x0144: 0x0145, 0x0201: 0x0202}  # of strips, tiles and JPEGs, each with the tag of their lengths
+_TIFF_PROFILE = 0x8773
 _OLD_TABLES = (0x0207, 0x0208, 0x0209)  # of JPEG in TIFF 6.0, whose lengths aren't in the file's directories
 
 
-def _tiff(directories: Directories, found: "hashlib.blake2b", budget: Budget) -> None:
+def _tiff(directories: Directories, found: "hashlib.blake2b", budget: Budget, beside: "hashlib.blake2b") -> None:
     left, strips = directories.size, 0  # strips may share bytes in a made file
-    for page in tiff.Reader(directories, False).pages():
+    for number, page in enumerate(tiff.Reader(directories, False).pages()):
         by_tag: Dict[int, Entry] = {it.tag: it for it in page.directory.entries}
+        if _TIFF_PROFILE in by_tag:
+            beside.update(b"%d:" % number + directories.value(by_tag[_TIFF_PROFILE]))
         if any(tag in by_tag for tag in _OLD_TABLES):
             raise NotFollowed("old tables of JPEG")
         for tag in _CODING:

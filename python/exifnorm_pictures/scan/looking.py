@@ -41,7 +41,7 @@ def _look(it: FoundFile, how: How) -> PictureRecord:
         if it.sidecars:
             whole_file = sidecars.with_sidecars(whole_file, it.path, it.sidecars)
         notes = _maker_notes(it.path, judged) if how.maker_notes else None
-        pixels = _pixels(it.path, blocks) if how.pixels else (None, "", None)
+        pixels = _pixels(it.path, blocks) if how.pixels else (None, "", "", None)
     except LibraryMissing:  # an OSError too, but not of this file
         raise
     except programs.Failed as error:
@@ -55,8 +55,8 @@ def _look(it: FoundFile, how: How) -> PictureRecord:
     except Exception as error:  # an error of a reader affects only this file
         return PictureRecord.of(it.path, it.root, it.stamp, extraction.failed_here(error))
     found = PictureRecord.of(it.path, it.root, _unless_changed(it, began), blocks, judged, whole_file)
-    coded, damage, whole = pixels
-    return found._replace(notes=notes, coded_picture=coded, damage=damage, sha256=whole, sidecars=marks)
+    coded, beside, damage, whole = pixels
+    return found._replace(notes=notes, coded_picture=coded, beside=beside, damage=damage, sha256=whole, sidecars=marks)
 
 
 def _read(it: FoundFile, how: How) -> Tuple[Blocks, List[Block]]:
@@ -83,13 +83,14 @@ def _maker_notes(path: bytes, judged: Sequence[Block]) -> Optional[bytes]:
     return maker_notes.packed(maker_notes.readings_of([path])[0])
 
 
-def _pixels(path: bytes, blocks: Blocks) -> Tuple[Optional[str], str, Optional[str]]:
-    """What --pixels adds to a record: the digest of the coded picture, its damage, and the digest of the whole file; empty if not known."""
+def _pixels(path: bytes, blocks: Blocks) -> Tuple[Optional[str], str, str, Optional[str]]:
+    """What --pixels adds to a record: the digests of the coded picture and of what is beside it, its damage, and the digest of the whole file;
+    empty if not known."""
     from ..extract import coded_picture
 
     coded = coded_picture.CodedPicture() if blocks.problem else coded_picture.of_file(path, blocks.budget)
     is_read = blocks.problem not in _NOT_OPENED
-    return coded.digest, coded.damage, digest_of_file(path, 1 << 62) if is_read else ""
+    return coded.digest, coded.beside, coded.damage, digest_of_file(path, 1 << 62) if is_read else ""
 
 
 def file_digest(path: bytes, blocks: Blocks, whole: bool) -> str:
