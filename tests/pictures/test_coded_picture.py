@@ -298,9 +298,9 @@ class TestChanged:
 
 
 def test_same_beside_what_was_indexed_without(folder, called_lines):
-    put(folder, {"p/a.jpg": jpeg(app1(A))})
-    called_lines("index", "p", "--catalogue", "c", "--pixels", "--quiet")
-    put(folder, {"p/b.jpg": jpeg(app1(A))})
-    called_lines("index", "p", "--catalogue", "c", "--quiet")
+    put(folder, {"p/a.jpg": jpeg(app1(A)), "q/b.jpg": jpeg(app1(A))})
+    called_lines("index", "p", "--catalogue", "with", "--pixels", "--quiet")
+    called_lines("index", "q", "--catalogue", "without", "--quiet")
+    called_lines("merge", "with", "without", "--catalogue", "c")
     status, _, errors = called_lines("same", "--catalogue", "c", "--kind", "pixels")
     assert status == 3 and "1 picture has no digest" in errors

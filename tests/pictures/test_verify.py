@@ -155,3 +155,10 @@ def test_evidence(archive, called):
     assert subprocess.run(["sha256sum", "--quiet", "-c", "e"], capture_output=True).returncode == 1
     status, printed, messages = called("verify", "--catalogue", "c", "--evidence", "e")
     assert (status, printed) == (4, "") and "e isn't written: it is there already" in messages
+
+
+def test_index_goes_on_with_digests(archive, called, verified):
+    """Otherwise the pictures that were captioned since would have none."""
+    written(archive / "a.jpg", CAPTIONED)
+    called("index", "p", "--catalogue", "c", "--quiet")
+    assert verified()[:2] == (0, {})

@@ -350,6 +350,10 @@ class Catalogue:
         """Whether XMP files beside pictures are blocks of them here, as in one of its runs."""
         return next(self.rows("SELECT 1 FROM runs WHERE sidecars LIMIT 1"), None) is not None
 
+    def has_digests(self) -> bool:
+        """Whether it has digests of coded pictures, as of `index --pixels`."""
+        return next(self.rows("SELECT 1 FROM pictures WHERE coded_picture != '' LIMIT 1"), None) is not None
+
     def set_versions(self, run: int, exifnorm: str, exiftool: Optional[str], exiv2: Optional[str]) -> None:
         """Keeps which library makes the digests of a run, and which programs have read a picture."""
         with self.guarded():

@@ -81,15 +81,14 @@ class _Notes:
     """What was compared of the coded pictures, once all are compared."""
 
     def __init__(self, arguments: argparse.Namespace, counts: "Counter[str]") -> None:
-        self.has_folders = all(map(os.path.isdir, (arguments.before, arguments.after)))
+        folders = sum(map(os.path.isdir, (arguments.before, arguments.after)))
+        self.pixels = ("index --pixels", "index --pixels, and --pixels here,", "--pixels")[folders]
         self.is_asked = not (arguments.only or arguments.only_file)  # the words of --only are all that is asked
         self.counts = counts
 
     def of_pictures(self) -> List[str]:
         """A sentence, if there are pictures on both sides."""
-        return (
-            list(filter(None, [coded.sentence(self.counts, "--pixels" if self.has_folders else "index --pixels")])) if self.is_asked else []
-        )
+        return list(filter(None, [coded.sentence(self.counts, self.pixels)])) if self.is_asked else []
 
 
 def _print_each(arguments: argparse.Namespace, found: Found, counts: "Counter[str]", choice: Choice, notes: _Notes) -> None:

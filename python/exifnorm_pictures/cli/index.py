@@ -66,6 +66,7 @@ def run(arguments: argparse.Namespace) -> int:
         if arguments.keep_old:
             keep_old(catalogue, arguments.keep_old, room)
         _check_sidecars(arguments, catalogue)
+        arguments.pixels = arguments.pixels or catalogue.has_digests()  # of the pictures that changed, too
         lines = objects.record_lines if arguments.json else None if arguments.quiet else record_lines
         excluded = Excluded(arguments.exclude)
         how = How.of(arguments, room, lines)
