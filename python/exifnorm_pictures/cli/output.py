@@ -5,17 +5,19 @@ Such a line can't control a terminal, and has no end of a line in it.
 
 from __future__ import annotations
 
-import argparse
 import json
 import os
 import re
 from types import TracebackType
-from typing import Any, Dict, List, Optional, Sequence, Union
+from typing import TYPE_CHECKING, Any, Dict, List, Optional, Sequence, Union
 
 from ..catalogue.records import WORDS, Block, PictureRecord
 from ..compare.verdicts import ACCEPTED
 from ..extract.formats.found import damage
 from ..refusals.steps import loses, words
+
+if TYPE_CHECKING:
+    import argparse
 
 Members = Dict[str, Any]  # of a JSON object
 

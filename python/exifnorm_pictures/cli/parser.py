@@ -7,11 +7,11 @@ import sys
 from typing import IO, Callable, Dict, NoReturn, Optional, Sequence, Tuple
 
 from ..catalogue.records import KIND_OF
+from ..extract.budgets import PROGRAM_SECONDS
 from .exit_codes import USAGE
 from .output import safe
 
 PIXELS = "pixels"  # the kind of groups with the same coded picture
-SECONDS = 60.0  # that a program may take for one file
 
 _STATUSES = """Statuses:
   0    done, or the same (index: also if pictures are refused, which the
@@ -170,7 +170,13 @@ def _name(text: str) -> str:
 
 
 def _limit_arguments(it: argparse.ArgumentParser) -> None:
-    it.add_argument("--limit", type=_seconds, default=SECONDS, metavar="SECONDS", help=f"time limit of ExifTool for a file ({SECONDS:g})")
+    it.add_argument(
+        "--limit",
+        type=_seconds,
+        default=PROGRAM_SECONDS,
+        metavar="SECONDS",
+        help=f"time limit of ExifTool for a file ({PROGRAM_SECONDS:g})",
+    )
 
 
 def _looking_arguments(it: argparse.ArgumentParser) -> None:
@@ -326,7 +332,7 @@ def _show_arguments(it: argparse.ArgumentParser) -> None:
 
 def _captions_arguments(it: argparse.ArgumentParser) -> None:
     _example(it, "captions --csv pictures > captions.csv")
-    it.add_argument("pictures", nargs="*", type=_name, metavar="PICTURE", help="a picture, or a folder with all below it")
+    it.add_argument("pictures", nargs="*", type=_name, metavar="PICTURE", help="a picture, a folder with all below it, or a catalogue")
     it.add_argument("--block", action="store_true", help="each PICTURE is a block that was extracted before")
     _looking_arguments(it)
 
@@ -334,7 +340,7 @@ def _captions_arguments(it: argparse.ArgumentParser) -> None:
 def _conflicts_arguments(it: argparse.ArgumentParser) -> None:
     _example(it, "conflicts pictures")
     it.set_defaults(block=False)
-    it.add_argument("pictures", nargs="*", type=_name, metavar="PICTURE", help="a picture, or a folder with all below it")
+    it.add_argument("pictures", nargs="*", type=_name, metavar="PICTURE", help="a picture, a folder with all below it, or a catalogue")
     it.add_argument("--all", action="store_true", help="also list texts that are empty, cut, in a wrong character set, or a camera's own")
     for word, what in (("ignore", "leave out this label"), ("only", "compare this label alone")):
         it.add_argument(f"--{word}", action="append", default=[], metavar="LABEL", help=f"{what}, such as title")

@@ -12,6 +12,7 @@ from __future__ import annotations
 import time
 from typing import Dict
 
+PROGRAM_SECONDS = 60.0  # of a clock, that a program may take for one file
 SECONDS = 5.0  # of a processor, looked at between two steps, of which the longest, parsing a packet, takes as much; need 0.09
 
 # The limits of a picture, by the words that a message has.
@@ -59,6 +60,7 @@ NESTED = 100  # elements of a packet in one another
 LANGUAGE = 100  # characters of a language of XMP, which each of its texts repeats; RFC 5646, 4.4.1 asks for 35
 FIELDS = 100_000  # of a block that are kept to be shown; the block is compared by its digest in any case; need 150
 FIELD_BYTES = 8 << 20  # of the fields of a block as JSON, here and in a catalogue of others; need 8.6 kB
+KEPT_BYTES = 8 << 20  # of the fields of a picture in a catalogue, all blocks together; need 3.8 kB
 WHOLE_FILE = 16 << 20  # bytes of a file of which no block was read, for a digest of all of it; with --whole any number
 OUTPUT = 64 << 20  # bytes that another program may write about a picture
 

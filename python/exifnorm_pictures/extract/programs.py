@@ -17,9 +17,8 @@ from typing import Callable, List, NamedTuple, Optional, Set
 
 from ..cli import signals
 from ..cli.output import reason
-from ..cli.parser import SECONDS
 from ..cli.signals import Failure
-from .budgets import OUTPUT
+from .budgets import OUTPUT, PROGRAM_SECONDS
 
 PACKAGES = {"exiftool": "libimage-exiftool-perl", "exiv2": "exiv2"}
 
@@ -52,7 +51,7 @@ class Done(NamedTuple):
     stdout: bytes
 
 
-_limit = SECONDS
+_limit = PROGRAM_SECONDS
 
 
 def set_limit(seconds: float) -> None:

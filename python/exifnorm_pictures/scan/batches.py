@@ -3,18 +3,20 @@ catalogue takes the rows over without any object for them. So several processes 
 
 from __future__ import annotations
 
-import argparse
 import contextlib
 import os
 import sqlite3
 from collections import Counter
 from dataclasses import dataclass
-from typing import Callable, List, NamedTuple, Optional, Sequence, Set, Union
+from typing import TYPE_CHECKING, Callable, List, NamedTuple, Optional, Sequence, Set, Union
 
 from ..catalogue.records import PictureRecord
 from ..catalogue.store import KEPT_BEFORE, make_rows, put_rows
-from ..cli.parser import SECONDS
+from ..extract.budgets import PROGRAM_SECONDS
 from .walk import FoundFile
+
+if TYPE_CHECKING:
+    import argparse
 
 LONGEST_WAIT = 2.0  # seconds until results are committed, if pictures are slow
 
@@ -30,7 +32,7 @@ class How:
     whole: bool = False  # every byte of a JPEG, not only its head and tail
     pixels: bool = False  # also a digest of the coded picture
     sidecars: bool = False  # XMP files beside pictures are blocks of them
-    seconds: float = SECONDS  # that a program may take for one file
+    seconds: float = PROGRAM_SECONDS  # that a program may take for one file
     room: str = ""  # a folder for temporary files
     lines: Optional[Lines] = None  # makes the lines that are printed about a picture
 
