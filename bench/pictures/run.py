@@ -30,7 +30,8 @@ import made_files as made
 from exifnorm_pictures.catalogue.store import Catalogue
 from exifnorm_pictures.extract.formats.found import EXIF, IPTC, NAMES, XMP
 from exifnorm_pictures.catalogue.records import Block, PictureRecord, Stamp
-from exifnorm_pictures.fields.listing import Field, packed
+from exifnorm_pictures.fields.listing import Field
+from exifnorm_pictures.fields.packing import packed
 
 ROOT = b"/archive"
 BATCH = 1000  # rows at once: few, because the system counts the memory of this process into that of a command that it starts
@@ -84,7 +85,7 @@ def make_others(folder: str, count: int) -> bool:
 
 def row(number: int, says: int, path: bytes, fields: bool) -> PictureRecord:
     """A picture as the catalogue keeps it, whose Exif, IPTC and XMP blocks contain a number."""
-    kept = packed([Field("main", "010f", "ASCII", 4, f'"{says}"')]) if fields else None
+    kept = packed([Field("main", "010f", "ASCII", 4, b"%d\0" % says)]).octets if fields else None
     blocks = []
     for kind in (EXIF, IPTC, XMP):
         digest = hashlib.sha256(f"{kind} {says}".encode()).hexdigest()

@@ -415,7 +415,9 @@ def test_texts_of_a_catalogue(archive):
         base.execute("INSERT INTO not_read SELECT id, 7, ?, '' FROM pictures", (NASTY,))
         base.execute("UPDATE pictures SET not_read = 'x', exif = 'y'")
         base.execute("UPDATE pictures SET problem = ? WHERE id = 3", (NASTY,))
-        fields = json.dumps([["main", NASTY, "ASCII", 4, NASTY], [NASTY, "010f", NASTY, 4, NASTY]]).encode()
+        fields = json.dumps(
+            [["main", NASTY, "ASCII", 4, NASTY], [NASTY, "010f", "octets", 4, NASTY], ["xmp", NASTY, NASTY, 4, [NASTY]]]
+        ).encode()
         base.execute("UPDATE blocks SET fields = ?, digest = 'x'", (fields,))
     commands = [
         ["same"],

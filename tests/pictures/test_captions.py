@@ -257,3 +257,17 @@ def test_a_text_is_no_formula(text, captions):
 def test_a_text_with_line_ends_is_one_cell(captions):
     _, out = captions("--csv", a=jpeg(with_record(data_set(120, b'a, "b"\nc\x1b'))))
     assert rows(out)[0]["caption"] == 'a, "b"\nc\\x1b'
+
+
+def test_captions_of_a_catalogue(called, folder):
+    """As of the pictures, which are gone. What is no picture is passed over."""
+    texts = [b"Ein Gef\xe4\xdf aus K\xf6ln. " * 30, b"Vase"]
+    for name, text in zip("ab", texts):
+        (folder / f"{name}.jpg").write_bytes(jpeg(with_record(data_set(120, text), data_set(25, b"clay"), data_set(25, b"blue"))))
+    (folder / "text").write_text("no picture")
+    assert called("index", ".", "--catalogue", "c", "--quiet")[0] in (0, 2)
+    printed = [called("captions", *words, str(folder / "a.jpg"), str(folder / "b.jpg"))[1] for words in ([], ["--csv"], ["--json"])]
+    for name in "ab":
+        (folder / f"{name}.jpg").unlink()
+    assert [called("captions", *words, "c")[1] for words in ([], ["--csv"], ["--json"])] == printed
+    assert called("conflicts", "c")[0] == 0

@@ -12,7 +12,7 @@ from made_files import app1, app1_xmp, jpeg, xmp
 from studio import TOP
 from test_captions import CREATOR, LONG_NAME, data_set, with_record, with_texts
 
-from exifnorm_pictures.report import contents, contradictions
+from exifnorm_pictures.report import contents
 
 LONG = "Ein Gefäß aus Köln, zerbrochen und geklebt. " * 20
 
@@ -84,20 +84,14 @@ def test_the_pictures_are_those_of_conflicts(reported):
     assert "1 more picture with differences of form alone" in section
 
 
-def test_files_that_are_not_read_are_counted(reported, monkeypatch):
-    """Long texts are read from the files, of so many pictures at most, and of none with --no-look."""
-    assert listed(reported.run("report", "--catalogue", "c", "--json", "--no-look")) == {
-        "different.jpg": ["creator"],
-        "two.jpg": ["creator", "copyright"],
-    }
-    assert "4 pictures not wholly compared" in reported("--no-look")
-    monkeypatch.setattr(contradictions, "MOST_FILES", 1)
-    assert "3 pictures not wholly compared" in reported()
-    Path("p/long.jpg").unlink()
-    Path("p/long and equal.jpg").write_bytes(PICTURES["cut"])
-    Path("p/latin.jpg").unlink()
-    monkeypatch.setattr(contradictions, "MOST_FILES", 1000)
-    assert "4 pictures not wholly compared" in reported()
+def test_files_are_not_needed(reported):
+    """The catalogue has the texts, long ones too, in any character set."""
+    expected = {"different.jpg": ["creator"], "two.jpg": ["creator", "copyright"], "long.jpg": ["caption"]}
+    assert listed(reported.run("report", "--catalogue", "c", "--json", "--no-look")) == expected
+    for name in PICTURES:
+        Path(f"p/{name}.jpg").unlink()
+    assert listed(reported.run("report", "--catalogue", "c", "--json")) == expected
+    assert "1 picture not wholly compared" in reported("--no-look")
 
 
 def test_the_list_of_a_page_is_bounded(reported, monkeypatch):

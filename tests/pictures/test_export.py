@@ -216,19 +216,12 @@ def test_no_table_is_read_whole(query, exported):
     assert [it for *_, it in asked(base, f"EXPLAIN QUERY PLAN {query}") if it.startswith("SCAN")] == []
 
 
-# Texts that a catalogue doesn't keep
+# Long texts
 
 
-def with_long_texts():
-    description = f"<dc:description><rdf:Alt><rdf:li xml:lang='x-default'>{LONG}</rdf:li></rdf:Alt></dc:description>"
-    return jpeg(with_texts(artist=b"Anna"), with_record(data_set(120, LONG.encode("latin-1"))), app1_xmp(xmp(description)))
-
-
-def test_long_texts_are_read_from_the_file(exported):
-    Path("a.jpg").write_bytes(with_long_texts())
-    base = exported("a.jpg")
-    assert asked(base, "SELECT standard, text FROM captions WHERE label = 'caption'") == [("IPTC", LONG.strip()), ("XMP", LONG.strip())]
-    assert asked(base, "SELECT * FROM conflicts") == []
+def with_long_texts(text=LONG):
+    description = f"<dc:description><rdf:Alt><rdf:li xml:lang='x-default'>{text}</rdf:li></rdf:Alt></dc:description>"
+    return jpeg(with_texts(artist=b"Anna"), with_record(data_set(120, text[:2000].encode("latin-1"))), app1_xmp(xmp(description)))
 
 
 def test_texts_of_a_sidecar_stay(exported):
@@ -239,19 +232,35 @@ def test_texts_of_a_sidecar_stay(exported):
     assert asked(base, query) == [("caption", None, LONG.strip()), ("title", "XMP sidecar", "Vase")]
 
 
-@pytest.mark.parametrize("afterwards", ["gone", "changed", "not looked at"])
-def test_long_texts_of_other_files_are_null(afterwards, run):
+@pytest.mark.parametrize("afterwards", ["there", "gone", "changed"])
+def test_long_texts_are_kept(afterwards, run):
+    """Whole, also in no declared character set, so the file isn't needed."""
     Path("a.jpg").write_bytes(with_long_texts())
     run("index", "a.jpg", "--catalogue", "c", "--quiet")
-    if afterwards != "not looked at":
+    if afterwards != "there":
         Path("a.jpg").unlink()
     if afterwards == "changed":
         Path("a.jpg").write_bytes(jpeg(with_record(data_set(120, b"Vase"))))
-    said = run("export", "c", "t", *["--no-look"] * (afterwards == "not looked at"))
+    assert "NULL" not in run("export", "c", "t")
     base = sqlite3.connect("t")
-    assert "1 picture has a text that is NULL" in said
-    assert asked(base, "SELECT standard, text FROM captions WHERE label = 'caption'") == [(None, None)]
-    assert asked(base, "SELECT text FROM captions WHERE label = 'creator'") == [("Anna",)]
+    assert asked(base, "SELECT standard, text FROM captions WHERE label = 'caption'") == [("IPTC", LONG.strip()), ("XMP", LONG.strip())]
+    assert asked(base, "SELECT value FROM fields WHERE name = 'IPTC:Caption-Abstract'") == [(LONG.strip(),)]
+    assert asked(base, "SELECT * FROM conflicts") == []
+
+
+def test_enormous_texts_are_null(run):
+    Path("a.jpg").write_bytes(with_long_texts("a" * 40_000 + " " + "b" * 20_000))
+    Path("b.xmp").write_bytes(
+        xmp("<dc:description><rdf:Alt><rdf:li xml:lang='x-default'>" + "a" * 70_000 + "</rdf:li></rdf:Alt></dc:description>")
+    )
+    run("index", ".", "--catalogue", "c", "--quiet")
+    assert "1 picture has a text that is NULL: it is too long for the catalogue" in run("export", "c", "t")
+    base = sqlite3.connect("t")
+    assert sorted(asked(base, "SELECT standard, length(text) FROM captions WHERE label = 'caption'"), key=str) == [
+        ("IPTC", 2000),
+        ("XMP", 60_001),
+        (None, None),
+    ]
 
 
 @pytest.mark.parametrize("left, rows, said", [(2, 2, ""), (1, 0, "1 group is left out, because its files are gone")])
@@ -336,11 +345,11 @@ def test_some_pictures(exported, run, folder):
 
 
 def test_texts_of_a_damaged_catalogue(exported, run):
-    """Halves of characters, which no file can have."""
+    """Halves of characters, which XMP of a damaged catalogue may have."""
     Path("a.jpg").write_bytes(jpeg(app1(exif(b"abc"))))
     exported("a.jpg").close()
     with sqlite3.connect("c") as base:
-        base.execute("UPDATE blocks SET fields = CAST(? AS BLOB)", (r'[["main","013b","ASCII",4,"\"\ud800\""]]',))
+        base.execute("UPDATE blocks SET fields = CAST(? AS BLOB)", (r'[["xmp","dc:source","text",1,["\ud800"]]]',))
     base.close()
     run("export", "c", "t")
     assert asked(sqlite3.connect("t"), "SELECT value FROM fields") == [(r"\ud800",)]

@@ -10,12 +10,13 @@ import pytest
 from exifnorm_pictures.catalogue import records, store
 from exifnorm_pictures.cli import main
 from exifnorm_pictures.compare import changed, pairs
-from exifnorm_pictures.extract import exiftool, extraction, readers
-from exifnorm_pictures.fields import listing
+from exifnorm_pictures.extract import exiftool, extraction, judge, readers
+from exifnorm_pictures.fields import packing
+from exifnorm_pictures.fields.listing import exact
 from exifnorm_pictures.catalogue.records import Block, Damaged
 from exifnorm_pictures.catalogue.store import Catalogue, NoCatalogue
 from exifnorm_pictures.extract.formats import png
-from exifnorm_pictures.extract.formats.found import NotRead
+from exifnorm_pictures.extract.formats.found import Blocks, NotRead
 from exifnorm_pictures.catalogue.records import PictureRecord, Stamp
 from made_files import jpeg, png as made_png
 from studio import run
@@ -149,6 +150,23 @@ def test_a_report_of_a_damaged_catalogue(command, values):
         b'[["main","010f","ASCII","4","a"]]',
         b'[["main","010f","ASCII",true,"a"]]',
         b'["abcde"]',
+        b'[["main","010f","ASCII",4,7]]',
+        b'[["main","010f","ASCII",4,["0"]]]',
+        b'[["main","010f","ASCII",4,["ab",7]]]',
+        b'[["main","010f","ASCII",4,"\\ud800"]]',
+        b'[["main","0112","SHORT",1,"6"]]',
+        b'[["main","0112","SHORT",1,[true]]]',
+        b'[["main","0112","SHORT",1,[1e3]]]',
+        b'[["main","0112","OTHER",1,[1]]]',
+        b'[["main","0112","LONG",1,99999999999999999999999]]',
+        b'[["main","0112","FLOAT",1,-1]]',
+        b'[["main","0112","RATIONAL",1,[1,2,3]]]',
+        b'[["xmp","dc:title","text",1,"Vase"]]',
+        b'[["xmp","dc:title","text",1,[7]]]',
+        b'[["xmp","dc:title","text",1,[["a","b","c","d"]]]]',
+        b'[["xmp","dc:title","text",1,[{"Alt":["a"],"Bag":["b"]}]]]',
+        b'[["xmp","dc:title","text",1,[{"fields":[["a"]]}]]]',
+        b'[["xmp","dc:title","text",1,[{}]]]',
         pytest.param(b"[" * 100_000, id="100,000 brackets"),
         b"\0\x11",
         zlib.compress(b"7"),
@@ -159,7 +177,19 @@ def test_a_report_of_a_damaged_catalogue(command, values):
 )
 def test_fields_that_are_damaged(octets):
     with pytest.raises(Damaged):
-        listing.unpacked(octets)
+        packing.unpacked(octets)
+
+
+def test_fields_of_a_picture_have_a_limit(monkeypatch):
+    """Pages may share one long text, which a catalogue would keep for each."""
+    blocks = Blocks()
+    for number in range(5):
+        blocks.add("iim", b"\x1c\2\x78\0\x64" + bytes(range(32, 132)), f"page {number}")
+    (one,) = {it.kept for it in judge.judge_all(blocks, packs=True)}
+    monkeypatch.setattr(judge, "KEPT_BYTES", 2 * len(one))
+    kept = [packing.unpacked(it.kept) for it in judge.judge_all(blocks, packs=True)]
+    assert [it[0].where for it in kept] == ["iptc", "iptc", "", "", ""]
+    assert exact(kept[-1][0]).startswith("too many to be kept; sha256:") and kept[-1] == kept[-2]
 
 
 def test_keys_of_fields_that_are_damaged(tmp_path):

@@ -15,7 +15,8 @@ from exifnorm_pictures.cli import main
 from exifnorm_pictures.extract import exiftool, structure
 from exifnorm_pictures.extract.extraction import blocks_of
 from exifnorm_pictures.extract.judge import judge_all
-from exifnorm_pictures.fields.listing import MAKER_NOTE, Field, digest_but_note, text_of_fields
+from exifnorm_pictures.fields.listing import MAKER_NOTE, Field
+from exifnorm_pictures.fields.packing import packed
 from made_blocks import ASCII, LONG, SHORT as SHORT_, UNDEFINED, block, entry, table
 from made_files import app1, app1_xmp, exif, jpeg, page, tiff, title
 from studio import needs
@@ -528,7 +529,7 @@ FIELDS = st.builds(
     st.sampled_from(["010f", "927c", "a002"]),
     st.just("ASCII"),
     st.just(1),
-    st.sampled_from(['"', '"]', '["exif","927c",', "\\", ","]),
+    st.sampled_from([b'"', b'"]', b'["exif","927c",', b"\\", b","]),
 )
 
 
@@ -537,7 +538,7 @@ def test_digests_without_the_maker_note(one, other):
     """They are equal exactly if the other fields are."""
     one, other = (list({it[:2]: it for it in some}.values()) for some in (one, other))
     others = [[it for it in some if it[:2] != MAKER_NOTE] for some in (one, other)]
-    digests = [digest_but_note(text_of_fields(it), it) for it in (one, other)]
+    digests = [packed(it).but_note for it in (one, other)]
     assert [it is None for it in digests] == [len(some) == len(rest) for some, rest in zip((one, other), others)]
     if None not in digests and _place(one) == _place(other):
         assert (digests[0] == digests[1]) is (others[0] == others[1])

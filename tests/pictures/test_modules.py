@@ -289,7 +289,7 @@ class Listed(unittest.TestCase):
             ("iptc", "2:5"),
             ("exif", "9003"),
         ]
-        found = differing.differences([], [Field(where, key, "SHORT", 1, "1") for where, key in names])
+        found = differing.differences([], [Field(where, key, "SHORT", 1, (1,)) for where, key in names])
         self.assertEqual(
             [it.change_name for it in found],
             [
@@ -315,7 +315,7 @@ class Listed(unittest.TestCase):
             ("exif", "001b", False),
             ("gps", "001d", False),
         ):
-            self.assertEqual(listing.shown_value(where, key, text) == 'ascii "GPS"', is_one, (where, key))
+            self.assertEqual(listing.exact(Field(where, key, "UNDEFINED", 11, text)) == 'ascii "GPS"', is_one, (where, key))
 
     def test_a_next_offset_that_is_missing(self):
         whole = bytes.fromhex("4d4d002a00000008 0001 0112 0003 00000001 00060000 00000000")

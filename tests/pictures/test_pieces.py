@@ -8,9 +8,11 @@ import unittest
 from types import SimpleNamespace
 from unittest import mock
 
+from exact_fields import field
 from made_files import xmp as packet_of
 from studio import WithPictures, write
 
+import exifnorm
 from exifnorm_pictures import xmp
 from exifnorm_pictures.catalogue import records
 from exifnorm_pictures.cli import output
@@ -23,6 +25,10 @@ from exifnorm_pictures.extract.formats.found import Blocks, NotRead
 from exifnorm_pictures.catalogue.records import PictureRecord, Stamp
 from exifnorm_pictures.compare.verdicts import Side, Verdict
 from exifnorm_pictures.scan.walk import FoundFile
+
+
+def exact(where, key, octets, kind="UNDEFINED"):
+    return listing.exact(listing.Field(where, key, kind, len(octets), octets))
 
 
 def digits(octets, count=32):
@@ -53,14 +59,15 @@ class Shown(unittest.TestCase):
             (many[:32] + b"\0", f"0x{many[:8].hex()}.. sha256:{digits(many[:32] + bytes(1))}"),
             (chr(0x10000).encode() * 400, f'"{chr(0x10000) * 400}"'),
         ):
-            self.assertEqual(listing.shown_octets(octets), text, octets)
+            self.assertEqual(exact("exif", "9999", octets), text, octets)
 
     def test_numbers(self):
         for text in ("1", "1 " * 79 + "12"):
-            self.assertEqual(listing.shown_numbers(text), text)
+            self.assertEqual(listing.exact(field("main", "0102", "SHORT", len(text.split()), text)), text)
         text = "1 " * 79 + "123"
-        self.assertEqual(listing.shown_numbers(text), f"{'1 ' * 30}.. sha256:{digits(text.encode())}")
-        self.assertEqual(listing.shown_picture(b"abc"), f"sha256:{digits(b'abc')}")
+        found = listing.exact(field("main", "0102", "SHORT", 80, text))
+        self.assertEqual(found, f"{'1 ' * 30}.. sha256:{digits(text.encode())}")
+        self.assertEqual(exact("thumb", "jpeg", b"abc", "octets"), f"sha256:{digits(b'abc')}")
         self.assertEqual(listing.shortened(f"0x00.. sha256:{digits(b'abc')}"), f"0x00.. sha256:{digits(b'abc', 12)}")
         self.assertEqual(listing.shortened("sha256:0123456789ab"), "sha256:0123456789ab")
 
@@ -70,46 +77,42 @@ class Shown(unittest.TestCase):
             ("main", "9c9b", wide, 'utf-16 "a\u00fc"'),
             ("main", "9c9f", wide + b"\0\0", 'utf-16 "a\u00fc"'),
             ("main", "9c9c", b'a\0"\0\\\0\n\0', 'utf-16 "a\\"\\\\\\n"'),
-            ("exif", "9c9b", wide, listing.shown_octets(wide)),
-            ("main", "9ca0", wide, listing.shown_octets(wide)),
+            ("exif", "9c9b", wide, exact("exif", "9999", wide)),
+            ("main", "9ca0", wide, exact("exif", "9999", wide)),
             ("main", "9c9d", b"a\0b", "0x610062"),
             ("main", "9c9e", b"\0\0", "0x0000"),
             ("main", "9c9e", b"\1\0", "0x0100"),
             ("main", "9c9e", b"a\0" * 400, f'utf-16 "{"a" * 400}"'),
-            ("main", "9c9e", b"a\0" * 401, f"0x{'6100' * 4}.. sha256:{digits(b'aX'.replace(b'X', bytes(1)) * 401)}"),
+            ("main", "9c9e", b"a\0" * 40_000, f"0x{'6100' * 4}.. sha256:{digits(bytes([97, 0]) * 40_000)}"),
             ("exif", "9286", b"ASCII\0\0\0", 'ascii ""'),
             ("exif", "9286", b"ASCII\0\0\0a\0", "0x4153434949000000" "6100"),
             ("gps", "001b", b"ASCII\0\0\0a", 'ascii "a"'),
             ("exif", "9286", b"ASCII\0\0 a", "0x41534349490000" "2061"),
             ("exif", "9286", b"UNICODE\0a", "0x554e49434f444500" "61"),
         ):
-            self.assertEqual(listing.shown_value(where, key, octets), text, (where, key, octets))
+            self.assertEqual(exact(where, key, octets), text, (where, key, octets))
 
     def test_values_in_a_list_of_changes(self):
         """The values of a repeated field are one list; numbers have their type, and texts don't."""
 
-        def field(kind, count, text, where="xmp", key="dc:a"):
-            return listing.Field(where, key, kind, count, text)
+        def of_kind(kind, count, text):
+            return field("xmp" if kind in ("text", "URI", "Bag", "structure") else "main", "dc:a", kind, count, text)
 
         for fields, text in (
-            ([field("ASCII", 2, '"a"')], '"a"'),
-            ([field("octets", 1, '"a"'), field("octets", 1, '"b"')], '"a", "b"'),
-            ([field("text", 1, '"a"')], '"a"'),
-            ([field("URI", 1, "<http://a/>")], "<http://a/>"),
-            ([field("SHORT", 2, "1 2")], "short[2] 1 2"),
-            ([field("Bag", 1, 'Bag["a"]')], 'bag[1] Bag["a"]'),
-            ([field("structure", 1, '{dc:a="1"}')], 'structure[1] {dc:a="1"}'),
-            ([field("UNDEFINED", 99, f"0x00.. sha256:{digits(b'abc')}")], f"undefined[99] 0x00.. sha256:{digits(b'abc', 12)}"),
+            ([of_kind("ASCII", 2, '"a"')], '"a"'),
+            ([of_kind("octets", 1, '"a"'), of_kind("octets", 1, '"b"')], '"a", "b"'),
+            ([of_kind("text", 1, '"a"')], '"a"'),
+            ([of_kind("URI", 1, "<http://a/>")], "<http://a/>"),
+            ([of_kind("SHORT", 2, "1 2")], "short[2] 1 2"),
+            ([of_kind("Bag", 1, 'Bag["a"]')], 'bag[1] Bag["a"]'),
+            ([of_kind("structure", 1, '{dc:a="1"}')], 'structure[1] {dc:a="1"}'),
+            ([of_kind("UNDEFINED", 99, f"0x00.. sha256:{digits(b'abc')}")], f"undefined[99] 0x00.. sha256:{digits(b'abc', 12)}"),
         ):
             self.assertEqual(differing.bare(fields), text)
             (came,), (went,) = differing.differences([], fields), differing.differences(fields, [])
-            self.assertEqual((came.name, came.before, list(came.after), came.sign), ("XMP-dc:a", (), fields, "+"))
-            self.assertEqual((went.name, list(went.before), went.after, went.sign), ("XMP-dc:a", fields, (), "-"))
+            self.assertEqual((came.before, list(came.after), came.sign), ((), fields, "+"))
+            self.assertEqual((list(went.before), went.after, went.sign), (fields, (), "-"))
             self.assertEqual(differing.differences(fields, fields), [])
-
-    def test_a_thumbnail(self):
-        self.assertEqual(listing.thumbnail("exif\n[thumb]\njpeg 2: ffd8\n"), b"\xff\xd8")
-        self.assertIsNone(listing.thumbnail("exif\n[thumb]\nstrip 2: ffd8\n"))
 
     def test_names_of_files(self):
         self.assertEqual(
@@ -127,7 +130,7 @@ class Shown(unittest.TestCase):
     def test_xmp(self):
         def shown(inside, attributes=""):
             found = xmp.statements(packet_of(inside, attributes), xmp.Extensions({}), set())
-            return [(it.key, it.type, it.elements, it.shown) for it in xmp.fields(found)]
+            return [(it.key, it.type, it.elements, listing.exact(it)) for it in xmp.fields(found)]
 
         lists = "".join(
             f"<dc:{name}><rdf:{kind}><rdf:li>b</rdf:li><rdf:li xml:lang='DE'>a</rdf:li></rdf:{kind}></dc:{name}>"
@@ -148,9 +151,12 @@ class Shown(unittest.TestCase):
             [("xmp:x", "URI", 1, "<http://a/>"), ("xmp:y", "structure", 2, '{dc:a="2\\"", dc:b="1"}'), ("xmp:z", "text", 1, '"\\n"')],
         )
         self.assertEqual(shown("<dc:a>2</dc:a><dc:a>1</dc:a><dc:a>1</dc:a>"), [("dc:a", "text", 2, '"2", "1"')], "in their order")
-        self.assertEqual(shown("", "dc:a='" + "x" * 398 + "'")[0][3], f'"{"x" * 398}"')
-        long = "x" * 399
+        self.assertEqual(shown("", "dc:a='" + "x" * 65_534 + "'")[0][3], f'"{"x" * 65_534}"')
+        long = "x" * 65_535
         self.assertEqual(shown("", f"dc:a='{long}'")[0][3], f'"{long[:59]}.. sha256:' + digits(f'"0:0:{long}'.encode()))
+        history = "<dc:a rdf:parseType='Resource'>" + "".join(f"<dc:{it}>{it * 200}</dc:{it}>" for it in "ab") + "</dc:a>"
+        self.assertEqual(shown(history)[0][3][:60], '{dc:a="' + "a" * 53)
+        self.assertLess(len(shown(history)[0][3]), 120)
         eleven = "".join(f"<rdf:li>{number}</rdf:li>" for number in range(11))
         self.assertEqual(
             shown(f"<dc:a><rdf:Seq>{eleven}</rdf:Seq></dc:a>")[0][3], "Seq[" + ", ".join(f'"{number}"' for number in range(11)) + "]"
@@ -537,10 +543,10 @@ class Small(WithPictures):
         for number, octets in enumerate(files):
             names.append(os.fsencode(self.path(f"{number}")))
             write(self.path(f"{number}"), octets)
-        listings = {b"MM": f"exif\n[thumb]\njpeg 3: {(embedded or b'').hex()}\n"}
+        fields = {b"MM": [exifnorm.Field("thumb", 0x0201, "JPEG", embedded or b"")]}
         blocks = Blocks()
         blocks.add("exif", b"MM", "")
-        with mock.patch.object(thumbnails.judge, "listing", listings.__getitem__), mock.patch.object(
+        with mock.patch.object(thumbnails.exifnorm, "fields", fields.__getitem__), mock.patch.object(
             thumbnails.extraction, "blocks_of", lambda _: blocks if embedded else Blocks()
         ):
             found = thumbnails.small_pictures([*names, names[0]])
@@ -569,5 +575,5 @@ class Small(WithPictures):
             with mock.patch.object(thumbnails.extraction, "blocks_of", mock.Mock(side_effect=why)):
                 self.assertEqual(thumbnails.small_pictures([b"/no such picture"]), {})
         for why in (thumbnails.exifnorm.Refused("Overlap", 1), thumbnails.exifnorm.NormalTooLong(), MemoryError()):
-            with mock.patch.object(thumbnails.judge, "listing", mock.Mock(side_effect=why)):
+            with mock.patch.object(thumbnails.exifnorm, "fields", mock.Mock(side_effect=why)):
                 self.assertIsNone(thumbnails._embedded(b"MM"))

@@ -6,16 +6,16 @@ import subprocess
 from xml.etree import ElementTree
 
 import pytest
+from exact_fields import field
 from studio import SMALL_JPEG, needs, tool
 
-from exifnorm_pictures.fields.listing import Field
 from exifnorm_pictures.fields.names import _EXIF, _GPS, _IIM, _INTEROP, _TIFF
 from exifnorm_pictures.fields.plain_names import group_name, plain_name
 from exifnorm_pictures.fields.plain_values import plain
 
 
 def shown(where, key, kind, value):
-    return plain(Field(where, key, kind, 1, value))
+    return plain(field(where, key, kind, 1, value))
 
 
 # Names
@@ -242,4 +242,4 @@ def test_no_value_is_an_error(tag):
         ("ASCII", ""),
         ("RATIONAL", ""),
     ):
-        assert isinstance(plain(Field(*key, kind, 1, value)), str)
+        assert isinstance(plain(field(*key, kind, 1, value)), str)

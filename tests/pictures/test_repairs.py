@@ -10,6 +10,7 @@ import pytest
 from exifnorm_pictures.cli import main
 from exifnorm_pictures.extract.formats.found import EXIF, FoundBlock
 from exifnorm_pictures.fields import normal_form
+from exifnorm_pictures.fields.listing import exact
 from exifnorm_pictures.refusals import mend, repaired_file, repairs, steps
 from made_blocks import ASCII, BLOCKS, LONG, MAKE, SHORT, entry, table
 from made_files import app1, chunk, exif, jpeg, page, png, tiff, webp
@@ -97,7 +98,7 @@ def values_of(folder, blocks):
 
 
 def fields_of(made):
-    return [(it.where, it.key, it.shown) for it in normal_form.fields(made.form)]
+    return [(it.where, it.key, exact(it)) for it in normal_form.fields(made.form)]
 
 
 def lossless(block):

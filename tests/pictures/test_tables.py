@@ -23,7 +23,9 @@ from exifnorm_pictures.catalogue import store
 from exifnorm_pictures.catalogue.store import VERSION, Catalogue, NoCatalogue
 from exifnorm_pictures.extract.formats.found import EXIF, IPTC, NAMES, XMP, NotRead
 from exifnorm_pictures.catalogue.records import Block, Digests, PictureRecord, Stamp
-from exifnorm_pictures.fields.listing import Field, packed
+from exifnorm_pictures.fields import normal_form
+from exifnorm_pictures.fields.listing import Field, numbers_text
+from exifnorm_pictures.fields.packing import packed
 
 BASE = {EXIF: "e", IPTC: "i", XMP: "x"}
 KNOWN, OTHER, UNKNOWN = NotRead("trailer", "1" * 64), NotRead("trailer", "2" * 64), NotRead("trailer", "")
@@ -35,7 +37,7 @@ def digest(text):
 
 def block_of(kind, text):
     """A block that means a text; one that begins with ! is refused, and its bytes are the text."""
-    fields = packed([Field("main", "010f", "ASCII", len(text), f'"{text}"')])
+    fields = packed([Field("main", "010f", "ASCII", len(text), text.encode())]).octets
     if text.startswith("!"):
         return Block(kind, NAMES[kind], "somewhere", "own", "refused", None, text[1:], 7, 100, digest(text))
     return Block(kind, NAMES[kind], "somewhere", "own", "accepted", digest(text), None, None, 100, digest(text), kept=fields)
@@ -310,15 +312,15 @@ class Tables(WithPictures):
 
 def with_fields(kind, name, text, fields, by="own"):
     """An accepted block with these fields, by this program."""
-    return block_of(kind, text)._replace(name=name, extractor=by, kept=packed(fields))
+    return block_of(kind, text)._replace(name=name, extractor=by, kept=packed(fields).octets)
 
 
 def make(text):
-    return Field("main", "010f", "ASCII", 4, f'"{text}"')
+    return Field("main", "010f", "ASCII", len(text), text.encode())
 
 
 def note(text):
-    return Field("exif", "927c", "UNDEFINED", 4, text)
+    return Field("exif", "927c", "UNDEFINED", len(text), text.encode())
 
 
 class Details(WithPictures):
@@ -364,7 +366,7 @@ class Details(WithPictures):
             (
                 "different",
                 "Exif is different, no IPTC and no XMP",
-                [("second Exif: main:Make", '"b"', '"c"'), ("second Exif: exif:MakerNote", None, "undefined[4] 1")],
+                [("second Exif: main:Make", '"b"', '"c"'), ("second Exif: exif:MakerNote", None, 'undefined[1] "1"')],
                 ["different", "absent", "absent"],
             ),
         )
@@ -678,18 +680,38 @@ class Remedies(WithPictures):
 SMALL_NUMBERS = ((kinds.FLOAT, (0, 1, 0xFFFF)), (kinds.DOUBLE, (0, 1, 0xFFFFFFFF)), (kinds.SSHORT, (0, -1)), (kinds.LONG, (0,)))
 
 
+# A line of a listing: a directory, a field, a DataSet, or a picture of the thumbnail directory.
+_LINE = re.compile(r"^(?:\[(\w+)\]|([0-9a-f]{4}) (\w+) (\d+):(?: (.*))?|(\d+:\d+) (\d+):(?: (.*))?|(jpeg|strip) (\d+):(?: (.*))?)$", re.M)
+
+
+def _listed(listing):
+    """The fields of a listing of the engine, each with its value as it is there."""
+    found, where = [], "iptc"
+    for directory, key, kind, count, value, dataset, length, octets, picture, size, data in _LINE.findall(listing):
+        where = directory or where
+        if key:
+            found.append((where, key, kind, int(count), value))
+        elif not directory:
+            found.append(("iptc" if dataset else "thumb", dataset or picture, "octets", int(length or size), octets or data))
+    return found
+
+
+def _fields(form):
+    return [
+        (*it[:4], it.value.hex() if isinstance(it.value, bytes) else numbers_text(it.type, it.value)) for it in normal_form.fields(form)
+    ]
+
+
 class Forms(unittest.TestCase):
     def test_a_form_has_the_fields_of_its_listing(self):
         """Every kind of block that is accepted: each type in each directory, records, thumbnails and long values."""
-        from exifnorm_pictures.fields import listing, normal_form
-
         seen = set()
         for kind in kinds.small_kinds():
-            listed = listing.fields(kind.meaning.listing())
-            self.assertEqual(normal_form.fields(kind.meaning.normal()), listed, kind.name)
-            seen.update((it.where, it.type) for it in listed)
+            listed = _listed(kind.meaning.listing())
+            self.assertEqual(_fields(kind.meaning.normal()), listed, kind.name)
+            seen.update((where, type) for where, _, type, *_ in listed)
         small = kinds.Exif({tag: kinds.Value(kind, list(numbers)) for tag, (kind, numbers) in enumerate(SMALL_NUMBERS, 0x9500)})
-        self.assertEqual(normal_form.fields(small.normal()), listing.fields(small.listing()))
+        self.assertEqual(_fields(small.normal()), _listed(small.listing()))
         types = [it[0] for it in kinds.TYPES.values()]
         self.assertLessEqual({(where, it) for where in ("main", "exif", "interop", "gps", "thumb") for it in types}, seen)
 

@@ -93,7 +93,7 @@ class RowsOfCatalogues(WithPictures):
                 (it.result, [(one.change_name, bare(one.before), bare(one.after)) for one in it.changes])
                 for it in changed.changed(*sides, Counter())
             ]
-            self.assertEqual(found, [("different", [("main:Make", "abc", "xyz")])])
+            self.assertEqual(found, [("different", [("main:Make", '"abc"', '"xyz"')])])
             sides[side].base.execute(f"UPDATE blocks SET fields = {fields}")
             with self.assertRaises(NoCatalogue, msg=(side, fields[:40])) as raised:
                 list(changed.changed(*sides, Counter()))

@@ -8,7 +8,7 @@ import sys
 import unittest
 from xml.etree import ElementTree
 
-from exifnorm_pictures.xmp import CAUSES, by_rdflib, reader, shown, tree
+from exifnorm_pictures.xmp import CAUSES, by_rdflib, properties, reader, tree
 from exifnorm_pictures.xmp.packets import Unreadable, rdf_of
 from exifnorm_pictures.xmp.reading import check_repeated
 from hypothesis import assume, given, settings
@@ -238,20 +238,20 @@ class Packets(unittest.TestCase):
         other = fields(xmp("<dc:format>two</dc:format><dc:subject><rdf:Bag><rdf:li>a</rdf:li><rdf:li>b</rdf:li></rdf:Bag></dc:subject>"))
         found = [(it.change_name, bare(it.before), bare(it.after)) for it in differences(one, other)]
         self.assertEqual(found, [("xmp:dc:format", '"one"', '"two"')])
-        self.assertEqual(one[1][1:], ("dc:subject", "Bag", 2, 'Bag["a", "b"]'))
+        self.assertEqual((one[1][1:4], listing.exact(one[1])), (("dc:subject", "Bag", 2), 'Bag["a", "b"]'))
         lines = list(listing.readable(one, "xmp"))
         self.assertEqual([it.split() for it in lines[1:3]], [["[XMP]"], ["dc:format", "text", '"one"']])
-        long = [fields(title("x" * 1000 + it))[0].shown for it in "ab"]
+        long = [listing.exact(fields(title("x" * 100_000 + it))[0]) for it in "ab"]
         self.assertNotEqual(*long)
         self.assertLess(len(long[0]), 200)
-        control = fields(title("a&#10;b\u202e"))[0].shown
+        control = listing.exact(fields(title("a&#10;b\u202e"))[0])
         self.assertEqual(control, '"a\\nb\\u202e"')
-        quoted = fields(title('one", "two'))[0].shown
+        quoted = listing.exact(fields(title('one", "two'))[0])
         self.assertEqual(quoted, '"one\\", \\"two"')
         doubled = [fields(xmp(f"<dc:format>{one_}</dc:format><dc:format>{other_}</dc:format>")) for one_, other_ in ("ab", "ba")]
         self.assertNotEqual(doubled[0], doubled[1])  # XMP allows a property once; of several, readers take the first or the last
         words = [f"w{number}" for number in range(12)]
-        self.assertEqual(fields(array("Seq", *words))[0].shown, "Seq[" + ", ".join(f'"{it}"' for it in words) + "]")
+        self.assertEqual(listing.exact(fields(array("Seq", *words))[0]), "Seq[" + ", ".join(f'"{it}"' for it in words) + "]")
 
 
 class Harm(unittest.TestCase):
@@ -334,7 +334,7 @@ class BesideRdflib(unittest.TestCase):
             root = rdf_of(packet)
             found = call(root)
             check_repeated(found)  # of a property that is repeated with other values rdflib doesn't keep the order
-            return root, tree.digest_of(found), shown.fields(found)
+            return root, tree.digest_of(found), properties.fields(found)
         except Unreadable as why:
             return None, why.cause, []
         except reader.Unusual:

@@ -5,11 +5,29 @@ from __future__ import annotations
 import hashlib
 import itertools
 import os
-from typing import Any, Dict, Iterable, List, NamedTuple, Optional, Sequence, Set, Tuple, get_args, get_type_hints
+from typing import (
+    TYPE_CHECKING,
+    Any,
+    Dict,
+    Iterable,
+    List,
+    NamedTuple,
+    Optional,
+    Protocol,
+    Sequence,
+    Set,
+    Tuple,
+    Union,
+    get_args,
+    get_type_hints,
+)
 
 from ..compare.verdicts import ABSENT, ACCEPTED, REACHED, REFUSED, UNREADABLE, Side, joined, side_of
 from ..extract.formats.found import EXIF, EXIFTOOL, IPTC, PROGRAMS, XMP, Blocks, NotRead
 from ..refusals.steps import Step, loses, unpacked
+
+if TYPE_CHECKING:
+    from ..fields.listing import Field
 
 KINDS = (EXIF, IPTC, XMP)
 WORDS = {EXIF: "exif", IPTC: "iptc", XMP: "xmp"}  # the names for people and in the catalogue: archivists know IPTC, the engine IIM
@@ -22,6 +40,14 @@ NOT_THERE = ("Vanished", "Moved", "LinkToNothing", "NotAFile")  # the problems o
 
 class Damaged(Exception):
     """A catalogue has a value that nothing here writes: it is damaged. Only what reads the values of a catalogue raises this."""
+
+
+class HasFields(Protocol):
+    """The fields of a block that was judged just now: see `fields.made.Fields`."""
+
+    def all(self) -> "List[Field]":
+        """The fields, in the order of a listing."""
+        ...
 
 
 class Block(NamedTuple):
@@ -41,12 +67,17 @@ class Block(NamedTuple):
     repair: Optional[str] = None  # the steps after which a refused block is accepted, in the form of `steps.packed`
     repaired: Optional[str] = None  # SHA-256 of its meaning after them
     note: Optional[int] = None  # where its MakerNote begins
-    kept: Optional[bytes] = None  # its fields, made by `listing.packed`, if they were requested; of a refused block, those after repair
+    kept: Union[bytes, HasFields, None] = None  # its fields, packed for a catalogue or not; of a refused block, those after repair
     but_note: Optional[str] = None  # a digest of its fields without the MakerNote, if it has one; of a refused block, of those after repair
 
     def row(self) -> Tuple[Any, ...]:
         """The block as a row of the catalogue, with its fields."""
         return (WORDS[self.kind], *self[1:-1])
+
+    @property
+    def fields(self) -> "List[Field]":
+        """The fields of a block that was judged just now; none of one that a catalogue has."""
+        return self.kept.all() if self.kept is not None and not isinstance(self.kept, bytes) else []
 
     @property
     def steps(self) -> Tuple[Step, ...]:

@@ -1,49 +1,31 @@
-"""The texts of a picture of a catalogue by label. A text that the catalogue doesn't keep is read from the file, if that is as it was."""
+"""The texts of a picture of a catalogue by label."""
 
 from __future__ import annotations
 
-import os
 from typing import List, NamedTuple, Sequence, Set, Tuple
 
-from ..cli.labelled import labelled
-from ..extract import sidecars
 from ..extract.formats.found import NAMES
-from ..fields.kept_labels import of_kept
-from ..fields.labels import STANDARDS, WORDS, LabelText, with_own
+from ..fields.labels import STANDARDS, WORDS, LabelText, camera_of, not_kept, of_block, with_own
 from ..fields.listing import Field
-from .records import Block, Picture, Stamp, is_marked_as
+from .records import Block
 
 
 class PictureTexts(NamedTuple):
-    """The texts of a picture, and the labels of which a text is neither kept nor read."""
+    """The texts of a picture, and the labels of which a text is too long to be kept."""
 
     texts: List[LabelText]
     missing: Set[str]
 
 
-def texts_of(picture: Picture, blocks: Sequence[Tuple[Block, List[Field]]], look: bool, wanted: Sequence[str] = WORDS) -> PictureTexts:
-    """The texts of a picture by its blocks, each with its fields. With `look` the file is read if a text of a wanted label isn't kept.
-
-    Those of sidecars are the kept ones.
-    """
-    inside, beside = PictureTexts([], set()), PictureTexts([], set())
+def texts_of(blocks: Sequence[Tuple[Block, List[Field]]], wanted: Sequence[str] = WORDS) -> PictureTexts:
+    """The texts of a picture by its blocks, each with its fields."""
+    found: List[LabelText] = []
+    missing: Set[str] = set()
     camera = ("", "")
     for block, fields in blocks:
-        kept = of_kept(fields)
-        camera = camera if any(camera) else kept.camera
+        camera = camera if any(camera) else camera_of(fields)
         part = "" if block.name == NAMES[block.kind] else block.name
-        into = beside if sidecars.NAME in block.name else inside
-        into.texts.extend(it._replace(block=part) for it in kept.texts)
-        into.missing.update(kept.missing & set(wanted))
-    if inside.missing and look and _is_unchanged(picture):
-        it = labelled(picture.path)
-        inside = inside if it.problem else PictureTexts(it.texts, set())
-    found = sorted([*inside.texts, *beside.texts], key=lambda it: STANDARDS.index(it.standard))
-    return PictureTexts(with_own(found, *camera), inside.missing | beside.missing)
-
-
-def _is_unchanged(it: Picture) -> bool:
-    try:
-        return is_marked_as(Stamp.of(os.stat(it.path)), it.marks)
-    except (OSError, ValueError):  # a name that has a NUL
-        return False
+        left = not_kept(fields)
+        found += [it._replace(block=part) for it in of_block(fields) if it.label not in left]
+        missing |= left & set(wanted)
+    return PictureTexts(with_own(sorted(found, key=lambda it: STANDARDS.index(it.standard)), *camera), missing)

@@ -8,10 +8,12 @@ from typing import Iterator, List
 
 from ..compare.conflicts import ALIKE, best, conflicts, own_texts
 from ..extract.formats.found import each_kind
+from ..extract.reading import Reading
 from ..fields.labels import WORDS, LabelText
 from .columns import width
 from .exit_codes import SUCCESS
-from .labelled import Labelled, origins, pictures, together
+from .each_block import status_of
+from .labelled import is_of_many, members, not_read, origins, pictures, refused, together
 from .objects import print_object
 from .output import Members, escaped, print_line, shown_path
 from .tables import Cell, Table
@@ -24,9 +26,9 @@ def run(arguments: argparse.Namespace) -> int:
     """Lists captions of Exif, IPTC and XMP."""
     worst = SUCCESS
     table = Table(["picture", *WORDS, "camera's text", "contradicts itself", "not read"]) if arguments.csv else None
-    has_heads = len(arguments.pictures) != 1 or bool(arguments.files_from) or os.path.isdir(arguments.pictures[0])
+    has_heads = len(arguments.pictures) != 1 or bool(arguments.files_from) or is_of_many(os.fsencode(arguments.pictures[0]))
     for it in pictures(arguments):
-        worst = max(worst, it.status)
+        worst = max(worst, status_of(it))
         if table:
             table.row(*_row(it))
         elif arguments.json:
@@ -37,20 +39,20 @@ def run(arguments: argparse.Namespace) -> int:
     return worst
 
 
-def _row(it: Labelled) -> List[Cell]:
+def _row(it: Reading) -> List[Cell]:
     """A row of a table: the text of each label, of several standards one that is whole, and no camera's."""
     known = conflicts(it.texts)
     texts = [best([one for one in it.texts if one.label == word], known) for word in WORDS]
     problem = [f"{it.problem}: {it.detail}"] if it.problem else []
-    unread = "; ".join([*problem, *it.refused, *each_kind(it.not_read)])
+    unread = "; ".join([*problem, *refused(it), *each_kind(not_read(it))])
     return [it.name, *texts, "; ".join(own_texts(it.texts)), "; ".join(one.label for one in known if one.is_real), unread]
 
 
-def _lines(it: Labelled) -> Iterator[str]:
+def _lines(it: Reading) -> Iterator[str]:
     if it.problem:
         yield f"{it.problem}: {it.detail}"
         return
-    yield from it.refused
+    yield from refused(it)
     known = {one.label: one for one in conflicts(it.texts)}
     for word in WORDS:
         conflict = known.get(word)
@@ -59,20 +61,20 @@ def _lines(it: Labelled) -> Iterator[str]:
             is_compared = not all(one.is_extra or one.block for one in ours)
             note = f"   <- {_OWN}" if any(one.is_own for one in ours) else mark if is_compared else ""
             yield f"{_padded(word)} {escaped(ours[0].line)}   [{origins(ours)}]{note}"
-    if not it.has_blocks:
+    if not it.blocks:
         yield "no Exif, IPTC or XMP block"
-    elif not it.refused and all(one.is_empty for one in it.texts):
+    elif not refused(it) and all(one.is_empty for one in it.texts):
         yield "no title, caption, name, keyword or rights"
-    if it.not_read:
-        yield f"not wholly read: {', '.join(each_kind(it.not_read))}"
+    if not_read(it):
+        yield f"not wholly read: {', '.join(each_kind(not_read(it)))}"
 
 
 def _padded(word: str) -> str:
     return f"{word}:" + " " * (_WIDTH - width(word) - 1)
 
 
-def _members(it: Labelled) -> Members:
-    return {**it.members(), "captions": [text_members(one) for one in it.texts if not one.is_empty]}
+def _members(it: Reading) -> Members:
+    return {**members(it), "captions": [text_members(one) for one in it.texts if not one.is_empty]}
 
 
 def text_members(it: LabelText) -> Members:

@@ -8,7 +8,8 @@ from typing import Iterable, Iterator, Sequence, Tuple
 from ..catalogue.store import Catalogue
 from ..extract.formats.found import NAMES
 from ..fields.choosing import Choice, UnknownField, hint
-from ..fields.listing import Field, unpacked
+from ..fields.listing import Field
+from ..fields.packing import unpacked
 from . import signals
 from .output import escaped, reason
 

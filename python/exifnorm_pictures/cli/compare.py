@@ -15,7 +15,6 @@ from ..compare.two_pictures import Comparison, Row, compare, read, with_position
 from ..compare.wording import NONE, tag_of
 from ..extract import exiftool, programs
 from ..fields.choosing import Choice
-from ..fields.listing import unpacked
 from ..fields.typed import together
 from ..files import tempdir
 from ..scan.batches import How
@@ -39,7 +38,7 @@ def run(arguments: argparse.Namespace) -> int:
             how = How(1, whole=arguments.whole, pixels=True, seconds=arguments.limit, room=room)
             one, other = (read(os.fsencode(it), how) for it in (arguments.before, arguments.after))
             choice = _choice(arguments, one, other)
-            found = compare(one, other, arguments.exact, not arguments.no_exiftool, arguments.whole, choice)
+            found = compare(one, other, arguments.exact, not arguments.no_exiftool, choice)
         finally:
             exiftool.finish()
     rows = found.rows if arguments.exact else with_position(found.rows, one, other)
@@ -59,9 +58,8 @@ def run(arguments: argparse.Namespace) -> int:
 def _choice(arguments: argparse.Namespace, *records: PictureRecord) -> Choice:
     """The fields that count. Raises `UnknownField` for a name that is no field's, and that neither picture has."""
     choice = choice_of(arguments)
-    listings = [(other_name(it.name), unpacked(it.kept)) for one in records for it in one.blocks if it.kept]
-    for block, fields in listings if choice else ():
-        choice.see(fields, block)
+    for block in (block for record in records for block in record.blocks) if choice else ():
+        choice.see(block.fields, other_name(block.name))
     refuse_unknown(choice, ())
     return choice
 

@@ -9,11 +9,12 @@ from typing import Dict, Iterator, List, Sequence, Set
 
 from ..compare.conflicts import ALIKE, CAMERA, CHARACTERS, CUT, EMPTY, JOINED, ORDER, Conflict, conflicts
 from ..extract.formats.found import damage
+from ..extract.reading import Reading
 from ..fields.choosing import UnknownField
 from ..fields.labels import LABELS, STANDARDS, label_of
 from .captions import text_members
 from .exit_codes import DIFFERENCE, SUCCESS, UNKNOWN
-from .labelled import Labelled, origins, pictures, together
+from .labelled import members, origins, pictures, refused, together
 from .objects import print_object
 from .output import Members, escaped, print_line, shown_path
 from .tables import Cell, Table
@@ -55,7 +56,7 @@ def run(arguments: argparse.Namespace) -> int:
         if table:
             _print_rows(table, it, [one for one in found if one.is_real or arguments.all])
         elif arguments.json:
-            if found or it.status != SUCCESS:
+            if found or it.is_damaged:
                 print_object("conflicts", "picture", _members(it, found))
         else:
             _print(it, [one for one in found if one.is_real or arguments.all])
@@ -79,9 +80,9 @@ def _chosen(arguments: argparse.Namespace) -> Set[str]:
     return only - {given[it] for it in arguments.ignore}
 
 
-def _count(counts: _Counts, it: Labelled, found: Sequence[Conflict]) -> None:
+def _count(counts: _Counts, it: Reading, found: Sequence[Conflict]) -> None:
     counts.pictures += not it.problem
-    counts.unread += it.status != SUCCESS
+    counts.unread += it.is_damaged
     counts.twice += bool(conflicts(it.texts))
     real = [one.label for one in found if one.is_real]
     counts.real += bool(real)
@@ -90,13 +91,13 @@ def _count(counts: _Counts, it: Labelled, found: Sequence[Conflict]) -> None:
     counts.kinds.update({one.kind for one in found if not one.is_real})
 
 
-def _print_rows(table: Table, it: Labelled, found: Sequence[Conflict]) -> None:
+def _print_rows(table: Table, it: Reading, found: Sequence[Conflict]) -> None:
     """A row for each label; one for what was not read, since a picture without a row would seem to have no contradiction."""
     for one in found:
         table.row(it.name, one.label, one.kind, one.detail, *_texts(one))
     if it.problem:
         table.row(it.name, None, "not read", f"{it.problem}: {it.detail}", *(None for _ in STANDARDS))
-    for what in (*it.refused, *damage(it.not_read)):
+    for what in (*refused(it), *damage(it.not_read)):
         table.row(it.name, None, "not read", what, *(None for _ in STANDARDS))
 
 
@@ -108,11 +109,11 @@ def _texts(it: Conflict) -> List[Cell]:
     return ["; ".join(texts.get(standard, [])) for standard in STANDARDS]
 
 
-def _members(it: Labelled, found: Sequence[Conflict]) -> Members:
+def _members(it: Reading, found: Sequence[Conflict]) -> Members:
     rows = [
         {"label": one.label, "kind": one.kind, "detail": one.detail, "texts": [text_members(text) for text in one.texts]} for one in found
     ]
-    return {**it.members(), "conflicts": rows}
+    return {**members(it), "conflicts": rows}
 
 
 def _summary_members(it: _Counts) -> Members:
@@ -131,7 +132,7 @@ def _summary_members(it: _Counts) -> Members:
 # Lines
 
 
-def _print(it: Labelled, found: Sequence[Conflict]) -> None:
+def _print(it: Reading, found: Sequence[Conflict]) -> None:
     if found:
         print(shown_path(it.name))
     for one in found:

@@ -3,16 +3,15 @@
 from __future__ import annotations
 
 import argparse
-from typing import Callable, Iterator, List, NamedTuple, Tuple
+from typing import Callable, Iterator, List, Tuple
 
 from exifnorm import LIMIT, LibraryMissing
 
 from ..catalogue.records import WORDS, Block
 from ..compare.verdicts import ACCEPTED
 from ..extract import exiftool, extraction, programs
-from ..extract.budgets import TooMuch
-from ..extract.formats.found import EXIF, IPTC, NAMES, Blocks, FoundBlock, damage, each_kind
-from ..extract.judge import judge_all
+from ..extract.formats.found import EXIF, IPTC, NAMES, Blocks, FoundBlock, each_kind
+from ..extract.reading import Reading
 from ..files import opening, tempdir
 from .exit_codes import SUCCESS, UNKNOWN
 from .names import named
@@ -46,38 +45,21 @@ def blocks_of(name: bytes, whole: bool = False, is_block: bool = False) -> Block
     return Blocks([FoundBlock(kind, octets, NAMES[kind], "the file")])
 
 
-class Judged(NamedTuple):
-    """A picture with its judged blocks, each with its fields; none if the picture has a problem."""
-
-    name: bytes
-    read: Blocks
-    blocks: List[Block]
-
-    @property
-    def status(self) -> int:
-        """The status of a command that prints its blocks."""
-        is_damaged = damage(it.what for it in self.read.not_read)
-        return UNKNOWN if self.read.problem or is_damaged or any(it.status != ACCEPTED for it in self.blocks) else SUCCESS
+def status_of(it: Reading) -> int:
+    """The status of a command that prints the blocks or texts of a picture."""
+    return UNKNOWN if it.is_damaged else SUCCESS
 
 
-def each_picture(arguments: argparse.Namespace) -> Iterator[Judged]:
+def each_picture(arguments: argparse.Namespace) -> Iterator[Reading]:
     """The pictures that are named."""
     names = dict.fromkeys(named(arguments, arguments.pictures))
     programs.set_limit(arguments.limit)
     with tempdir.room() as room:
         exiftool.begin(room)
         try:
-            yield from (_judged(arguments, it) for it in names)
+            yield from (Reading.of(it, blocks_of(it, arguments.whole, arguments.block)) for it in names)
         finally:
             exiftool.finish()
-
-
-def _judged(arguments: argparse.Namespace, name: bytes) -> Judged:
-    blocks = blocks_of(name, arguments.whole, arguments.block)
-    try:
-        return Judged(name, blocks, [] if blocks.problem else judge_all(blocks, with_fields=True))
-    except TooMuch as why:
-        return Judged(name, extraction.too_much(why), [])
 
 
 def each_block(arguments: argparse.Namespace, describe: Describe, refused_too: bool = False) -> int:
@@ -85,12 +67,12 @@ def each_block(arguments: argparse.Namespace, describe: Describe, refused_too: b
     worst = SUCCESS
     has_heads = len(set(named(arguments, arguments.pictures))) > 1
     for it in each_picture(arguments):
-        worst = max(worst, it.status)
+        worst = max(worst, status_of(it))
         _print(arguments, it, [f"== {shown_path(it.name)}"] if has_heads else [], describe, refused_too)
     return worst
 
 
-def _print(arguments: argparse.Namespace, it: Judged, head: List[str], describe: Describe, refused_too: bool) -> None:
+def _print(arguments: argparse.Namespace, it: Reading, head: List[str], describe: Describe, refused_too: bool) -> None:
     names, read = path_members(it.name), it.read
     if read.problem:
         output(arguments, [*head, f"{read.problem}: {read.detail}"], {**names, "problem": read.problem, "detail": read.detail})

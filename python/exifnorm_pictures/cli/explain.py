@@ -8,7 +8,6 @@ from typing import List
 from ..catalogue.records import Block
 from ..compare.verdicts import ACCEPTED, REFUSED
 from ..extract.formats.found import EXIF, XMP, FoundBlock
-from ..fields.listing import unpacked
 from ..refusals import explain, steps
 from .each_block import Described, each_block, with_kind
 from .output import block_members
@@ -32,7 +31,7 @@ def _repair(it: Block) -> List[str]:
     """The repair in memory of a refused Exif block, and what it loses."""
     if not it.repair:
         return ["  Repair in memory: none is known"] if it.status == REFUSED and it.kind == EXIF else []
-    fields = len(unpacked(it.kept or b"[]"))
+    fields = len(it.fields)
     lines = [f"  Repair in memory: {steps.words(it.steps)}; then {fields} fields are read, see show"]
     lost = steps.loses(it.steps)
     return lines + [f"  That repair loses {' and '.join(lost)}: by it, nothing is called the same"] * bool(lost)

@@ -45,7 +45,7 @@ def run(arguments: argparse.Namespace) -> int:
         print_line(f"{shown_path(arguments.file)}: {', '.join(f'{count:,} rows of {name}' for name, count in counts.items())}")
         if work.missing:
             which = "picture has" if work.missing == 1 else "pictures have"
-            why = "too long for the catalogue, and the file is gone, has changed or wasn't looked at"
+            why = "too long for the catalogue"
             print_line(f"{work.missing:,} {which} a text that is NULL: it is {why}")
         if work.fewest.absent:
             which = "group is left out, because its" if work.fewest.absent == 1 else "groups are left out, because their"

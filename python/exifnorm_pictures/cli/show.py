@@ -3,19 +3,19 @@
 from __future__ import annotations
 
 import argparse
-from typing import Iterator, List, Optional, Tuple
+from typing import Iterator, List
 
 from ..catalogue.records import Block
 from ..compare.verdicts import ACCEPTED
 from ..extract.formats.found import PROGRAMS, each_kind
-from ..fields.listing import Field, readable, unpacked
+from ..extract.reading import Reading
+from ..fields.listing import Field, exact, readable
 from ..fields.plain_names import exact_key, group_name
 from ..fields.plain_values import plain
 from ..fields.typed import typed
 from ..refusals import steps
-from ..refusals.octets import Octets, octets_of
 from .columns import LONGEST_NAME, width
-from .each_block import Described, Judged, each_block, each_picture
+from .each_block import Described, each_block, each_picture, status_of
 from .exit_codes import SUCCESS
 from .objects import block_object, picture_object, print_object
 from .output import Members, escaped
@@ -29,7 +29,7 @@ def run(arguments: argparse.Namespace) -> int:
     worst = SUCCESS
     table = Table(["picture", "block", "field", "key", "type", "count", "value", "exact value", "note"]) if arguments.csv else None
     for it in each_picture(arguments):
-        worst = max(worst, it.status)
+        worst = max(worst, status_of(it))
         if table:
             _print_rows(table, it)
         else:
@@ -37,30 +37,13 @@ def run(arguments: argparse.Namespace) -> int:
     return worst
 
 
-def _fields(it: Block) -> List[Field]:
-    return unpacked(it.kept) if it.kept else []
-
-
-def _with_octets(picture: Judged, it: Block) -> Iterator[Tuple[Field, Optional[bytes]]]:
-    """The fields of a block, each with its bytes if it has bytes and is only kept by a digest."""
-    fields = _fields(it)
-    known: Octets = {}
-    if any("sha256:" in one.shown for one in fields):
-        known = octets_of(it.kind, next(one.data for one in picture.read.found if one.name == it.name))
-    for one in fields:
-        same = known.get((one.where, one.key), [])
-        octets = same.pop(0) if same else None
-        yield one, octets if "sha256:" in one.shown else None
-
-
 # Lines
 
 
-def _described(it: Block, exact: bool) -> Described:
+def _described(it: Block, is_exact: bool) -> Described:
     """The lines of a block."""
     by = f", extracted by {PROGRAMS[it.extractor]}" if it.extractor in PROGRAMS else ""
-    fields = _fields(it)
-    lines = list(readable(fields, it.name + by)) if exact else [f"{it.name}{by}:", *_plain_lines(fields)]
+    lines = list(readable(it.fields, it.name + by)) if is_exact else [f"{it.name}{by}:", *_plain_lines(it.fields)]
     return (lines if it.status == ACCEPTED else [*_repaired(it), *lines[1:]]), {}
 
 
@@ -82,15 +65,15 @@ def _repaired(it: Block) -> List[str]:
 # --csv
 
 
-def _print_rows(table: Table, it: Judged) -> None:
+def _print_rows(table: Table, it: Reading) -> None:
     """A row for each field, and one for all that isn't one: a refused block, a part that was not read, a picture without a block."""
     for block in it.blocks:
         note = "read after repair in memory" if block.repair else None
         if block.status != ACCEPTED:
             table.row(it.name, block.name, *_NO_FIELD, block.line + (f"; repaired in memory: {steps.words(block.steps)}" if note else ""))
-        for one, octets in _with_octets(it, block):
+        for one in block.fields:
             name = (group_name(one.where, one.key), exact_key(one.where, one.key))
-            values = (*name, one.type, one.elements, plain(one, octets), one.shown)
+            values = (*name, one.type, one.elements, plain(one), exact(one))
             table.row(it.name, block.name, *values, note)
     for text in _notes(it):
         table.row(it.name, None, *_NO_FIELD, text)
@@ -99,32 +82,31 @@ def _print_rows(table: Table, it: Judged) -> None:
 _NO_FIELD = (None,) * 6
 
 
-def _notes(it: Judged) -> Iterator[str]:
+def _notes(it: Reading) -> Iterator[str]:
     """What a picture has instead of fields, and what was not read of it."""
-    if it.read.problem:
-        yield f"{it.read.problem}: {it.read.detail}"
+    if it.problem:
+        yield f"{it.problem}: {it.detail}"
     elif not it.read.found:
         yield "no Exif, IPTC or XMP block"
-    yield from (f"not read: {what}" for what in each_kind(part.what for part in it.read.not_read))
+    yield from (f"not read: {what}" for what in each_kind(it.not_read))
 
 
 # --json
 
 
-def _members(it: Judged) -> Members:
-    blocks = [{**block_object(one), **_block_members(it, one)} for one in it.blocks]
-    about = {**picture_object(it.name, it.read.problem, it.read.detail), "type": it.read.type or None}
-    return {**about, "blocks": blocks, "not_read": [part.what for part in it.read.not_read]}
+def _members(it: Reading) -> Members:
+    blocks = [{**block_object(one), **_block_members(one)} for one in it.blocks]
+    about = {**picture_object(it.name, it.problem, it.detail), "type": it.read.type or None}
+    return {**about, "blocks": blocks, "not_read": it.not_read}
 
 
-def _block_members(picture: Judged, it: Block) -> Members:
+def _block_members(it: Block) -> Members:
     repair = [step._asdict() for step in it.steps]
-    fields = [_field_members(*one) for one in _with_octets(picture, it)]
-    return {"extractor": it.extractor, "repair": repair, "fields": fields}
+    return {"extractor": it.extractor, "repair": repair, "fields": list(map(_field_members, it.fields))}
 
 
-def _field_members(it: Field, octets: Optional[bytes]) -> Members:
+def _field_members(it: Field) -> Members:
     """A field: its name for people, what identifies it, and its value for people, exactly and for programs."""
     name = {"name": group_name(it.where, it.key), "directory": it.where, "key": exact_key(it.where, it.key)}
-    values = {"type": it.type, "count": it.elements, "plain": plain(it, octets), "exact": it.shown, "value": typed(it, octets)}
+    values = {"type": it.type, "count": it.elements, "plain": plain(it), "exact": exact(it), "value": typed(it)}
     return {**name, **values}

@@ -187,7 +187,7 @@ def _compared(pair: Pair, pairs: Sides, ask: bool, choice: Choice) -> Compared:
     looked_at = any(one.result in (DIFFERENT, REFUSED, UNREADABLE, SAME_REPAIRED, DIFFERENT_REPAIRED) for one in found)
     if looked_at or not one.extractor == other.extractor == OWN:
         blocks = [pairs.blocks(BEFORE, one), pairs.blocks(AFTER, other)]
-        it.note += _extracted(block for side in blocks for block, _ in side)
+        it.note += _extracted(block for side in blocks for block in side)
         if looked_at:
             _add_details(it, blocks, pairs, parts, choice)
     if not choice.leaves_out_maker_notes:
@@ -295,22 +295,19 @@ def _extracted(blocks: Iterable[Block]) -> str:
     return "".join(f"; extracted by {PROGRAMS[it]}" for it in PROGRAMS if it in used)
 
 
-Packed = Tuple[Block, Optional[bytes]]  # a block and its packed fields
-
-
-def _add_details(it: Compared, blocks: List[List[Packed]], pairs: Sides, parts: List[str], choice: Choice) -> None:
+def _add_details(it: Compared, blocks: List[List[Block]], pairs: Sides, parts: List[str], choice: Choice) -> None:
     """Adds the fields that differ, and the causes of refusals."""
     left = _Left(choice)
     only_notes = True
     out = [one.kind for one in it.verdicts if one.result == LEFT_OUT]
-    first, second = ({(one[0].kind, one[0].name): one for one in side if one[0].kind not in out} for side in blocks)
+    first, second = ({(block.kind, block.name): block for block in side if block.kind not in out} for side in blocks)
     for key in dict.fromkeys([*first, *second]):
-        (one, mine), (other, its) = first.get(key, _NONE), second.get(key, _NONE)
+        one, other = first.get(key), second.get(key)
         if all(block is None or block.status == ACCEPTED or block.repair for block in (one, other)):
             it.note += _repairs_of(it, key[1], one, other)
             if one and other and one.digest == other.digest and (one.digest or one.octets == other.octets):
                 continue
-            fields = pairs.fields(BEFORE, mine), pairs.fields(AFTER, its)
+            fields = pairs.fields(BEFORE, one), pairs.fields(AFTER, other)
             block = "" if key[1] == NAMES[key[0]] else key[1]
             is_equal = bool(one and other and one.meaning and one.meaning == other.meaning)
             found = left.without(key[0], differences(*fields, block), is_equal)
@@ -380,9 +377,6 @@ def _leave_out_kinds(it: Compared, one: Picture, other: Picture, parts: List[str
         parts = left
     it.result = result(it.verdicts, parts)
     return parts
-
-
-_NONE: Tuple[None, None] = (None, None)
 
 
 def _repairs_of(it: Compared, name: str, one: Optional[Block], other: Optional[Block]) -> str:

@@ -4,13 +4,14 @@ from __future__ import annotations
 
 import hashlib
 from itertools import groupby
-from typing import Iterator, List, NamedTuple, Optional, Sequence, Tuple
+from typing import Any, Iterator, List, NamedTuple, Optional, Sequence, Tuple
 
 from ..catalogue.records import KINDS, WORDS, Picture, has, kind_of
 from ..catalogue.store import Catalogue
 from ..extract.formats.found import EXIF, NAMES
 from ..fields.choosing import Choice
-from ..fields.listing import MAKER_NOTE, Field, unpacked
+from ..fields.listing import MAKER_NOTE, Field, exact
+from ..fields.packing import unpacked
 from ..refusals import steps
 from .differing import equal_form
 from .verdicts import ACCEPTED, joined
@@ -95,7 +96,7 @@ def _counted(row: Tuple[str, str, str, Optional[str], str, Optional[str], Option
     if packed is None:
         own = f"whole {digest}" if status == ACCEPTED else None  # its fields aren't kept, so all of it counts
         return _Counted(kind_of(word), name, own, None, digest or octets, "", own or "", digest or octets, "")
-    fields = unpacked(packed)
+    fields = list(map(_with_exact_xmp, unpacked(packed)))
     block = "" if name in NAMES.values() else name
     counting = choice.of(fields, block)
     counted, meaning, listing = _digest(counting, choice), digest or octets, _sum(fields)
@@ -107,6 +108,11 @@ def _counted(row: Tuple[str, str, str, Optional[str], str, Optional[str], Option
     of_others = _sum(others)
     rest = [it for it in counting if it[:2] != MAKER_NOTE]
     return _Counted(*found, _digest(rest, choice) or "no other field", of_others, of_others)
+
+
+def _with_exact_xmp(it: Field) -> Any:
+    """A field, one of XMP with its exact value, in which the members of a list without an order have one."""
+    return it._replace(value=exact(it)) if it.where == "xmp" else it  # type: ignore[arg-type]
 
 
 def _digest(fields: Sequence[Field], choice: Choice) -> str:

@@ -3,15 +3,15 @@
 from __future__ import annotations
 
 from fractions import Fraction
-from typing import Dict, List, NamedTuple, Optional, Sequence, Tuple
+from typing import Any, Dict, List, NamedTuple, Optional, Sequence, Tuple
 
-from ..fields.listing import Field, counted_type, order_of, shortened
+from ..fields import listing
+from ..fields.listing import LONGEST_BYTES, OCTETS, Field, counted_type, digest_of, order_of, shortened
 from ..fields.names import full_name
 from ..fields.plain_names import group_name, group_of
-from ..fields.plain_numbers import FRACTION
+from ..fields.xmp_values import Long
 
 NUMBERS = ("BYTE", "SHORT", "LONG", "WHOLE", "SSHORT", "SLONG", "RATIONAL", "SRATIONAL")
-_OCTETS = ("BYTE", "UNDEFINED", "SBYTE", "ASCII", "UTF8", "octets")
 
 
 class Difference(NamedTuple):
@@ -51,46 +51,50 @@ class Difference(NamedTuple):
 def exact(fields: Sequence[Field]) -> Optional[str]:
     """The exact values of a field with their types; None without any.
 
-    >>> exact([Field("main", "013b", "ASCII", 5, '"Otto"')])
+    >>> exact([Field("main", "013b", "ASCII", 5, b"Otto\\0")])
     'ascii[5] "Otto"'
     """
-    return ", ".join(f"{counted_type(it)} {shortened(it.shown)}" for it in fields) if fields else None
+    return ", ".join(f"{counted_type(it)} {shortened(listing.exact(it))}" for it in fields) if fields else None
 
 
 def bare(fields: Sequence[Field]) -> Optional[str]:
     """The exact values of a field, with their types unless they are texts; None without any."""
     texts = ("ASCII", "octets", "text", "URI")
-    return ", ".join(shortened(it.shown) if it.type in texts else exact([it]) or "" for it in fields) if fields else None
+    return ", ".join(shortened(listing.exact(it)) if it.type in texts else exact([it]) or "" for it in fields) if fields else None
 
 
 def equal_form(it: Field) -> Tuple[object, ...]:
     """What is equal for fields that differ only in their form: numbers by value, and bytes whatever their type is.
 
-    >>> equal_form(Field("exif", "829a", "RATIONAL", 1, "10/80000")) == equal_form(Field("exif", "829a", "RATIONAL", 1, "1/8000"))
+    >>> equal_form(Field("exif", "829a", "RATIONAL", 1, ((10, 80000),))) == equal_form(Field("exif", "829a", "RATIONAL", 1, ((1, 8000),)))
     True
-    >>> equal_form(Field("exif", "a300", "BYTE", 1, "0x03")) == equal_form(Field("exif", "a300", "UNDEFINED", 1, "0x03"))
+    >>> equal_form(Field("exif", "a300", "BYTE", 1, b"\\3")) == equal_form(Field("exif", "a300", "UNDEFINED", 1, b"\\3"))
     True
     """
-    if it.type in _OCTETS:
-        return ("octets", it.elements, it.shown)
-    if it.type not in NUMBERS or "sha256:" in it.shown:
-        return (it.type, it.elements, it.shown)
-    return tuple(_number(word) for word in it.shown.split())
+    if it.type in OCTETS:
+        return ("octets", it.elements, _octets_form(it.value))
+    if it.type not in NUMBERS or isinstance(it.value, Long):
+        return (it.type, it.elements, it.value)
+    return tuple(map(_number, it.value))
 
 
-def _number(word: str) -> object:
-    """A number by its value, and a fraction with the denominator 0 by its sign. What is no number, as in a damaged catalogue, stays as it is."""
-    match = FRACTION.fullmatch(word)
-    if match is None:
-        return word
-    above, below = int(match[1]), int(match[2] or "1")
+def _octets_form(value: Any) -> object:
+    """Bytes or their digest, the same whether they are kept whole or not."""
+    return value.digest if isinstance(value, Long) else value if len(value) <= LONGEST_BYTES else digest_of(value)
+
+
+def _number(value: Any) -> object:
+    """A number by its value, and a fraction with the denominator 0 by its sign."""
+    if isinstance(value, int):
+        return Fraction(value)
+    above, below = value
     return Fraction(above, below) if below else ("no number", (above > 0) - (above < 0))
 
 
 def differences(before: Sequence[Field], after: Sequence[Field], block: str = "") -> List[Difference]:
     """The fields that differ, in the order of a listing; values of a repeated DataSet are compared as one list.
 
-    >>> [it.name for it in differences([Field("main", "010f", "ASCII", 2, '"a"')], [Field("main", "010f", "ASCII", 2, '"b"')])]
+    >>> [it.name for it in differences([Field("main", "010f", "ASCII", 2, b"a\\0")], [Field("main", "010f", "ASCII", 2, b"b\\0")])]
     ['IFD0:Make']
     """
     first, second = _by_name(before), _by_name(after)

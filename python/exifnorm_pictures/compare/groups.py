@@ -17,7 +17,7 @@ from ..catalogue.store import PICTURE_COLUMNS, Catalogue
 from ..extract.formats.found import EXIF, NAMES, each_kind
 from ..extract.sidecars import Folders
 from ..fields.choosing import EVERYTHING, Choice, UnknownField
-from ..fields.listing import unpacked
+from ..fields.packing import unpacked
 from ..refusals import steps
 from .readings import LOST, Readings, Unknown
 from .verdicts import ABSENT, DIFFERENT, MOVED_NOTE, ONLY_MAKER_NOTE, ONLY_REACHED, SAME, SAME_REPAIRED, clause, listed, none_of

@@ -13,7 +13,8 @@ from ..catalogue.records import NOT_THERE, Block, Damaged, Picture, block_of_row
 from ..catalogue.store import BLOCK_COLUMNS, PICTURE_COLUMNS, Catalogue, NoCatalogue, address, check_schema, connect, unlike
 from ..cli import signals
 from ..extract.formats.found import NotRead
-from ..fields.listing import Field, unpacked
+from ..fields.listing import Field
+from ..fields.packing import unpacked
 from . import coded
 from .moved import content_key
 
@@ -206,13 +207,14 @@ class Pairs:
             result = coded.SQL
         return Counter(dict(self._rows(f"SELECT {result}, count(*) {pictures} GROUP BY 1", lambda row: (str(row[0]), int(row[1])))))
 
-    def blocks(self, side: int, picture: Picture) -> List[Tuple[Block, Optional[bytes]]]:
+    def blocks(self, side: int, picture: Picture) -> List[Block]:
         """A picture's blocks, each with its packed fields."""
         query = f"SELECT {BLOCK_COLUMNS}, fields FROM {_BASES[side]}.blocks WHERE picture = ? ORDER BY number"
-        return self._of(side, query, picture, lambda row: (block_of_row(row[:-1]), row[-1]))
+        return self._of(side, query, picture, lambda row: block_of_row(row[:-1])._replace(kept=row[-1]))
 
-    def fields(self, side: int, packed: Optional[bytes]) -> List[Field]:
-        """The fields of a block; none if they aren't kept."""
+    def fields(self, side: int, block: Optional[Block]) -> List[Field]:
+        """The fields of a block; none if they aren't kept, or if there is no block."""
+        packed = block.kept if block else None
         return self._made(side, unpacked, packed) if packed else []
 
     def not_read(self, side: int, picture: Picture) -> List[NotRead]:

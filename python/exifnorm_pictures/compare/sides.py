@@ -27,12 +27,12 @@ class Sides(Protocol):
     def catalogues(self) -> Tuple[KeepsNotes, KeepsNotes]:
         ...
 
-    def blocks(self, side: int, picture: Picture) -> List[Tuple[Block, Optional[bytes]]]:
-        """A picture's blocks, each with its packed fields."""
+    def blocks(self, side: int, picture: Picture) -> List[Block]:
+        """A picture's blocks."""
         ...
 
-    def fields(self, side: int, packed: Optional[bytes]) -> List[Field]:
-        """The fields of a block; none if they aren't kept."""
+    def fields(self, side: int, block: Optional[Block]) -> List[Field]:
+        """The fields of a block; none if they aren't kept, or if there is no block."""
         ...
 
     def not_read(self, side: int, picture: Picture) -> List[NotRead]:

@@ -7,7 +7,7 @@ from dataclasses import dataclass, field
 from typing import Dict, List, Sequence, Set, Tuple
 
 from ..fields.choosing import EVERYTHING, Choice
-from ..fields.listing import Field
+from ..fields.listing import Field, exact
 from .changed import Compared
 from .differing import NUMBERS, Difference
 from .wording import What, cut, what
@@ -172,4 +172,4 @@ def _is_labelled(name: str) -> bool:
 
 
 def _number(it: Field) -> str:
-    return it.shown if it.type in NUMBERS else it.type.lower()
+    return exact(it) if it.type in NUMBERS else it.type.lower()

@@ -8,20 +8,15 @@ import os
 from dataclasses import dataclass, field
 from typing import Callable, Dict, List, NamedTuple, Optional, Sequence, Tuple
 
-from .. import xmp
 from ..catalogue.records import KINDS, Block, Picture, PictureRecord, Stamp
-from ..extract import extraction, programs
-from ..extract.budgets import TooMuch
 from ..extract.formats.found import NAMES, PROBLEMS, NotRead
 from ..fields.choosing import EVERYTHING, Choice
-from ..fields.listing import MAKER_NOTE, Field, unpacked
+from ..fields.listing import MAKER_NOTE, Field
 from ..fields.plain_names import group_name
 from ..fields.plain_values import POSITION, plain, position
-from ..refusals.octets import Octets, octets_of
 from ..scan.batches import How
 from ..scan.walk import FoundFile
 from ..scan.looking import look
-from ..xmp.texts import texts
 from .changed import DAMAGED, OTHER_PICTURE_ALONE, Compared, compared
 from .differing import Difference, exact
 from .pairs import Pair
@@ -45,15 +40,15 @@ class TwoFiles:
     records: Tuple[PictureRecord, PictureRecord]
     catalogues: Tuple[_KeepsNothing, _KeepsNothing] = (_KeepsNothing(), _KeepsNothing())
 
-    def blocks(self, side: int, picture: Picture) -> List[Tuple[Block, Optional[bytes]]]:
-        """A picture's blocks, each with its packed fields."""
+    def blocks(self, side: int, picture: Picture) -> List[Block]:
+        """A picture's blocks."""
         del picture
-        return [(it, it.kept) for it in self.records[side].blocks]
+        return list(self.records[side].blocks)
 
-    def fields(self, side: int, packed: Optional[bytes]) -> List[Field]:
+    def fields(self, side: int, block: Optional[Block]) -> List[Field]:
         """The fields of a block."""
         del side
-        return unpacked(packed) if packed else []
+        return block.fields if block else []
 
     def not_read(self, side: int, picture: Picture) -> List[NotRead]:
         """The parts of a picture that were not read."""
@@ -115,23 +110,28 @@ def read(name: bytes, how: How) -> PictureRecord:
         stamp = Stamp.of(os.stat(path))
     if stamp is None and not os.path.lexists(path):
         return PictureRecord(path, b"", problem="NoFile", detail=PROBLEMS["NoFile"])
-    return look(FoundFile(path, os.path.dirname(path), stamp), how)
+    return look(FoundFile(path, os.path.dirname(path), stamp), how, packs=False)
 
 
-def compare(one: PictureRecord, other: PictureRecord, each: bool, ask: bool, whole: bool, choice: Choice = EVERYTHING) -> Comparison:
+def compare(one: PictureRecord, other: PictureRecord, each: bool, ask: bool, choice: Choice = EVERYTHING) -> Comparison:
     """Compares two pictures that were read, by the fields that count. `ask` asks ExifTool for the values of MakerNotes; `each` has a row for
     each that differs."""
-    files = TwoFiles((one, other))
-    found = compared(Pair(os.path.basename(one.path), one.picture(), other.picture(), None), files, ask, choice)
-    result = Comparison((one, other), found, _is_identical(one.path, other.path), has_only_fields=bool(choice.only))
+    found = compared_records(one, other, ask, choice)
+    result = Comparison((one, other), found, is_identical(one.path, other.path), has_only_fields=bool(choice.only))
     if not result.is_identical and found.changes:
-        result.rows = _rows(found.changes, [_Whole(it.path, whole) for it in files.records])
+        result.rows = _rows(found.changes)
     if not result.is_identical and each:
         result.rows += _note_rows(found)
     return result
 
 
-def _is_identical(one: bytes, other: bytes) -> bool:
+def compared_records(one: PictureRecord, other: PictureRecord, ask: bool, choice: Choice = EVERYTHING) -> Compared:
+    """What `changed` finds of two pictures that were read."""
+    return compared(Pair(os.path.basename(one.path), one.picture(), other.picture(), None), TwoFiles((one, other)), ask, choice)
+
+
+def is_identical(one: bytes, other: bytes) -> bool:
+    """Whether two files have the same bytes."""
     with contextlib.suppress(OSError):
         return os.path.getsize(one) == os.path.getsize(other) and filecmp.cmp(one, other, shallow=False)
     return False
@@ -140,40 +140,9 @@ def _is_identical(one: bytes, other: bytes) -> bool:
 # The rows of the table
 
 
-class _Whole:
-    """The whole values of a picture's fields, of which a listing has only the beginning. The file is read again for them, once."""
-
-    def __init__(self, path: bytes, whole: bool) -> None:
-        self.path, self.whole = path, whole
-        self._blocks: Optional[Dict[str, Tuple[str, bytes]]] = None
-        self._octets: Dict[str, Octets] = {}
-
-    def octets(self, block: str, it: Field) -> List[bytes]:
-        """The bytes of a field; none if it has others by now."""
-        if block not in self._octets:
-            self._octets[block] = octets_of(*self._block(block))
-        return self._octets[block].get((it.where, it.key), [])
-
-    def xmp(self, block: str, key: str) -> Optional[str]:
-        """The whole text of a property."""
-        packet = self._block(block)[1]
-        try:
-            return "; ".join(texts(xmp.statements(packet, {}, set()))[key])
-        except (xmp.Unreadable, TooMuch, KeyError):
-            return None
-
-    def _block(self, name: str) -> Tuple[str, bytes]:
-        if self._blocks is None:
-            self._blocks = {}
-            with contextlib.suppress(programs.Failed, programs.Missing):
-                found = extraction.blocks_of(self.path, self.whole).found
-                self._blocks = {it.name: (it.kind, it.data) for it in found}
-        return self._blocks.get(name, ("", b""))
-
-
-def _rows(changes: Sequence[Difference], whole: Sequence[_Whole]) -> List[Row]:
+def _rows(changes: Sequence[Difference]) -> List[Row]:
     """A row for each change; those of equal numbers at the end."""
-    rows = [_row(it, whole) for it in changes]
+    rows = list(map(_row, changes))
     rows.sort(key=lambda row: (row.is_equal_number, _place(row)))
     return rows
 
@@ -190,28 +159,12 @@ def _place(it: Row) -> int:
     return KINDS.index({"iptc": KINDS[1], "xmp": KINDS[2]}.get(where, KINDS[0]))
 
 
-def _row(it: Difference, whole: Sequence[_Whole]) -> Row:
+def _row(it: Difference) -> Row:
     both = [exact(side) for side in (it.before, it.after)]
-    values = both if it.note else [_plain(side, it.block, files) for side, files in zip((it.before, it.after), whole)]
+    values = both if it.note else ["; ".join(map(plain, side)) if side else None for side in (it.before, it.after)]
     if values[0] == values[1]:  # what people see is equal, and what is there isn't
         values = both
     return Row(it.name, (values[0], values[1]), (both[0], both[1]), (it,), it.note)
-
-
-def _plain(fields: Sequence[Field], block: str, whole: _Whole) -> Optional[str]:
-    if not fields:
-        return None
-    first = fields[0]
-    name = block or NAMES[{"iptc": KINDS[1], "xmp": KINDS[2]}.get(first.where, KINDS[0])]
-    if first.where == "xmp":
-        text = whole.xmp(name, first.key) if "sha256:" in first.shown and first.type != "structure" else None
-        return text or plain(first)
-    if not any("sha256:" in it.shown for it in fields) or first.where == "thumb" or first.key == "927c":
-        return "; ".join(plain(it) for it in fields)
-    octets = whole.octets(name, first)
-    if len(octets) != len(fields):
-        return "; ".join(plain(it) for it in fields)
-    return "; ".join(plain(it, one) for it, one in zip(fields, octets))
 
 
 def with_position(rows: List[Row], one: PictureRecord, other: PictureRecord) -> List[Row]:
@@ -232,8 +185,7 @@ def with_position(rows: List[Row], one: PictureRecord, other: PictureRecord) -> 
 
 
 def _gps(it: PictureRecord) -> Dict[str, Field]:
-    blocks = [one for one in it.blocks if one.name == NAMES[KINDS[0]] and one.kept]
-    return {one.key: one for block in blocks for one in unpacked(block.kept or b"[]") if one.where == "gps"}
+    return {one.key: one for block in it.blocks if block.name == NAMES[KINDS[0]] for one in block.fields if one.where == "gps"}
 
 
 def _has_position(it: PictureRecord) -> bool:

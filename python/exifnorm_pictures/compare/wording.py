@@ -8,6 +8,7 @@ from collections import Counter
 from datetime import datetime, timedelta
 from typing import List, NamedTuple, Optional, Sequence, Tuple
 
+from ..fields import listing
 from ..fields.listing import MAKER_NOTE, Field
 from ..fields.plain_texts import quoted, text_of, xmp_texts
 from ..fields.plain_values import in_line, plain
@@ -32,7 +33,7 @@ class What(NamedTuple):
 def sides(it: Difference, exactly: bool = False) -> Tuple[Optional[str], Optional[str]]:
     """Both values of a field in one line: plain, or exact if that is asked for or if both look alike. None where there is no such field.
 
-    >>> sides(Difference("main", "0112", (), (Field("main", "0112", "SHORT", 1, "6"),)))
+    >>> sides(Difference("main", "0112", (), (Field("main", "0112", "SHORT", 1, (6,)),)))
     (None, 'turn 90° clockwise to view')
     """
     plain = [", ".join(map(in_line, one)) if one else None for one in (it.before, it.after)]
@@ -44,7 +45,7 @@ def sides(it: Difference, exactly: bool = False) -> Tuple[Optional[str], Optiona
 def plain_sides(it: Difference) -> Tuple[Optional[str], Optional[str]]:
     """Both values as they are, without quotes and escapes, for tables and programs; exact if both look alike.
 
-    >>> plain_sides(Difference("main", "013b", (), (Field("main", "013b", "ASCII", 5, '"Otto"'),)))
+    >>> plain_sides(Difference("main", "013b", (), (Field("main", "013b", "ASCII", 5, b"Otto\\0"),)))
     (None, 'Otto')
     """
     values = ["; ".join(map(plain, one)) if one else None for one in (it.before, it.after)]
@@ -77,7 +78,7 @@ def what(it: Difference) -> What:
     if listed:
         return _what(listed)
     before, after = sides(it)
-    key = hashlib.sha256(repr([tuple(one) for one in it.after]).encode("utf-8", "surrogatepass")).digest()
+    key = hashlib.sha256(repr([(*one[:4], listing.exact(one)) for one in it.after]).encode("utf-8", "surrogatepass")).digest()
     return What(key, f" -> {cut(after or '')}", cut(before or ""), step(it))
 
 
@@ -114,7 +115,7 @@ def _members(fields: Sequence[Field]) -> Optional[List[str]]:
     if fields[0].where == "iptc" and fields[0].key in _REPEATED:
         return [in_line(it) for it in fields]
     if len(fields) == 1 and fields[0].type in ("Bag", "Seq"):
-        texts = xmp_texts(fields[0].shown)
+        texts = xmp_texts(fields[0])
         return None if texts is None else [quoted(text) for text, _ in texts]
     return None
 
@@ -127,11 +128,11 @@ _DATE = re.compile(r"(\d{4})[:-](\d\d)[:-](\d\d)[ T](\d\d):(\d\d)(?::(\d\d))?(.*
 def step(it: Difference) -> str:
     """How much later or earlier a date is; empty for a field that is no date.
 
-    >>> one, other = (Field("main", "0132", "ASCII", 20, f'"2020:01:0{day} 10:00:00"') for day in (1, 2))
+    >>> one, other = (Field("main", "0132", "ASCII", 20, b"2020:01:0%d 10:00:00\\0" % day) for day in (1, 2))
     >>> step(Difference("main", "0132", (one,), (other,)))
     '1 day later'
     """
-    found = [_DATE.fullmatch(text_of(side[0].shown) or "") if len(side) == 1 else None for side in (it.before, it.after)]
+    found = [_DATE.fullmatch(text_of(side[0]) or "") if len(side) == 1 else None for side in (it.before, it.after)]
     if not found[0] or not found[1] or found[0][7] != found[1][7]:  # with another zone the difference isn't known
         return ""
     try:

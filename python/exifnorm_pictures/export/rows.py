@@ -14,7 +14,8 @@ from ..compare.conflicts import ALIKE, conflicts
 from ..compare.groups import Fewest, groups
 from ..compare.keeping import Keep, keeping
 from ..fields.labels import LabelText
-from ..fields.listing import Field, unpacked
+from ..fields.listing import Field, exact
+from ..fields.packing import unpacked
 from ..fields.plain_names import exact_key, group_name
 from ..fields.plain_values import plain
 from ..fields.typed import typed
@@ -30,7 +31,7 @@ class Export:
 
     def __init__(self, catalogue: Catalogue, tables: Tables, only: Optional[str], look: bool) -> None:
         self.catalogue, self.tables, self.only, self.look = catalogue, tables, only, look
-        self.missing = 0  # pictures with a text that is neither kept nor read
+        self.missing = 0  # pictures with a text that is too long to be kept
         self.fewest = Fewest()  # counts the groups that are left out
 
     def all(self, quiet: bool) -> None:
@@ -58,7 +59,7 @@ class Export:
             self.tables.add("not_read", ((it.id, at, part.what) for at, part in enumerate(parts)))
 
     def _texts(self, it: Picture, blocks: Sequence[Tuple[Block, List[Field]]]) -> None:
-        found = texts_of(it, blocks, self.look)
+        found = texts_of(blocks)
         self.missing += bool(found.missing)
         rows = [*_text_rows(found.texts), *((word, *(None,) * 6) for word in sorted(found.missing))]
         self.tables.add("captions", ((it.id, at, *row) for at, row in enumerate(rows)))
@@ -109,7 +110,7 @@ def _block_row(it: Picture, number: int, block: Block) -> Row:
 def _field_row(it: Field) -> Row:
     value = typed(it)
     number = float(value) if isinstance(value, (int, float)) else None
-    return (group_name(it.where, it.key), it.where, exact_key(it.where, it.key), it.type, it.elements, plain(it), it.shown, number)
+    return (group_name(it.where, it.key), it.where, exact_key(it.where, it.key), it.type, it.elements, plain(it), exact(it), number)
 
 
 def _text_rows(found: Sequence[LabelText]) -> Iterator[Row]:

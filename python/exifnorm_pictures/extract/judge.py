@@ -10,17 +10,19 @@ import exifnorm
 from .. import xmp
 from ..catalogue.records import FAILED, TOO_LONG, Block
 from ..compare.verdicts import ACCEPTED, REFUSED, UNREADABLE
-from ..fields import normal_form
-from ..fields.listing import digest_but_note, packed, packed_text, text_of_fields
+from ..fields.made import Fields
+from ..fields.packing import left_out, packed
 from ..refusals import steps
 from . import structure
+from .budgets import KEPT_BYTES
 from .formats.found import COMPRESSED, EXIF, FEW, IPTC, NAMES, XMP, Blocks, FoundBlock
 
 _BY_ITSELF = FoundBlock("", b"", "", "")  # where a block is that was given without a picture
 
 
-def judge(kind: str, block: bytes, with_fields: bool = False, at: FoundBlock = _BY_ITSELF) -> Block:
-    """Judges a block that was taken as one of `kind`; a refused block never gets a digest."""
+def judge(kind: str, block: bytes, packs: bool = False, at: FoundBlock = _BY_ITSELF) -> Block:
+    """Judges a block that was taken as one of `kind`; a refused block never gets a digest. With `packs` its fields are packed for a catalogue,
+    otherwise they are made when they are asked for."""
     octets = hashlib.sha256(block).hexdigest()
     if block.startswith(COMPRESSED):
         return _unreadable(kind, at, len(block), octets, "Compressed")
@@ -28,34 +30,32 @@ def judge(kind: str, block: bytes, with_fields: bool = False, at: FoundBlock = _
         form = exifnorm.normal(block)
     except exifnorm.Refused as refused:
         found = Block(kind, *at[2:5], REFUSED, None, refused.cause, refused.place, len(block), octets)
-        return _repaired(found, block) if kind == EXIF and with_fields else found
+        return _repaired(found, block, packs) if kind == EXIF else found
     except exifnorm.NormalTooLong:
         return Block(kind, *at[2:5], TOO_LONG, None, "NormalTooLong", None, len(block), octets)
     except MemoryError:
         return Block(kind, *at[2:5], FAILED, None, "OutOfMemory", None, len(block), octets)
     digest = octets if form == block else hashlib.sha256(form).hexdigest()
-    if not with_fields:
-        return Block(kind, *at[2:5], ACCEPTED, digest, None, None, len(block), octets)
-    kept, but_note = _kept(form)
-    return Block(kind, *at[2:5], ACCEPTED, digest, None, None, len(block), octets, kept=kept, but_note=but_note)
+    return _with_fields(Block(kind, *at[2:5], ACCEPTED, digest, None, None, len(block), octets), Fields(form), packs)
 
 
-def _repaired(it: Block, block: bytes) -> Block:
+def _with_fields(it: Block, fields: Fields, packs: bool) -> Block:
+    """A block with its fields."""
+    if not packs:
+        return it._replace(kept=fields)
+    made = packed(fields.all())
+    return it._replace(kept=made.octets, but_note=made.but_note)
+
+
+def _repaired(it: Block, block: bytes, packs: bool) -> Block:
     """A refused block with what a repair makes of it."""
     from ..refusals import repairs  # which takes long to import, and few blocks are refused
 
     found = repairs.repaired(block)
     if found is None:
         return it
-    kept, but_note = _kept(found.form)
-    return it._replace(kept=kept, repair=steps.packed(found.steps), repaired=hashlib.sha256(found.form).hexdigest(), but_note=but_note)
-
-
-def _kept(form: bytes) -> Tuple[bytes, Optional[str]]:
-    """The fields of a normal form for a catalogue, and their digest without the MakerNote if there is one."""
-    found = normal_form.fields(form)
-    text = text_of_fields(found)
-    return packed_text(text, len(found)), digest_but_note(text, found)
+    known = it._replace(repair=steps.packed(found.steps), repaired=hashlib.sha256(found.form).hexdigest())
+    return _with_fields(known, Fields(found.form), packs)
 
 
 def _says_nothing(it: FoundBlock) -> bool:
@@ -79,7 +79,7 @@ def _with_notes(it: Block, at: FoundBlock, blocks: Blocks) -> Block:
     return it if found.place is None else it._replace(note=found.place if at.note is None else at.note)
 
 
-def judge_all(blocks: Blocks, with_fields: bool = False) -> List[Block]:
+def judge_all(blocks: Blocks, packs: bool = False) -> List[Block]:
     """Judges all blocks of a picture, in their order. Extended XMP is judged with the packet that refers to it. Raises `TooMuch`."""
     if any(map(_says_nothing, blocks.found)):
         blocks.found = [it for it in blocks.found if not _says_nothing(it)]
@@ -87,26 +87,34 @@ def judge_all(blocks: Blocks, with_fields: bool = False) -> List[Block]:
     none = xmp.Extensions({}, blocks.budget)
     known: Dict[Tuple[str, bytes], Block] = {}
     many = len(blocks.found) > FEW
-    found = []
+    found: List[Block] = []
+    kept = 0
     for it in blocks.found:
         if it.extends:
             continue
         block = known.get((it.kind, it.data)) if many else None
         if block is not None:
+            kept += len(block.kept) if isinstance(block.kept, bytes) else 0
             note = block.note if it.note is None else it.note
-            found.append(block._replace(name=it.name, source=it.where, extractor=it.extractor, note=note))
+            found.append(_within(block._replace(name=it.name, source=it.where, extractor=it.extractor, note=note), kept))
             continue
         if it.kind == XMP and not it.data.startswith(COMPRESSED):
-            block = extended.judge(it, with_fields) if extended else _judge_xmp(it, none, {}, with_fields)
+            block = extended.judge(it, packs) if extended else _judge_xmp(it, none, {}, packs)
         else:
-            block = judge(it.kind, it.data, with_fields, it)
-            if it.kind == EXIF and with_fields and (block.digest or block.repaired):
+            block = judge(it.kind, it.data, packs, it)
+            if it.kind == EXIF and (block.digest or block.repaired):
                 block = _with_notes(block, it, blocks)
         if many:  # pages of a TIFF can share a value
             blocks.budget.check_time()
             known[it.kind, it.data] = block
-        found.append(block)
+        kept += len(block.kept) if isinstance(block.kept, bytes) else 0
+        found.append(_within(block, kept))
     return found + extended.not_named() if extended else found
+
+
+def _within(it: Block, kept: int) -> Block:
+    """A block without its packed fields, if so many bytes are kept of a picture: its pages may share one long text."""
+    return it if kept <= KEPT_BYTES or not isinstance(it.kept, bytes) else it._replace(kept=left_out(it.kept))
 
 
 class _Extended:
@@ -121,10 +129,10 @@ class _Extended:
         self.named = {part: xmp.Extensions(some, blocks.budget) for part, some in self.every.items()}
         self.none = xmp.Extensions({}, blocks.budget)
 
-    def judge(self, it: FoundBlock, with_fields: bool) -> Block:
+    def judge(self, it: FoundBlock, packs: bool) -> Block:
         """A packet with its extended XMP."""
         part = _part(it)
-        return _judge_xmp(it, self.named.get(part, self.none), self.remaining.get(part, {}), with_fields)
+        return _judge_xmp(it, self.named.get(part, self.none), self.remaining.get(part, {}), packs)
 
     def not_named(self) -> List[Block]:
         """What no packet beside it named."""
@@ -138,14 +146,14 @@ def _part(it: FoundBlock) -> str:
     return part
 
 
-def judge_packet(packet: bytes, with_fields: bool = False) -> Block:
+def judge_packet(packet: bytes, packs: bool = False) -> Block:
     """Judges an XMP packet by itself."""
     if packet.startswith(COMPRESSED):
         return judge(XMP, packet)
-    return _judge_xmp(_BY_ITSELF._replace(data=packet), xmp.Extensions({}), {}, with_fields)
+    return _judge_xmp(_BY_ITSELF._replace(data=packet), xmp.Extensions({}), {}, packs)
 
 
-def _judge_xmp(at: FoundBlock, extensions: xmp.Extensions, left: Dict[str, bytes], with_fields: bool) -> Block:
+def _judge_xmp(at: FoundBlock, extensions: xmp.Extensions, left: Dict[str, bytes], packs: bool) -> Block:
     """Reads a packet with its extended XMP, which is taken out of `left`."""
     used: Set[str] = set()
     try:
@@ -159,14 +167,9 @@ def _judge_xmp(at: FoundBlock, extensions: xmp.Extensions, left: Dict[str, bytes
         left.pop(it, None)
     if statements is None:
         return _unreadable(XMP, at, len(at.data), octets.hexdigest(), cause)
-    kept = packed(xmp.fields(statements)) if with_fields else None
-    return Block(XMP, *at[2:5], ACCEPTED, xmp.digest(statements), None, None, len(at.data), octets.hexdigest(), kept=kept)
+    found = Block(XMP, *at[2:5], ACCEPTED, xmp.digest(statements), None, None, len(at.data), octets.hexdigest())
+    return _with_fields(found, Fields(statements), packs)
 
 
 def _unreadable(kind: str, at: FoundBlock, length: int, octets: str, cause: str) -> Block:
     return Block(kind, *at[2:5], UNREADABLE, None, cause, None, length, octets)
-
-
-def listing(block: bytes) -> str:
-    """The listing of an accepted block, as `exifnorm show` prints it."""
-    return exifnorm.show(block)

@@ -7,13 +7,13 @@ from __future__ import annotations
 
 import functools
 import re
-from typing import Dict, Iterator, List, NamedTuple, Optional, Sequence, Set, Tuple
+from typing import Dict, Iterable, Iterator, List, NamedTuple, Optional, Sequence, Set, Tuple
 
-import exifnorm
-
-from .plain_names import group_name, plain_name
+from .listing import Field
 from .own_texts import is_own
+from .plain_names import group_name, plain_name
 from .plain_texts import comment
+from .xmp_values import Long, texts
 
 EXIF, IPTC, XMP = "Exif", "IPTC", "XMP"
 STANDARDS = (EXIF, IPTC, XMP)  # the first one that has a text wins where there is space for one
@@ -135,23 +135,54 @@ def decoded(octets: bytes, declares_utf8: bool = False) -> Tuple[str, str]:
         return bare.decode("cp1252", "backslashreplace"), f"{remark}: Windows-1252"
 
 
+_EXIF = {it.exif: it.word for it in LABELS if it.exif} | {"9291": DATE, "9011": DATE, "9286": COMMENT} | WINDOWS
+_IPTC = {it.iptc: it.word for it in LABELS if it.iptc} | {"1:90": "", "2:60": DATE}
+_XMP = {it.xmp: it.word for it in LABELS if it.xmp}
+
+
+def of_block(found: Iterable[Field]) -> Iterator[LabelText]:
+    """The texts of a block, by its fields.
+
+    >>> [it[:4] for it in of_block([Field("main", "013b", "ASCII", 5, b"Anna\\0")])]
+    [('creator', 'Exif', 'IFD0:Artist', ('Anna',))]
+    """
+    fields = [it for it in found if word_of(it) is not None]
+    return _of_properties(fields) if fields and fields[0].where == "xmp" else _of_octets_fields(fields)
+
+
+def word_of(it: Field) -> Optional[str]:
+    """The label of a field that has a part in one."""
+    if it.where == "xmp":
+        return _XMP.get(it.key)
+    return _IPTC.get(it.key) if it.where == "iptc" else _EXIF.get(it.key) if it.where in ("main", "exif") else None
+
+
+def not_kept(found: Iterable[Field]) -> Set[str]:
+    """The labels of which a text is too long to be kept."""
+    return {word for it in found for word in [word_of(it)] if word and (isinstance(it.value, Long) or _has_long(it))}
+
+
+def _has_long(it: Field) -> bool:
+    return it.where == "xmp" and any(isinstance(one, Long) for one in it.value)
+
+
 # Exif and IPTC
 
 
 _Values = Dict[str, List[bytes]]
 
 
-def of_fields(found: Sequence[exifnorm.Field]) -> Iterator[LabelText]:
+def _of_octets_fields(found: Sequence[Field]) -> Iterator[LabelText]:
     """The texts of a block of Exif or IPTC, by its fields."""
     exif: _Values = {}
     record: _Values = {}
     utf8: Set[str] = set()
     for it in found:
-        if it.directory == "record" and isinstance(it.values, bytes):
-            record.setdefault(f"{it.tag >> 8}:{it.tag & 255}", []).append(it.values)
-        elif isinstance(it.values, bytes) and it.directory in ("main", "exif"):
-            exif[f"{it.tag:04x}"] = [it.values]
-            utf8.update({f"{it.tag:04x}"} if it.type == "UTF8" else ())
+        if isinstance(it.value, bytes) and it.where == "iptc":
+            record.setdefault(it.key, []).append(it.value)
+        elif isinstance(it.value, bytes):
+            exif[it.key] = [it.value]
+            utf8.update({it.key} if it.type == "UTF8" else ())
     for label in LABELS:
         if label.word == DATE:
             yield from _dates(exif, record)
@@ -169,14 +200,15 @@ def with_own(found: Sequence[LabelText], make: str = "", model: str = "") -> Lis
     return [it._replace(is_own=it.label in _CAN_BE_OWN and is_own(it.line, make, model)) for it in found]
 
 
-def camera_of(found: Sequence[exifnorm.Field]) -> Tuple[str, str]:
+def camera_of(found: Iterable[Field]) -> Tuple[str, str]:
     """The make and the model in a block of Exif."""
-    values = {it.tag: it.values for it in found if it.directory == "main" and it.tag in (0x010F, 0x0110) and isinstance(it.values, bytes)}
-    make, model = (decoded(values.get(tag, b""))[0] for tag in (0x010F, 0x0110))
+    values = {it.key: it.value for it in found if it.where == "main" and it.key in _CAMERA and isinstance(it.value, bytes)}
+    make, model = (decoded(values.get(key, b""))[0] for key in _CAMERA)
     return make, model
 
 
 _CAN_BE_OWN = ("caption", COMMENT)
+_CAMERA = ("010f", "0110")  # make and model
 
 
 def _of_octets(label: Label, standard: str, field: str, values: Sequence[bytes], is_utf8: bool) -> LabelText:
@@ -227,11 +259,12 @@ def _text(values: Optional[Sequence[bytes]]) -> str:
 # XMP
 
 
-def of_properties(found: Dict[str, Tuple[str, ...]]) -> Iterator[LabelText]:
+def _of_properties(found: Sequence[Field]) -> Iterator[LabelText]:
     """The texts of a packet, by its properties."""
+    by_key = {it.key: tuple(text.strip() for value in it.value for text in texts(value)) for it in found}  # type: ignore[arg-type]
     for label in LABELS:
-        if label.xmp in found:
-            texts = tuple(it.strip() for it in found[label.xmp])
-            if label.word == DATE:
-                texts = tuple(it.replace("T", " ") for it in texts)
-            yield LabelText(label.word, XMP, group_name("xmp", label.xmp), texts)
+        if label.xmp in by_key:
+            some = by_key[label.xmp]
+            yield LabelText(
+                label.word, XMP, group_name("xmp", label.xmp), tuple(it.replace("T", " ") for it in some) if label.word == DATE else some
+            )

@@ -2,32 +2,24 @@
 
 from __future__ import annotations
 
-import re
 from typing import List, Optional, Tuple
 
 from ..cli.output import escaped
-from .listing import shortened
+from .listing import Field, exact, kept_value, marked_text, shortened
+from .xmp_values import Long, simple_texts
 
-_ESCAPE = re.compile(r"\\(n|r|t|\\|\"|x[0-9a-f]{2}|u[0-9a-f]{4}|U00(?:0[0-9a-f]|10)[0-9a-f]{4})")
-_SHORT = {"n": "\n", "r": "\r", "t": "\t", "\\": "\\", '"': '"'}
 EMPTY = "(empty)"
 
 
-def unescaped(text: str) -> str:
-    r"""The text without escapes.
+def text_of(it: Field) -> Optional[str]:
+    """The text of a field whose bytes can be printed as one; None if they can't.
 
-    >>> unescaped("a\\nb\\\\c")
-    'a\nb\\c'
+    >>> text_of(Field("main", "013b", "ASCII", 5, b"Otto\\0")), text_of(Field("exif", "927c", "UNDEFINED", 2, b"\\xff\\0"))
+    ('Otto', None)
     """
-    return _ESCAPE.sub(lambda it: _SHORT.get(it[1]) or chr(int(it[1][1:], 16)), text)
-
-
-def text_of(shown: str) -> Optional[str]:
-    """The text of a value that is shown in quotes; None if it isn't."""
-    for mark in ("", "ascii ", "utf-16 "):
-        if shown.startswith(mark + '"') and shown.endswith('"') and len(shown) > len(mark) + 1:
-            return unescaped(shown[len(mark) + 1 : -1])
-    return None
+    value = kept_value(it)
+    marked = marked_text(it, value) if isinstance(value, bytes) else None
+    return None if marked is None else marked[1]
 
 
 def quoted(text: str) -> str:
@@ -37,11 +29,6 @@ def quoted(text: str) -> str:
     "a \"b\"\n"
     """
     return '"' + escaped(text).replace('"', '\\"') + '"'
-
-
-def octets_of(shown: str) -> Optional[bytes]:
-    """The bytes of a value that is shown whole in hexadecimal."""
-    return bytes.fromhex(shown[2:]) if re.fullmatch("0x(?:[0-9a-f]{2})+", shown) else None
 
 
 def is_utf8(octets: bytes) -> bool:
@@ -88,64 +75,53 @@ def comment(octets: bytes) -> Optional[str]:
         return None
 
 
-def shown_comment(shown: str) -> Optional[str]:
-    """The text of a comment as a listing shows it."""
-    text = text_of(shown)
+def plain_comment(it: Field) -> Optional[str]:
+    """The text of a comment for people; None if it is in no known character set."""
+    text = text_of(it)
     if text is not None:
         return text.partition("\0")[0].rstrip() or EMPTY
-    octets = octets_of(shown)
-    found = None if octets is None else comment(octets)
-    return None if found is None else found or EMPTY
+    text = comment(it.value) if isinstance(it.value, bytes) else None
+    return None if text is None else text or EMPTY
 
 
 # XMP
 
-_TOKEN = re.compile(r'"((?:[^"\\]|\\.)*)"(?:@([A-Za-z0-9-]+))?|<([^>]*)>|(Alt|Bag|Seq)\[|(\])|(, )')
+
+def xmp_texts(it: Field) -> Optional[List[Tuple[str, str]]]:
+    """The texts of a simple value or of a list of such, each with its language. None for a structure, or a value that isn't kept whole."""
+    if isinstance(it.value, Long):
+        return None
+    try:
+        return [one for value in it.value for one in simple_texts(value)]  # type: ignore[arg-type]
+    except ValueError:
+        return None
 
 
-def xmp_texts(shown: str) -> Optional[List[Tuple[str, str]]]:
-    """The texts of a simple value or of a list of such, each with its language. None for a structure, or a value that is shortened.
-
-    >>> xmp_texts('Alt["Vase"@x-default, "Krug"@de]'), xmp_texts('{stEvt:action="saved"}')
-    ([('Vase', 'x-default'), ('Krug', 'de')], None)
-    """
-    found: List[Tuple[str, str]] = []
-    at = 0
-    while at < len(shown):
-        match = _TOKEN.match(shown, at)
-        if match is None:
-            return None
-        if match[1] is not None:
-            found.append((unescaped(match[1]), match[2] or ""))
-        elif match[3] is not None:
-            found.append((unescaped(match[3]), ""))
-        at = match.end()
-    return found
-
-
-def plain_xmp(shown: str) -> str:
+def plain_xmp(it: Field) -> str:
     """The texts of a property, separated by semicolons, each with its language unless x-default is the only one.
 
-    >>> plain_xmp('Alt["Vase"@x-default]'), plain_xmp('Alt["Vase"@x-default, "Krug"@de]'), plain_xmp('Bag["a", "b"]')
-    ('Vase', 'Vase (x-default); Krug (de)', 'a; b')
+    >>> from .xmp_values import Array, Literal
+    >>> plain_xmp(Field("xmp", "dc:title", "Alt", 2, (Array("Alt", (Literal("Vase", "x-default"), Literal("Krug", "de"))),)))
+    'Vase (x-default); Krug (de)'
     """
-    found = xmp_texts(shown)
+    found = xmp_texts(it)
     if found is None:
-        return shortened(shown)
+        return shortened(exact(it))
     languages = {language for _, language in found if language}
     if languages <= {"x-default"}:
         return "; ".join(text for text, _ in found)
     return "; ".join(f"{text} ({language})" if language else text for text, language in found)
 
 
-def quoted_xmp(shown: str) -> str:
+def quoted_xmp(it: Field) -> str:
     """The texts of a property in one line, each in quotes and with its language unless x-default is the only one.
 
-    >>> quoted_xmp('Alt["Vase"@x-default, "Krug"@de]'), quoted_xmp('Bag["a", "b"]')
-    ('"Vase" (x-default), "Krug" (de)', '"a", "b"')
+    >>> from .xmp_values import Array, Literal
+    >>> quoted_xmp(Field("xmp", "dc:title", "Alt", 2, (Array("Alt", (Literal("Vase", "x-default"), Literal("Krug", "de"))),)))
+    '"Vase" (x-default), "Krug" (de)'
     """
-    found = xmp_texts(shown)
+    found = xmp_texts(it)
     if found is None:
-        return shortened(shown)
+        return shortened(exact(it))
     shows_language = not {language for _, language in found if language} <= {"x-default"}
     return ", ".join(quoted(text) + (f" ({language})" if shows_language and language else "") for text, language in found) or EMPTY

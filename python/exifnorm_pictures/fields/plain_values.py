@@ -1,18 +1,20 @@
 """Values of fields in plain words: `turn 90° clockwise to view`, `1/125 s`, `2003-05-24 22:21:01`.
 
-A value is taken as a listing shows it, so a catalogue is enough. One without plain words stays as it is shown.
+A value without plain words stays as it is printed exactly.
 """
 
 from __future__ import annotations
 
-import re
 from typing import Dict, Optional
+
+from exifnorm import Ratio
 
 from ..cli.output import escaped
 from . import plain_numbers as numbers
-from .listing import Field, shortened
+from .listing import OCTETS, Field, exact, is_comment, kept_value, shortened
 from .plain_numbers import Rule, decimal, degrees, fractions, with_unit
-from .plain_texts import EMPTY, comment, guessed, octets_of, plain_xmp, quoted, quoted_xmp, shown_comment, text_of
+from .plain_texts import EMPTY, guessed, plain_comment, plain_xmp, quoted, quoted_xmp, text_of
+from .xmp_values import Literal
 
 # Words for numbers: TIFF 6.0 and CIPA DC-008 (Exif 2.32), 4.6
 _WORDS: Dict[str, Dict[str, str]] = {}
@@ -56,11 +58,11 @@ _words("0106", "0 white is zero; 1 black is zero; 2 RGB; 3 palette; 4 mask; 5 CM
 _words("0213", "1 centred; 2 co-sited")
 
 
-def _flash(shown: str) -> Optional[str]:
+def _flash(it: Field) -> Optional[str]:
     """Flash, bit by bit (CIPA DC-008, 4.6.5)."""
-    if not re.fullmatch("[0-9]{1,9}", shown):
+    bits = numbers.integer(it)
+    if bits is None or not 0 <= bits < 1_000_000_000:
         return None
-    bits = int(shown)
     if bits & 0x20:
         return "no flash in the camera"
     words = ["fired" if bits & 1 else "did not fire"]
@@ -70,7 +72,20 @@ def _flash(shown: str) -> Optional[str]:
 
 
 def _table(words: Dict[str, str]) -> Rule:
-    return words.get
+    return lambda it: words.get(str(numbers.integer(it)))
+
+
+def _letter(words: Dict[str, str]) -> Rule:
+    return lambda it: words.get(text_of(it) or "")
+
+
+def _byte(*words: str) -> Rule:
+    known = {bytes([number]): word for number, word in enumerate(words)}
+    return lambda it: known.get(it.value) if isinstance(it.value, bytes) else None
+
+
+def _character_set(it: Field) -> Optional[str]:
+    return "UTF-8" if it.value == b"\x1b%G" else None
 
 
 _EXIF: Dict[str, Rule] = {
@@ -87,19 +102,19 @@ _EXIF: Dict[str, Rule] = {
     "9203": with_unit(" EV", 2),
     "9209": _flash,
     "a432": numbers.lens,
-    "9286": shown_comment,
+    "9286": plain_comment,
     "9000": numbers.version,
     "a000": numbers.version,
 }
 _GPS: Dict[str, Rule] = {
     **dict.fromkeys(("0002", "0004", "0014", "0016"), numbers.angle),
     **dict.fromkeys(("000f", "0011", "0018"), with_unit("°", 2)),
-    **dict.fromkeys(("001b", "001c"), shown_comment),
-    **dict.fromkeys(("0001", "0013"), _table({'"N"': "north", '"S"': "south"})),
-    **dict.fromkeys(("0003", "0015"), _table({'"E"': "east", '"W"': "west"})),
-    **dict.fromkeys(("000c", "0019"), _table({'"K"': "kilometres", '"M"': "miles", '"N"': "nautical miles"})),
+    **dict.fromkeys(("001b", "001c"), plain_comment),
+    **dict.fromkeys(("0001", "0013"), _letter({"N": "north", "S": "south"})),
+    **dict.fromkeys(("0003", "0015"), _letter({"E": "east", "W": "west"})),
+    **dict.fromkeys(("000c", "0019"), _letter({"K": "kilometres", "M": "miles", "N": "nautical miles"})),
     "0000": numbers.dotted,
-    "0005": _table({"0x00": "above sea level", "0x01": "below sea level"}),
+    "0005": _byte("above sea level", "below sea level"),
     "0006": with_unit(" m", 1),
     "0007": numbers.clock,
     "000d": with_unit("", 2),
@@ -110,67 +125,63 @@ _IIM: Dict[str, Rule] = {
     **dict.fromkeys(("1:70", "2:30", "2:37", "2:47", "2:55", "2:62"), numbers.iptc_date),
     **dict.fromkeys(("1:80", "2:35", "2:38", "2:60", "2:63"), numbers.iptc_time),
     **dict.fromkeys(("1:0", "1:20", "1:22", "2:0"), numbers.iptc_number),
-    "1:90": _table({'"\\x1b%G"': "UTF-8", "0x1b2547": "UTF-8"}),
+    "1:90": _character_set,
 }
 _RULES = {"main": _EXIF, "exif": _EXIF, "thumb": _EXIF, "gps": _GPS, "iptc": _IIM}
-_OCTETS = ("BYTE", "SBYTE", "UNDEFINED", "octets", "ASCII", "UTF8")
-_COMMENTS = {("exif", "9286"), ("main", "9286"), ("gps", "001b"), ("gps", "001c")}
 
 
-def plain(it: Field, octets: Optional[bytes] = None) -> str:
-    """The value of a field as a person writes it. `octets`, its bytes if they are known, are for texts that a listing shortens.
+def plain(it: Field) -> str:
+    """The value of a field as a person writes it.
 
-    >>> plain(Field("exif", "829a", "RATIONAL", 1, "10/1250")), plain(Field("main", "0112", "SHORT", 1, "6"))
+    >>> plain(Field("exif", "829a", "RATIONAL", 1, (Ratio(10, 1250),))), plain(Field("main", "0112", "SHORT", 1, (6,)))
     ('1/125 s', 'turn 90° clockwise to view')
     """
     if it.where == "xmp":
-        return plain_xmp(it.shown) or EMPTY
-    return _in_words(it, octets) or _text(it, octets) or _without_words(it)
+        return plain_xmp(it) or EMPTY
+    return _in_words(it) or _text(it) or _without_words(it)
 
 
 def in_line(it: Field) -> str:
     """The plain value in one line, in which a text is in quotes.
 
-    >>> in_line(Field("main", "013b", "ASCII", 5, '"Otto"')), in_line(Field("xmp", "dc:title", "Alt", 1, 'Alt["Vase"@x-default]'))
+    >>> in_line(Field("main", "013b", "ASCII", 5, b"Otto\\0")), in_line(Field("xmp", "dc:title", "text", 1, (Literal("Vase"),)))
     ('"Otto"', '"Vase"')
     """
     if it.where == "xmp":
-        return quoted_xmp(it.shown)
-    words = _in_words(it, None)
-    text = words if (it.where, it.key) in _COMMENTS else None if words else _text(it, None)
+        return quoted_xmp(it)
+    words = _in_words(it)
+    text = words if is_comment(it) else None if words else _text(it)
     if text is None or text == EMPTY:
         return escaped(words or text or _without_words(it))
     return quoted(text)
 
 
-def _in_words(it: Field, octets: Optional[bytes]) -> Optional[str]:
+def _in_words(it: Field) -> Optional[str]:
     """The value by the rule of its field, if there is one."""
-    if (it.where, it.key) in _COMMENTS and octets is not None and (text := comment(octets)) is not None:
-        return text or EMPTY
     rule = _RULES.get(it.where, {}).get(it.key)
-    return rule(it.shown) if rule else None
+    return rule(it) if rule else None
 
 
-def _text(it: Field, octets: Optional[bytes]) -> Optional[str]:
-    """A text, also one that isn't UTF-8 or is too long to be shown; None for a value that is no text."""
-    text = text_of(it.shown)
+def _text(it: Field) -> Optional[str]:
+    """A text, also one that isn't UTF-8; None for a value that is no text, or isn't kept."""
+    text = text_of(it)
     if text is not None:
         return text.rstrip("\0 ") or EMPTY
-    if it.type not in ("ASCII", "UTF8") and it.where != "iptc":
-        return None
-    known = octets if octets is not None else octets_of(it.shown)
-    return None if known is None else guessed(known) or EMPTY
+    if (it.type in ("ASCII", "UTF8") or it.where == "iptc") and isinstance(kept_value(it), bytes):
+        return guessed(it.value) or EMPTY  # type: ignore[arg-type]
+    return None
 
 
 def _without_words(it: Field) -> str:
-    """Numbers as decimals, and the number of bytes that are too many to be shown."""
-    if it.type in _OCTETS:
-        digest = it.shown.rpartition("sha256:")[2][:8]
-        return f"{it.elements:,} bytes (SHA-256 {digest}..)" if "sha256:" in it.shown else shortened(it.shown)
-    found = fractions(it.shown)
-    if found and "/" in it.shown:
+    """Numbers as decimals, and the number of bytes that are too many to be printed."""
+    if it.type in OCTETS:
+        text = exact(it)
+        digest = text.rpartition("sha256:")[2][:8]
+        return f"{it.elements:,} bytes (SHA-256 {digest}..)" if "sha256:" in text else text
+    found = fractions(it)
+    if found and it.type in numbers.RATIOS:
         return ", ".join(numbers.UNKNOWN if one is None else decimal(one) for one in found)
-    return shortened(it.shown)
+    return shortened(exact(it))
 
 
 _HALVES = (("0001", "0002"), ("0003", "0004"))
@@ -180,15 +191,16 @@ POSITION = tuple(key for half in _HALVES for key in half)  # the tags of the fou
 def position(fields: Dict[str, Field]) -> Optional[str]:
     """The position of the GPS directory in degrees, of its fields by tag; None if a part is missing.
 
-    >>> some = {"0001": '"N"', "0002": "46/1 30/1 0/1", "0003": '"E"', "0004": "7/1 1213/100 0/1"}
-    >>> position({key: Field("gps", key, "", 1, value) for key, value in some.items()})
+    >>> angles = {"0002": (Ratio(46, 1), Ratio(30, 1), Ratio(0, 1)), "0004": (Ratio(7, 1), Ratio(1213, 100), Ratio(0, 1))}
+    >>> some = {key: Field("gps", key, "RATIONAL", 3, value) for key, value in angles.items()}
+    >>> position({**some, "0001": Field("gps", "0001", "ASCII", 2, b"N\\0"), "0003": Field("gps", "0003", "ASCII", 2, b"E\\0")})
     '46.500000° N, 7.202167° E'
     """
     words = []
     for letter, angle in _HALVES:
         if letter not in fields or angle not in fields:
             return None
-        found, name = degrees(fields[angle].shown), text_of(fields[letter].shown)
+        found, name = degrees(fields[angle]), text_of(fields[letter])
         if found is None or name not in ("N", "S", "E", "W"):
             return None
         words.append(f"{float(found):.6f}° {name}")

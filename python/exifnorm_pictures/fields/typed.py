@@ -1,53 +1,71 @@
-"""Values of fields for programs: texts, numbers, lists of these, and objects for what is neither or isn't kept whole."""
+"""Values of fields for programs: their types follow from the fields, and never from what a field has in a picture."""
 
 from __future__ import annotations
 
 import math
-import re
 import struct
-from typing import Any, List, Optional, Sequence
+from datetime import date, datetime, time
+from fractions import Fraction
+from typing import Any, List, Optional, Sequence, Tuple, Union
 
-from .listing import Field
-from .plain_numbers import fractions
-from .plain_texts import octets_of, text_of, xmp_texts
+from .listing import Field, is_comment, is_wide_text, kept_value, marked_text
+from .plain_texts import comment, is_utf8, xmp_texts
+from .xmp_values import Array, Literal, Long, Resource, XmpValue
 
-_PATTERNS = {"FLOAT": ">f", "DOUBLE": ">d"}
-_DIGEST = re.compile("sha256:([0-9a-f]+)$")
+Value = Union[str, int, float, Fraction, datetime, date, time, bytes, None, Tuple[Any, ...]]
+
+_DATES = {("main", "0132"), ("exif", "9003"), ("exif", "9004")}
+_VERSIONS = {("exif", "9000"), ("exif", "a000"), ("interop", "0002")}  # UNDEFINED, and digits by the standard
+_DATASET_DATES = {"1:70", "2:30", "2:37", "2:47", "2:55", "2:62"}
+_DATASET_TIMES = {"1:80", "2:35", "2:38", "2:60", "2:63"}
+_DATASET_NUMBERS = {"1:0", "1:20", "1:22", "2:0"}
+_DATASET_OCTETS = {"1:90", "2:125", "2:202"}
 
 
-def typed(it: Field, octets: Optional[bytes] = None) -> Any:
-    """The value of a field as JSON has it; None for a structure of XMP. `octets`, its bytes if they are known, are for a long text.
+def value_of(it: Field) -> Value:
+    """The value of a field as an object of Python.
 
-    >>> typed(Field("main", "0112", "SHORT", 1, "6")), typed(Field("exif", "829a", "RATIONAL", 1, "10/1250"))
-    (6, 0.008)
-    >>> typed(Field("exif", "9000", "UNDEFINED", 4, "0xff00")), typed(Field("main", "010f", "ASCII", 4, '"abc"'))
-    ({'hex': 'ff00'}, 'abc')
+    A text is a str; so is a date in another form than its standard's. Of several elements, and of a list of XMP, it is a tuple.
+
+    >>> value_of(Field("exif", "829a", "RATIONAL", 1, ((1, 60),))), value_of(Field("exif", "9003", "ASCII", 20, b"2019:03:12 11:20:45\\0"))
+    (Fraction(1, 60), datetime.datetime(2019, 3, 12, 11, 20, 45))
     """
-    short = _DIGEST.search(it.shown)
-    if short and not it.shown.endswith('"'):
-        text = _long_text(it, octets)
-        if text is not None:
-            return text
-        return {"sha256": short[1], "count": it.elements}
+    if isinstance(it.value, Long):
+        return None
     if it.where == "xmp":
-        return _of_xmp(it)
-    text = text_of(it.shown)
-    if text is not None:
-        return text
-    octets = octets_of(it.shown)
-    if octets is not None:
-        return {"hex": octets.hex()}
-    numbers = _numbers(it)
-    return numbers[0] if len(numbers) == 1 else numbers
+        return _of_xmp(it.value)  # type: ignore[arg-type]
+    if not isinstance(it.value, bytes):
+        return _one_or_all(_numbers(it))
+    found = _of_octets(it, it.value)
+    text = found.strip("\0 ") if isinstance(found, str) else ""
+    if (it.where, it.key) in _DATES:
+        return _moment(text, "%Y:%m:%d %H:%M:%S") or found
+    if it.where == "iptc" and it.key in _DATASET_DATES:
+        day = _moment(text, "%Y%m%d")
+        return day.date() if day else found
+    if it.where == "iptc" and it.key in _DATASET_TIMES:
+        moment = _moment(text, "%H%M%S%z") or _moment(text, "%H%M%S")
+        return moment.timetz() if moment else found
+    return found
 
 
-def _long_text(it: Field, octets: Optional[bytes]) -> Optional[str]:
-    if octets is None or not (it.type in ("ASCII", "UTF8") or it.where == "iptc"):
-        return None
-    try:
-        return (octets[:-1] if octets.endswith(b"\0") else octets).decode("utf-8")
-    except UnicodeDecodeError:
-        return None
+def typed(it: Field) -> Any:
+    """The value of a field as JSON has it; None for a structure of XMP.
+
+    >>> typed(Field("main", "0112", "SHORT", 1, (6,))), typed(Field("exif", "829a", "RATIONAL", 1, ((10, 1250),)))
+    (6, 0.008)
+    >>> typed(Field("gps", "0005", "BYTE", 1, b"A")), typed(Field("exif", "9101", "UNDEFINED", 4, b"\\1\\2\\3\\0"))
+    (65, {'hex': '01020300'})
+    """
+    value = kept_value(it)
+    if it.where == "xmp":
+        return _json_of_xmp(it)
+    if isinstance(value, Long):
+        return {"sha256": value.digest, "count": it.elements}
+    found = _of_octets(it, value) if isinstance(value, bytes) else _one_or_all(_numbers(it))
+    if isinstance(found, bytes):
+        return {"hex": found.hex()}
+    return [_json_number(one) for one in found] if isinstance(found, tuple) else _json_number(found)
 
 
 def together(fields: Sequence[Field]) -> Any:
@@ -55,21 +73,115 @@ def together(fields: Sequence[Field]) -> Any:
     return typed(fields[0]) if len(fields) == 1 else [typed(it) for it in fields]
 
 
-def _numbers(it: Field) -> List[Optional[float]]:
-    """Numbers; None for one that is none: a denominator of 0, or no number of IEEE 754."""
-    form = _PATTERNS.get(it.type)
-    if form:
-        found = [struct.unpack(form, bytes.fromhex(word))[0] for word in it.shown.split()]
-        return [one if math.isfinite(one) else None for one in found]
-    numbers = fractions(it.shown) or []
-    return [None if one is None else int(one) if one.denominator == 1 else float(one) for one in numbers]
+def _json_number(it: Any) -> Any:
+    if isinstance(it, Fraction):
+        return int(it) if it.denominator == 1 else float(it)
+    return None if isinstance(it, float) and not math.isfinite(it) else it
 
 
-def _of_xmp(it: Field) -> Any:
-    """A text, a list of texts, or a list of texts with their languages."""
-    found = xmp_texts(it.shown)
-    if found is None:
+def _one_or_all(values: Sequence[Value]) -> Value:
+    return values[0] if len(values) == 1 else tuple(values)
+
+
+def _numbers(it: Field) -> List[Value]:
+    """The numbers of a field; None for a fraction with the denominator 0."""
+    values: Any = it.value
+    if it.type in ("RATIONAL", "SRATIONAL"):
+        return [Fraction(*one) if one[1] else None for one in values]
+    if it.type in ("FLOAT", "DOUBLE"):
+        size, form = (4, ">f") if it.type == "FLOAT" else (8, ">d")
+        return [struct.unpack(form, one.to_bytes(size, "big"))[0] for one in values]
+    return list(values)
+
+
+def _of_octets(it: Field, octets: bytes) -> Value:
+    """A text, numbers, or the bytes."""
+    if it.where == "iptc":
+        return _of_dataset(it.key, octets)
+    if it.type in ("ASCII", "UTF8") or (it.where, it.key) in _VERSIONS:
+        return _text(octets)
+    if is_comment(it):
+        marked = marked_text(it, octets)
+        text = marked[1] if marked else comment(octets)
+        return octets if text is None else text
+    if is_wide_text(it):
+        return octets[: len(octets) & ~1].decode("utf-16-le", "replace").rstrip("\0")
+    if it.type in ("BYTE", "SBYTE"):
+        return _one_or_all(struct.unpack(f"{len(octets)}{'B' if it.type == 'BYTE' else 'b'}", octets))
+    return octets
+
+
+def _of_dataset(key: str, octets: bytes) -> Value:
+    if key in _DATASET_NUMBERS:
+        return int.from_bytes(octets, "big")
+    return _text(octets) if key[:2] in ("1:", "2:") and key not in _DATASET_OCTETS else octets
+
+
+def _text(octets: bytes) -> str:
+    bare = octets.rstrip(b"\0")
+    return bare.decode("utf-8" if is_utf8(bare) else "cp1252", "backslashreplace")
+
+
+def _moment(text: str, form: str) -> Optional[datetime]:
+    try:
+        return datetime.strptime(text, form)
+    except ValueError:
         return None
+
+
+def raw(it: Field) -> Optional[bytes]:
+    """The bytes of a value, most significant byte first; None for XMP, and for a value that isn't kept whole."""
+    if isinstance(it.value, bytes):
+        return it.value
+    if isinstance(it.value, Long) or it.where == "xmp":
+        return None
+    values: Any = it.value
+    if it.type in ("RATIONAL", "SRATIONAL"):
+        values = [number for one in values for number in one]
+    return struct.pack(f">{len(values)}{_LETTERS[it.type]}", *values)
+
+
+_LETTERS = {
+    "SHORT": "H",
+    "LONG": "L",
+    "WHOLE": "L",
+    "RATIONAL": "L",
+    "SSHORT": "h",
+    "SLONG": "l",
+    "SRATIONAL": "l",
+    "FLOAT": "L",
+    "DOUBLE": "Q",
+}
+
+
+# XMP
+
+
+def _of_xmp(values: Sequence[XmpValue]) -> Value:
+    return _one_of_xmp(values[0]) if len(values) == 1 else tuple(map(_one_of_xmp, values))
+
+
+def _one_of_xmp(value: XmpValue) -> Value:
+    """A text; of alternatives the default one; of a list a tuple; None for a structure."""
+    if isinstance(value, Literal):
+        return value.text
+    if isinstance(value, Resource):
+        return value.uri
+    if not isinstance(value, Array):
+        return None
+    members = value.members
+    if value.kind != "Alt":
+        return tuple(map(_one_of_xmp, members))
+    default = [it for it in members if isinstance(it, Literal) and it.language.lower() == "x-default"] or members
+    return _one_of_xmp(default[0]) if default else ()
+
+
+def _json_of_xmp(it: Field) -> Any:
+    """A text, a list of texts, or a list of texts with their languages."""
+    found = xmp_texts(it._replace(value=kept_value(it)))
+    if found is None:
+        long = [one for one in kept_value(it) if isinstance(one, Long)]
+        return {"sha256": long[0].digest, "count": it.elements} if long else None
     if any(language for _, language in found):
         return [{"text": text, "language": language or None} for text, language in found]
     texts = [text for text, _ in found]

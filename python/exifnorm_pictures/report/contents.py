@@ -121,7 +121,7 @@ def gather(about: About) -> Gathered:
     ):
         sentence = group.sentence() + f"; {groups.KEEP_ALL}" * group.rests_on_readings
         found.groups.append((group.count, sentence, list(group.pictures(MOST_OF_GROUP))))
-    for one in checked(catalogue, catalogue.pictures(about.table()), about.look):
+    for one in checked(catalogue, catalogue.pictures(about.table())):
         found.contradictions.add(one, MOST_CONTRADICTIONS)
     if about.old is not None:
         _gather_changes(found, about)
@@ -213,7 +213,7 @@ def members(about: About) -> Iterator[Members]:
         yield {"maker_notes_unknown": dict(unknown)}
     if about.old is not None:
         yield from _changed_members(about)
-    for one in checked(catalogue, catalogue.pictures(about.table()), about.look):
+    for one in checked(catalogue, catalogue.pictures(about.table())):
         if one.real:
             yield {"contradicts_itself": path_members(one.path), "conflicts": [_conflict_members(label) for label in one.real]}
     for it in _refused(about):

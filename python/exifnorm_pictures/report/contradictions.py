@@ -1,6 +1,6 @@
 """The pictures of a catalogue whose Exif, IPTC and XMP contradict each other, for the report.
 
-The texts are those of the catalogue. Of a long one it keeps only a digest: then the file is read, for so many pictures at most.
+The texts are those of the catalogue, which keeps all but enormous ones.
 """
 
 from __future__ import annotations
@@ -15,9 +15,8 @@ from ..catalogue.texts import PictureTexts, texts_of
 from ..compare.conflicts import ALIKE, Conflict, conflicts
 from ..compare.verdicts import ACCEPTED
 from ..fields.labels import COMMENT, STANDARDS, WORDS
-from ..fields.listing import unpacked
+from ..fields.packing import unpacked
 
-MOST_FILES = 1000  # that are read for their long texts
 _COMPARED = tuple(it for it in WORDS if it != COMMENT)
 
 
@@ -57,18 +56,14 @@ class Contradictions:
             self.first.append((it.path, real))
 
 
-def checked(catalogue: Catalogue, pictures: Iterator[Picture], look: bool) -> Iterator[Checked]:
-    """The pictures with metadata in two standards at least. With `look` files are read for long texts."""
-    left = MOST_FILES if look else 0
+def checked(catalogue: Catalogue, pictures: Iterator[Picture]) -> Iterator[Checked]:
+    """The pictures with metadata in two standards at least."""
     for it in pictures:
         if it.problem or sum(octets != "" for octets in it.octets) < 2:
             continue
         with catalogue.guarded():
             blocks = [(block, unpacked(kept) if kept else []) for block, kept in catalogue.blocks_of(it)]
-        found = texts_of(it, blocks, False, _COMPARED)
-        if found.missing and left:
-            left -= 1
-            found = texts_of(it, blocks, True, _COMPARED)
+        found = texts_of(blocks, _COMPARED)
         yield _checked(it, [block for block, _ in blocks], found)
 
 

@@ -243,7 +243,7 @@ def _contradictions(found: Gathered) -> str:
     if known.minor:
         parts.append(f'<p class="note">{_counted(known.minor, "more picture")} with differences of form alone: see conflicts --all</p>')
     if known.unread:
-        why = "a block is refused or unreadable, or a long text isn't in the catalogue and its file wasn't read"
+        why = "a block is refused or unreadable, or a text is too long for the catalogue"
         parts.append(f'<p class="note">{_counted(known.unread, "picture")} not wholly compared: {why}</p>')
     return "".join(parts) + "</section>\n"
 

@@ -7,9 +7,8 @@ from typing import Dict, Optional, Sequence
 
 import exifnorm
 
-from ..extract import extraction, judge, programs
+from ..extract import extraction, programs
 from ..extract.formats.found import EXIF
-from ..fields.listing import thumbnail
 from ..files import opening
 
 LARGEST = 32_768  # bytes of one small picture
@@ -47,7 +46,7 @@ def _embedded(block: Optional[bytes]) -> Optional[bytes]:
     if not block:
         return None
     try:
-        return thumbnail(judge.listing(block))
+        return next((it.values for it in exifnorm.fields(block) if it.type == "JPEG" and isinstance(it.values, bytes)), None)
     except (exifnorm.Refused, exifnorm.NormalTooLong, MemoryError):
         return None
 

@@ -23,20 +23,20 @@ FINE, COARSE = 20_000_000, 2_000_000_000
 _NOT_OPENED = ("Vanished", "LinkToNothing", "NotAFile", "Unreadable")  # the problems of files whose bytes nobody can read
 
 
-def look(it: FoundFile, how: How) -> PictureRecord:
-    """The result for one file. An error of any kind affects only this file."""
-    return _compared_with_before(it, _look(it, how))
+def look(it: FoundFile, how: How, packs: bool = True) -> PictureRecord:
+    """The result for one file, its fields packed for a catalogue unless that isn't asked for. An error of any kind affects only this file."""
+    return _compared_with_before(it, _look(it, how, packs))
 
 
 def _compared_with_before(it: FoundFile, found: PictureRecord) -> PictureRecord:
     return found._replace(is_known=True) if found.problem and found.problem == it.problem else found
 
 
-def _look(it: FoundFile, how: How) -> PictureRecord:
+def _look(it: FoundFile, how: How, packs: bool) -> PictureRecord:
     began = _now()
     try:
         marks = sidecars.marks(it.path, it.sidecars, lambda *times: _is_racy(times, began)) if it.sidecars else ""
-        blocks, judged = _read(it, how)
+        blocks, judged = _read(it, how, packs)
         whole_file = file_digest(it.path, blocks, how.whole)
         if it.sidecars:
             whole_file = sidecars.with_sidecars(whole_file, it.path, it.sidecars)
@@ -59,7 +59,7 @@ def _look(it: FoundFile, how: How) -> PictureRecord:
     return found._replace(notes=notes, coded_picture=coded, beside=beside, damage=damage, sha256=whole, sidecars=marks)
 
 
-def _read(it: FoundFile, how: How) -> Tuple[Blocks, List[Block]]:
+def _read(it: FoundFile, how: How, packs: bool) -> Tuple[Blocks, List[Block]]:
     """The blocks of a file and its sidecars, and what they mean. A file over a limit has a problem, and so has one for which a program takes too long."""
     try:
         blocks = extraction.blocks_of(it.path, how.whole)
@@ -67,7 +67,7 @@ def _read(it: FoundFile, how: How) -> Tuple[Blocks, List[Block]]:
             blocks = Blocks(problem="Vanished", detail=PROBLEMS["Vanished"])
         if it.sidecars:
             sidecars.add(blocks, it.path, it.sidecars)
-        return blocks, [] if blocks.problem else judge.judge_all(blocks, with_fields=True)
+        return blocks, [] if blocks.problem else judge.judge_all(blocks, packs)
     except TooMuch as why:
         return extraction.too_much(why), []
     except programs.TooSlow as error:

@@ -15,7 +15,7 @@ entity is expanded and nothing is fetched.
 
 from .packets import CAUSES, Unreadable
 from .reading import Extensions, digest, statements
-from .shown import fields
+from .properties import fields
 from .tree import Statements
 
 __all__ = ["CAUSES", "Extensions", "Statements", "Unreadable", "digest", "fields", "statements"]

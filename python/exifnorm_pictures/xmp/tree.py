@@ -6,24 +6,12 @@ import hashlib
 import re
 from typing import Dict, List, NamedTuple, Tuple, Union
 
+from ..fields.xmp_values import Literal, Resource
+
 RDF = "http://www.w3.org/1999/02/22-rdf-syntax-ns#"
 TYPE = RDF + "type"
 CONTAINERS = {RDF + "Bag": "Bag", RDF + "Seq": "Seq", RDF + "Alt": "Alt"}
 MEMBER = re.compile(re.escape(RDF) + r"_([0-9]+)\Z")
-
-
-class Literal(NamedTuple):
-    """A text with its language and its type, either of which may be empty."""
-
-    text: str
-    language: str = ""
-    datatype: str = ""
-
-
-class Resource(NamedTuple):
-    """A name in the form of a URI."""
-
-    uri: str
 
 
 class Node(NamedTuple):
@@ -50,6 +38,23 @@ class Statement(NamedTuple):
 
 
 Statements = Tuple[Statement, ...]
+
+
+__all__ = [
+    "CONTAINERS",
+    "MEMBER",
+    "RDF",
+    "TYPE",
+    "Literal",
+    "Node",
+    "Resource",
+    "Statement",
+    "Statements",
+    "Value",
+    "digest_of",
+    "key_of",
+    "unique",
+]
 
 
 def key_of(value: Value) -> str:

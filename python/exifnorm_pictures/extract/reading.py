@@ -1,0 +1,70 @@
+"""A picture that was read: its judged blocks, the texts that they have, and what was not read."""
+
+from __future__ import annotations
+
+from dataclasses import dataclass, field
+from typing import List, Optional
+
+from ..catalogue.records import Block
+from ..compare.verdicts import ACCEPTED
+from ..fields.labels import STANDARDS, LabelText, camera_of, of_block, with_own
+from .budgets import TooMuch
+from .extraction import too_much
+from .formats.found import EXIF, NAMES, Blocks, FoundBlock, damage
+from .judge import judge_all
+
+
+@dataclass
+class Reading:
+    """A picture with its judged blocks, each with its fields, which are made when they are asked for; none if the picture has a problem."""
+
+    name: bytes
+    read: Blocks
+    blocks: List[Block]
+    _texts: Optional[List[LabelText]] = field(default=None, repr=False, compare=False)
+
+    @classmethod
+    def of(cls, name: bytes, blocks: Blocks) -> "Reading":
+        """A picture by its blocks. One that goes over a limit has a problem."""
+        try:
+            return cls(name, blocks, [] if blocks.problem else judge_all(blocks))
+        except TooMuch as why:
+            return cls(name, too_much(why), [])
+
+    @property
+    def problem(self) -> str:
+        """Why the file could not be read; empty if it was."""
+        return self.read.problem or ""
+
+    @property
+    def detail(self) -> str:
+        """The problem in words."""
+        return self.read.detail
+
+    @property
+    def not_read(self) -> List[str]:
+        """The parts that were not read."""
+        return [it.what for it in self.read.not_read]
+
+    @property
+    def is_damaged(self) -> bool:
+        """Whether the status of a command says that not everything is known."""
+        return bool(self.problem or damage(self.not_read)) or any(it.status != ACCEPTED for it in self.blocks)
+
+    @property
+    def texts(self) -> List[LabelText]:
+        """The texts by label, in the order of the standards. Those of a refused block are read after its repair, if one is known."""
+        if self._texts is None:
+            found = [
+                it._replace(block="" if block.name == NAMES[block.kind] else block.name)
+                for block in self.blocks
+                for it in of_block(block.fields)
+            ]
+            cameras = (camera_of(block.fields) for block in self.blocks if block.kind == EXIF)
+            camera = next(filter(any, cameras), ("", ""))
+            self._texts = with_own(sorted(found, key=lambda it: STANDARDS.index(it.standard)), *camera)
+        return self._texts
+
+    def found(self, block: Block) -> FoundBlock:
+        """A block as it was found."""
+        return next(it for it in self.read.found if it.name == block.name)

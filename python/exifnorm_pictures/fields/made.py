@@ -1,0 +1,26 @@
+"""The fields of a block that was judged just now."""
+
+from __future__ import annotations
+
+from typing import List, Optional, Union
+
+from .. import xmp
+from . import normal_form
+from .listing import Field
+
+
+class Fields:
+    """The fields of a normal form or of the statements of a packet: made once, when somebody asks for them."""
+
+    __slots__ = ("_source", "_made")
+
+    def __init__(self, source: Union[bytes, xmp.Statements]) -> None:
+        self._source = source
+        self._made: Optional[List[Field]] = None
+
+    def all(self) -> List[Field]:
+        """The fields, in the order of a listing."""
+        if self._made is None:
+            source = self._source
+            self._made = normal_form.fields(source) if isinstance(source, bytes) else xmp.fields(source)
+        return self._made

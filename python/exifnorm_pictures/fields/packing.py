@@ -1,0 +1,202 @@
+"""Fields with their values as few bytes, for a catalogue: JSON, and where that is long, compressed.
+
+A field is the list `[directory, key, type, elements, value]`, in which the value is by the type:
+
+- bytes: a text if they are one in UTF-8 that can be printed, perhaps with a NUL at its end, which the number of elements shows;
+  otherwise a list of their hexadecimal digits
+- numbers: one number, or a list of them; of fractions a list of their two numbers each
+- XMP: a list of its values. A text is a text, or a list of it, its language and its datatype; a URI `{"uri": ..}`; a list
+  `{"Alt": [..]}`; and a structure `{"fields": [[name, value], ..]}`
+- a value that is too long: its digest and its beginning, `["..", ".."]`, in XMP `{"sha256": "..", "begins": ".."}`
+"""
+
+from __future__ import annotations
+
+import hashlib
+import json
+import zlib
+from typing import Any, Callable, List, NamedTuple, Optional, Sequence
+
+from exifnorm import Ratio
+
+from ..catalogue.records import Damaged
+from ..extract.budgets import FIELD_BYTES
+from .listing import LONGEST_BYTES, MAKER_NOTE, OCTETS, Field, Value, digest_of, kept_value, plain_text
+from .xmp_values import Array, Literal, Long, Resource, Structure, XmpValue
+
+_SHORTEST = 200  # characters of a list that compression makes longer, or hardly shorter
+_SHORT = 4096  # characters of a list that is compressed with small buffers
+
+_quoted: Callable[[str], str] = json.encoder.encode_basestring_ascii  # type: ignore[attr-defined]  # typeshed lacks it
+
+
+class Packed(NamedTuple):
+    """The fields of a block for a catalogue."""
+
+    octets: bytes
+    but_note: Optional[str]  # a digest of all but the MakerNote; None without one
+
+
+def packed(fields: Sequence[Field]) -> Packed:
+    """The fields as few bytes.
+
+    >>> packed([Field("main", "010f", "ASCII", 4, b"abc\\0")]).octets
+    b'[["main","010f","ASCII",4,"abc"]]'
+    """
+    lines = [
+        f'["{it[0]}",{_quoted(it[1])},"{it[2]}",{it[3]},{_json_of_octets(it) if it[2] in OCTETS else _json_of_others(it)}]' for it in fields
+    ]
+    text = f"[{','.join(lines)}]".encode("ascii")
+    note = next((number for number, it in enumerate(fields) if it[:2] == MAKER_NOTE), None)
+    if note is None:
+        return Packed(_compressed(text, len(fields)), None)
+    del lines[note]
+    return Packed(_compressed(text, len(fields)), hashlib.blake2b(",".join(lines).encode("ascii"), digest_size=32).hexdigest())
+
+
+def left_out(octets: bytes, count: int = 0) -> bytes:
+    """In place of the packed fields of a block, where these are too many bytes: their digest."""
+    return packed([Field("", "", "", count, Long(digest_of(octets), "too many to be kept"))]).octets
+
+
+def _compressed(text: bytes, count: int) -> bytes:
+    """So many fields, as JSON, as few bytes."""
+    if len(text) > FIELD_BYTES:  # more than can be unpacked again
+        return left_out(text, count)
+    if len(text) <= _SHORTEST:
+        return text
+    if len(text) > _SHORT:
+        return zlib.compress(text, 6)
+    # zlib's default buffers are made for long texts, and clearing them takes longer than compressing a short one
+    compressing = zlib.compressobj(6, zlib.DEFLATED, 12, 5)
+    return compressing.compress(text) + compressing.flush()
+
+
+def _json_of_octets(it: Field) -> str:
+    value = it.value
+    if not isinstance(value, bytes) or len(value) > LONGEST_BYTES or it.where == "thumb":  # which a short value needn't be asked
+        value = kept_value(it)
+    if isinstance(value, bytes):
+        text = plain_text(value)
+        return _quoted(text) if text is not None else f'["{value.hex()}"]'
+    assert isinstance(value, Long) and isinstance(value.begins, bytes)
+    return f'["{value.digest}","{value.begins.hex()}"]'
+
+
+def _json_of_others(it: Field) -> str:
+    value: Any = it.value
+    if it.elements == 1 and it.where != "xmp" and not isinstance(value, Long):
+        one = value[0]
+        return f"[{one[0]},{one[1]}]" if isinstance(one, tuple) else str(one)
+    value = kept_value(it)
+    if isinstance(value, Long):
+        return f'["{value.digest}",{_quoted(str(value.begins))}]'
+    if it.where == "xmp":
+        return f"[{','.join(map(_json_of_property, value))}]"
+    if it.type in ("RATIONAL", "SRATIONAL"):
+        return f"[{','.join(['%d,%d' % one for one in value])}]"
+    return str(value[0]) if len(value) == 1 else f"[{','.join(map(str, value))}]"
+
+
+def _json_of_property(value: XmpValue) -> str:
+    if isinstance(value, Literal):
+        if not value.language and not value.datatype:
+            return _quoted(value.text)
+        return f"[{_quoted(value.text)},{_quoted(value.language)}" + (f",{_quoted(value.datatype)}]" if value.datatype else "]")
+    if isinstance(value, Resource):
+        return f'{{"uri":{_quoted(value.uri)}}}'
+    if isinstance(value, Array):
+        return f'{{"{value.kind}":[{",".join(map(_json_of_property, value.members))}]}}'
+    if isinstance(value, Long):
+        return f'{{"sha256":"{value.digest}","begins":{_quoted(str(value.begins))}}}'
+    return f'{{"fields":[{",".join([f"[{_quoted(name)},{_json_of_property(one)}]" for name, one in value.members])}]}}'
+
+
+# And back. A catalogue may be damaged or a stranger's, so nothing is taken on trust.
+
+
+def unpacked(octets: bytes) -> List[Field]:
+    """The fields from the result of `packed`. No compressed text begins with a bracket (RFC 1950, 2.2). Raises `Damaged`.
+
+    >>> few, many = ([Field("main", "010f", "ASCII", 4, b"abc\\0")] * number for number in (1, 1000))
+    >>> unpacked(packed(few).octets) == few, unpacked(packed(many).octets) == many
+    (True, True)
+    """
+    if not isinstance(octets, bytes):
+        raise Damaged(f"{octets!r} is a value of another type")
+    try:
+        opening = zlib.decompressobj()
+        text = octets if octets[:1] == b"[" else opening.decompress(octets, FIELD_BYTES)
+        if len(text) > FIELD_BYTES or opening.unconsumed_tail:
+            raise Damaged("the fields of a block are too long")
+        found = json.loads(text.decode("ascii"))
+        if not isinstance(found, list) or not all(isinstance(it, list) and [type(one) for one in it[:4]] == _TYPES for it in found):
+            raise Damaged("a list of fields has something else")
+        return [Field(where, key, kind, count, _value(where, kind, count, value)) for where, key, kind, count, value in found]
+    except (zlib.error, ValueError, TypeError, RecursionError) as error:
+        raise Damaged(f"fields that can't be read: {error}") from error
+
+
+_TYPES = [str, str, str, int]
+_RANGES = {
+    "SHORT": range(1 << 16),
+    **dict.fromkeys(("LONG", "WHOLE", "RATIONAL", "FLOAT"), range(1 << 32)),
+    "SSHORT": range(-(1 << 15), 1 << 15),
+    **dict.fromkeys(("SLONG", "SRATIONAL"), range(-(1 << 31), 1 << 31)),
+    "DOUBLE": range(1 << 64),
+}
+
+
+def _value(where: str, kind: str, count: int, value: Any) -> Value:
+    """A value. Raises `ValueError` and `TypeError` for anything else."""
+    if kind in OCTETS:
+        if isinstance(value, str):
+            text = value.encode("utf-8")
+            return text if len(text) >= count else text + b"\0"
+        if len(value) == 1:
+            return bytes.fromhex(value[0])
+        digest, begins = value
+        return Long(_text(digest), bytes.fromhex(begins))
+    if where == "xmp":
+        return tuple([_property(it) for it in _list(value)])
+    if not isinstance(value, int) and len(_list(value)) == 2 and isinstance(value[0], str):
+        return Long(value[0], _text(value[1]))
+    numbers = [value] if isinstance(value, int) else value
+    if kind not in _RANGES or not all(type(it) is int and it in _RANGES[kind] for it in numbers):
+        raise ValueError("something else than the numbers of a type")
+    if kind not in ("RATIONAL", "SRATIONAL"):
+        return tuple(numbers)
+    if len(numbers) % 2:
+        raise ValueError("half a fraction")
+    return tuple(map(Ratio, numbers[0::2], numbers[1::2]))
+
+
+def _property(value: Any) -> XmpValue:
+    if isinstance(value, str):
+        return Literal(value)
+    if isinstance(value, list):
+        return Literal(*map(_text, value))
+    if not isinstance(value, dict):
+        raise ValueError("a value of another type")
+    (word, *more), (first, *others) = value, value.values()
+    if word == "fields":
+        return Structure(tuple([(_text(name), _property(one)) for name, one in first]))
+    if word == "uri":
+        return Resource(_text(first))
+    if word == "sha256":
+        return Long(_text(first), _text(*others))
+    if word not in ("Alt", "Bag", "Seq") or more:
+        raise ValueError("a value of another form")
+    return Array(word, tuple([_property(it) for it in _list(first)]))
+
+
+def _text(value: Any) -> str:
+    if not isinstance(value, str):
+        raise ValueError("something else than a text")
+    return value
+
+
+def _list(value: Any) -> List[Any]:
+    if not isinstance(value, list):
+        raise ValueError("something else than a list")
+    return value

@@ -1,0 +1,131 @@
+"""Values of XMP: texts with their languages, URIs, lists and structures, in a form that is equal exactly for values that mean the same."""
+
+from __future__ import annotations
+
+import re
+from typing import Iterator, List, NamedTuple, Tuple, Union
+
+from ..cli.output import escaped
+
+VALUE = "rdf:value"  # the text itself, in a structure with what qualifies it
+_MEMBER = re.compile(r"rdf:_([0-9]+)\Z")
+
+
+class Literal(NamedTuple):
+    """A text with its language and its type, either of which may be empty."""
+
+    text: str
+    language: str = ""
+    datatype: str = ""
+
+
+class Resource(NamedTuple):
+    """A name in the form of a URI."""
+
+    uri: str
+
+
+class Array(NamedTuple):
+    """A list in the order of the file, with its kind: `Alt`, `Bag` or `Seq`. A Bag is equal to one with the same members in another order."""
+
+    kind: str
+    members: "Tuple[XmpValue, ...]"
+
+    def __eq__(self, other: object) -> bool:
+        if not isinstance(other, Array):
+            return False
+        return self.kind == other.kind and (self.members == other.members or self.ordered() == other.ordered())
+
+    def __ne__(self, other: object) -> bool:
+        return not self == other
+
+    def __hash__(self) -> int:
+        return hash((self.kind, frozenset(self.members)))
+
+    def ordered(self) -> "List[XmpValue]":
+        """The members, those of a Bag in an order that doesn't depend on the file's."""
+        return sorted(self.members, key=identity) if self.kind == "Bag" else list(self.members)
+
+
+class Structure(NamedTuple):
+    """Fields by their names, sorted: a structure, or a text with what qualifies it."""
+
+    members: "Tuple[Tuple[str, XmpValue], ...]"
+
+
+class Long(NamedTuple):
+    """In place of a value that is too long to be kept."""
+
+    digest: str  # the first digits of its SHA-256
+    begins: Union[str, bytes]  # the beginning of numbers and of XMP as they are printed exactly, or of bytes
+
+
+XmpValue = Union[Literal, Resource, Array, Structure, Long]
+
+
+def identity(value: XmpValue) -> str:
+    """A text that is equal exactly for values that mean the same."""
+    if isinstance(value, Literal):
+        return f'"{len(value.language)}:{value.language}{len(value.datatype)}:{value.datatype}{value.text}'
+    return exact(value) if isinstance(value, Resource) else "_" + exact(value)
+
+
+def exact(value: XmpValue) -> str:
+    """A value as it is printed exactly.
+
+    >>> exact(Array("Alt", (Literal("Vase", "x-default"), Literal("Krug", "de"))))
+    'Alt["Vase"@x-default, "Krug"@de]'
+    """
+    if isinstance(value, Literal):
+        text = '"' + escaped(value.text).replace('"', '\\"') + '"'
+        return text + (f"@{escaped(value.language)}" if value.language else "") + (f"^^{escaped(value.datatype)}" if value.datatype else "")
+    if isinstance(value, Resource):
+        return f"<{escaped(value.uri)}>"
+    if isinstance(value, Array):
+        return f"{value.kind}[{', '.join(map(exact, value.ordered()))}]"
+    if isinstance(value, Long):
+        return f"{value.begins!s}.. sha256:{value.digest}"
+    return "{" + ", ".join(f"{escaped(name)}={exact(one)}" for name, one in value.members) + "}"
+
+
+def texts(value: XmpValue) -> Tuple[str, ...]:
+    """The texts of a value: of a list all, of alternatives the default one. A structure has none, unless it is a text with qualifiers.
+
+    >>> texts(Array("Alt", (Literal("Krug", "de"), Literal("Vase", "x-default")))), texts(Structure((("stEvt:action", Literal("saved")),)))
+    (('Vase',), ())
+    """
+    if isinstance(value, Literal):
+        return (value.text,)
+    if isinstance(value, Resource):
+        return (value.uri,)
+    if isinstance(value, Array):
+        return _chosen(value.members) if value.kind == "Alt" else tuple(text for it in value.members for text in texts(it))
+    if isinstance(value, Long):
+        return ()
+    numbered = [(int(match[1]), it) for name, it in value.members for match in [_MEMBER.match(name)] if match]
+    if numbered:  # a list with qualifiers
+        numbered.sort(key=_number)
+        return tuple(text for _, it in numbered for text in texts(it))
+    return tuple(it.text for name, it in value.members if name == VALUE and isinstance(it, Literal))
+
+
+def _number(it: Tuple[int, XmpValue]) -> int:
+    return it[0]
+
+
+def _chosen(members: Tuple[XmpValue, ...]) -> Tuple[str, ...]:
+    every = [it for it in members if isinstance(it, Literal)]
+    return tuple(it.text for it in ([it for it in every if it.language.lower() == "x-default"] or every)[:1])
+
+
+def simple_texts(value: XmpValue) -> Iterator[Tuple[str, str]]:
+    """The texts of a value or of a list of such, each with its language. Raises `ValueError` for a structure, a text with a datatype, and a long value."""
+    if isinstance(value, Literal) and not value.datatype:
+        yield value.text, value.language
+    elif isinstance(value, Resource):
+        yield value.uri, ""
+    elif isinstance(value, Array):
+        for it in value.ordered():
+            yield from simple_texts(it)
+    else:
+        raise ValueError

@@ -1,0 +1,76 @@
+"""The properties of a packet as fields with values."""
+
+from __future__ import annotations
+
+import hashlib
+from typing import Dict, List, Tuple
+
+from ..fields.listing import DIGITS, Field
+from ..fields.xmp_names import short_name
+from ..fields.xmp_values import Array, Long, Structure, XmpValue, exact, texts
+from .tree import MEMBER, Literal, Node, Resource, Statement, Statements, Value, key_of, unique
+
+WHERE = "xmp"
+LONGEST_STRUCTURE = 400  # characters of the exact form of a value without texts that is kept whole
+
+
+def fields(found: Statements) -> List[Field]:
+    """A field for each property, by its name.
+
+    >>> fields((Statement("http://purl.org/dc/elements/1.1/format", Literal("image/jpeg")),))
+    [Field(where='xmp', key='dc:format', type='text', elements=1, value=(Literal(text='image/jpeg', language='', datatype=''),))]
+    """
+    by_property: Dict[str, List[Value]] = {}
+    for predicate, value in unique(found):
+        by_property.setdefault(short_name(predicate), []).append(value)
+    return [_field(name, values) for name, values in sorted(by_property.items())]
+
+
+def _field(name: str, values: List[Value]) -> Field:
+    word, number = _form(values[0])
+    return Field(WHERE, name, word, number if len(values) == 1 else len(values), tuple([_kept(it) for it in values]))
+
+
+def _form(value: Value) -> Tuple[str, int]:
+    """A word for the form of a value, and the number of its members."""
+    if isinstance(value, Node):
+        statements = unique(value.statements)
+        members = sum(MEMBER.match(it.predicate) is not None for it in statements)
+        return (value.container, members) if value.container else ("structure", len(statements))
+    return ("text" if isinstance(value, Literal) else "URI"), 1
+
+
+def _kept(value: Value) -> XmpValue:
+    """A value; of a long structure, which has no text that a reader shows, its beginning and a digest."""
+    found = _value(value)
+    if isinstance(value, Node) and not texts(found):
+        text = exact(found)
+        if len(text) > LONGEST_STRUCTURE:
+            return Long(hashlib.sha256(key_of(value).encode("utf-8", "surrogatepass")).hexdigest()[:DIGITS], text[:60])
+    return found
+
+
+def _value(value: Value) -> XmpValue:
+    if isinstance(value, (Literal, Resource)):
+        return value
+    statements = unique(value.statements)
+    word = value.container
+    members = [it for it in statements if word and MEMBER.match(it.predicate)]
+    if word and len(members) + 1 == len(statements):  # nothing but its type
+        members.sort(key=_place)
+        return Array(word, tuple([_value(it.value) for it in members]))
+    named = [(short_name(it.predicate), _value(it.value)) for it in statements]
+    named.sort(key=_name if len({name for name, _ in named}) == len(named) else _name_and_value)
+    return Structure(tuple(named))
+
+
+def _place(it: Statement) -> Tuple[int, str]:
+    return len(it.predicate), it.predicate
+
+
+def _name(it: Tuple[str, XmpValue]) -> str:
+    return it[0] + "="
+
+
+def _name_and_value(it: Tuple[str, XmpValue]) -> str:
+    return f"{it[0]}={exact(it[1])}"
