@@ -3,4 +3,87 @@
 The readers of `formats` extract the blocks of pictures, and ExifTool those that they don't read. exifnorm judges the blocks in
 this process, and a SQLite catalogue keeps the results. The command is `exifnorm-pictures`, also `python3 -m exifnorm_pictures`;
 `--help` lists its arguments.
+
+In a program:
+
+    >>> import exifnorm_pictures as pictures
+    >>> bowl = pictures.read("samples/before/ceramics/2003-12-bowl.jpg")
+    >>> bowl["IFD0:Model"], bowl["ExifIFD:ExposureTime"], bowl.texts("keywords")
+    ('Canon EOS 5D Mark II', Fraction(1, 60), ('bowl', 'celadon'))
+
+- `read` and `read_bytes` return a `Picture`, whose fields are found by name; `read_all` reads many in several processes
+- `compare` returns a `Comparison` of two pictures
+- `NoPicture` and `NotReadable` are raised for what can't be read
+
+A refused block raises nothing: see `Picture.refusals`.
 """
+
+from __future__ import annotations
+
+import sys
+
+TYPE_CHECKING = False  # that of `typing`, which isn't imported here: a program may yet have the current folder in its search path
+if TYPE_CHECKING:
+    from types import ModuleType
+    from typing import List
+
+    from .api import (
+        Block,
+        Caption,
+        Comparison,
+        Difference,
+        Field,
+        NoPicture,
+        NotReadable,
+        Picture,
+        Position,
+        Refusal,
+        compare,
+        read,
+        read_all,
+        read_bytes,
+    )
+else:
+    ModuleType = type(sys)
+
+__all__ = [
+    "Block",
+    "Caption",
+    "Comparison",
+    "Difference",
+    "Field",
+    "NoPicture",
+    "NotReadable",
+    "Picture",
+    "Position",
+    "Refusal",
+    "compare",
+    "read",
+    "read_all",
+    "read_bytes",
+]
+
+
+class _Package(ModuleType):
+    """This package, in which the folder `compare` doesn't hide the function."""
+
+    def __setattr__(self, name: str, value: object) -> None:
+        if not (name == "compare" and isinstance(value, ModuleType)):
+            super().__setattr__(name, value)
+
+
+sys.modules[__name__].__class__ = _Package
+
+
+def __getattr__(name: str) -> object:
+    """What a program asks for is imported then, which the commands need not wait for."""
+    if name not in __all__:
+        raise AttributeError(f"module {__name__!r} has no attribute {name!r}")
+    from . import api
+
+    found: object = getattr(api, name)
+    return found
+
+
+def __dir__() -> List[str]:
+    return sorted([*globals(), *__all__])

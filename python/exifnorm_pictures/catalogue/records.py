@@ -142,7 +142,7 @@ def is_as_before(one: Stamp, other: Stamp) -> bool:
 def is_same_file(one: Picture, other: Picture) -> bool:
     """Whether nothing was written to a file and its sidecars between two looks: size, times and inode are the same. Not if it may have been
     edited again without a mark, and not if it has rotted, so that something of it has another digest."""
-    if one == other:  # of one look
+    if one.path and one == other:  # of one look; bytes have no path
         return True
     has_marks = None not in one.marks and one.changed != RACY
     digests = zip((one.sha256, one.file, one.not_read, *one.octets), (other.sha256, other.file, other.not_read, *other.octets))

@@ -106,6 +106,11 @@ RESULTS = (
 )
 
 
+def decided(word: str) -> Optional[bool]:
+    """Whether a result says that two pictures are the same; None if it says that nobody knows."""
+    return True if word == SAME else False if word in DIFFERENCES else None
+
+
 @dataclass
 class Compared:
     """One picture before and after."""

@@ -90,14 +90,20 @@ def _conflict(label: Label, ours: Sequence[LabelText]) -> Conflict:
     return Conflict(label.word, kind, "; ".join(details), tuple(shown), worse)
 
 
-def best(found: Sequence[LabelText], known: Sequence[Conflict]) -> str:
-    """The text of a label where there is space for one, which isn't a camera's: one that is whole, on which two standards agree, and the first
-    in their order."""
+def chosen(found: Sequence[LabelText], known: Sequence[Conflict]) -> Optional[LabelText]:
+    """The texts of a label where there is space for one field, which aren't a camera's: those that are whole, on which two standards agree, and
+    the first in their order."""
     worse = {field for it in known for field in it.worse}
     some = [it for it in found if not it.block and not it.is_empty and not it.is_own]
     agreeing = Counter(text for text, _ in {(_plain(it.line), it.standard) for it in some if not it.is_extra})
-    ranked = sorted(some, key=lambda it: (it.is_extra, it.field in worse, agreeing[_plain(it.line)] < 2, STANDARDS.index(it.standard)))
-    return ranked[0].line if ranked else ""
+    some.sort(key=lambda it: (it.is_extra, it.field in worse, agreeing[_plain(it.line)] < 2, STANDARDS.index(it.standard)))
+    return some[0] if some else None
+
+
+def best(found: Sequence[LabelText], known: Sequence[Conflict]) -> str:
+    """These texts in a line."""
+    it = chosen(found, known)
+    return it.line if it else ""
 
 
 def own_texts(found: Sequence[LabelText]) -> List[str]:

@@ -2,8 +2,10 @@
 
 from __future__ import annotations
 
+import contextlib
 import errno
 import os
+from typing import Union
 
 from exifnorm import LibraryMissing
 
@@ -14,7 +16,7 @@ from .budgets import Budget, TooMuch
 from .exiftool import add_trailers, by_others
 from .formats import jpeg
 from .formats.found import BROKEN, PROBLEMS, Blocks, Broken, LeftToOthers
-from .formats.streams import File
+from .formats.streams import File, Memory
 
 
 def blocks_of(path: bytes, whole: bool = False) -> Blocks:
@@ -24,17 +26,8 @@ def blocks_of(path: bytes, whole: bool = False) -> Blocks:
     the files that the readers here don't. Raises `programs.Missing` if it is needed and not installed, `programs.Failed`, and
     `LibraryMissing`.
     """
-    budget = Budget(whole)
     try:
-        file = File(*opening.opened(path), budget)
-        try:
-            blocks = _read(file, path, whole)
-        except LeftToOthers as why:
-            return by_others(path, file, whole, str(why))
-        except Broken as why:
-            return by_others(path, file, True, f"{BROKEN}{why}")
-        finally:
-            file.close()
+        return blocks_in(File(*opening.opened(path), Budget(whole)), path, whole)
     except TooMuch as why:
         return too_much(why)
     except LibraryMissing:  # an OSError too, but not of this file
@@ -47,9 +40,28 @@ def blocks_of(path: bytes, whole: bool = False) -> Blocks:
         if problem:
             return Blocks(problem=problem, detail=PROBLEMS[problem])
         return Blocks(problem="Unreadable", detail=(error.strerror or str(error)).lower())
-    if blocks.has_more:
-        add_trailers(blocks, path)
-    return blocks
+
+
+def blocks_in(file: Union[File, Memory], path: bytes, whole: bool = False) -> Blocks:
+    """The blocks of a file that is open, which is closed then. The ending of its name shows what a sidecar or a raw picture is.
+
+    Raises what `blocks_of` raises, `OSError` and `TooMuch`.
+    """
+    with contextlib.closing(file):
+        try:
+            blocks = _read(file, path, whole)
+        except LeftToOthers as why:
+            return by_others(_name(file, path), file, whole, str(why))
+        except Broken as why:
+            return by_others(_name(file, path), file, True, f"{BROKEN}{why}")
+        if blocks.has_more:
+            add_trailers(blocks, _name(file, path))
+        return blocks
+
+
+def _name(file: Union[File, Memory], path: bytes) -> bytes:
+    """The path of a file that other programs can open."""
+    return path if isinstance(file, File) else file.as_file(path)
 
 
 def failed_here(error: Exception) -> Blocks:
@@ -63,7 +75,7 @@ def too_much(why: TooMuch) -> Blocks:
     return Blocks(problem="TooMuch", detail=str(why))
 
 
-def _read(stream: File, path: bytes, whole: bool) -> Blocks:
+def _read(stream: Union[File, Memory], path: bytes, whole: bool) -> Blocks:
     """Reads a file by the reader of its format, which its first bytes show. Raises `Broken` and `LeftToOthers`."""
     if stream.read(len(jpeg.START)) == jpeg.START:
         return jpeg.read(stream, whole)

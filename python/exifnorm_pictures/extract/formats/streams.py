@@ -4,8 +4,10 @@ another program shortens ends the process with a signal."""
 from __future__ import annotations
 
 import hashlib
+import io
 import os
-from typing import Iterable, Iterator, Optional, Protocol, Tuple
+import tempfile
+from typing import IO, Iterable, Iterator, Optional, Protocol, Tuple
 
 from ...files import opening
 from ..budgets import BYTES_READ, Budget, budget_of
@@ -61,6 +63,29 @@ class File:
     def close(self) -> None:
         """Closes the file."""
         os.close(self.number)
+
+
+class Memory(io.BytesIO):
+    """A picture in memory."""
+
+    def __init__(self, data: bytes, budget: Optional[Budget] = None) -> None:
+        super().__init__(data)
+        self.budget = budget or Budget()
+        self._copy: Optional[IO[bytes]] = None
+
+    def as_file(self, name: bytes) -> bytes:
+        """The path of a copy, for programs that read files only. It is gone once this is closed."""
+        if self._copy is None:
+            self._copy = tempfile.NamedTemporaryFile(prefix="exifnorm-picture-", suffix=os.path.splitext(os.fsdecode(name))[1])
+            self._copy.write(self.getbuffer())
+            self._copy.flush()
+        return os.fsencode(self._copy.name)
+
+    def close(self) -> None:
+        """Frees the memory, and removes the copy."""
+        if self._copy is not None:
+            self._copy.close()
+        super().close()
 
 
 def size_of(stream: Stream) -> int:

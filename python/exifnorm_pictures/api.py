@@ -1,0 +1,573 @@
+"""The public calls and classes of exifnorm_pictures, which the package itself has too."""
+
+from __future__ import annotations
+
+import concurrent.futures
+import os
+import re
+from datetime import datetime, timedelta, timezone
+from fractions import Fraction
+from typing import BinaryIO, Dict, Iterable, Iterator, List, NamedTuple, Optional, Tuple, Union
+
+import exifnorm
+
+from .catalogue.records import Block as Judged
+from .catalogue.records import WORDS, PictureRecord, Stamp, is_marked_as
+from .cli.output import described
+from .compare import differing
+from .compare.conflicts import chosen, conflicts
+from .compare.verdicts import ACCEPTED, SAME
+from .extract import extraction, programs
+from .extract.budgets import Budget, TooMuch
+from .extract.formats.found import NAMES, PROBLEMS, Blocks
+from .extract.formats.streams import File, Memory
+from .extract.judge import judge_all
+from .extract.reading import Reading
+from .fields import labels, listing, plain_values, typed
+from .fields.plain_names import exact_key, group_name
+from .files import opening
+
+__all__ = [
+    "Block",
+    "Caption",
+    "Comparison",
+    "Difference",
+    "Field",
+    "NoPicture",
+    "NotReadable",
+    "Picture",
+    "Position",
+    "Refusal",
+    "compare",
+    "read",
+    "read_all",
+    "read_bytes",
+]
+
+Value = typed.Value
+PathLike = Union[str, bytes, "os.PathLike[str]", "os.PathLike[bytes]"]
+Source = Union[PathLike, BinaryIO]
+
+
+# Errors
+
+
+class NoPicture(ValueError):
+    """The file is no picture that exifnorm or ExifTool knows."""
+
+
+class NotReadable(Exception):
+    """The picture could not be read: it needs a program that isn't installed, goes over a limit, or a program failed at it.
+
+    `problem` is a word, such as "NeedsExifTool", "TooMuch" or "TooSlow", `detail` says it for people, and `name` is the picture's.
+    """
+
+    def __init__(self, problem: str, detail: str, name: str) -> None:
+        super().__init__(problem, detail, name)
+        self.problem = problem
+        self.detail = detail
+        self.name = name
+
+    def __str__(self) -> str:
+        return f"{self.name}: {self.detail}"
+
+
+# Objects
+
+
+class Field:
+    """A field of a picture. Fields are equal if they mean the same: the directory, the key, the type and the value.
+
+    The type of `value` follows from the field, and never from what it has in a picture:
+
+    - texts of Exif, IPTC and XMP: str
+    - dates and times of Exif and IPTC: datetime, date or time; a str if one has another form than its standard's
+    - SHORT, LONG, BYTE and their signed ones: int
+    - RATIONAL and SRATIONAL: Fraction; None if the denominator is 0
+    - FLOAT and DOUBLE: float
+    - UNDEFINED, the MakerNote and the thumbnail: bytes
+    - several elements, or a list of XMP: a tuple of these
+    - a structure of XMP: None; `exact` has it
+    """
+
+    __slots__ = ("_field", "_block")
+
+    def __init__(self, field: listing.Field, block: str) -> None:
+        self._field, self._block = field, block
+
+    @property
+    def name(self) -> str:
+        """The name with its group, as ExifTool has it: "IFD0:Artist", "IPTC:Keywords", "XMP-dc:title"."""
+        return group_name(self._field.where, self._field.key)
+
+    @property
+    def value(self) -> Value:
+        """The value as an object of Python."""
+        return typed.value_of(self._field)
+
+    @property
+    def text(self) -> str:
+        """The value in plain words: "1/60 s"."""
+        return plain_values.plain(self._field)
+
+    @property
+    def exact(self) -> str:
+        """The value as `show --exact` prints it: "10/600". Of a long value that is no text, its beginning and its SHA-256."""
+        return listing.exact(self._field)
+
+    @property
+    def type(self) -> str:
+        """The type of the standard: "ASCII", "RATIONAL" ..; "octets" in IPTC; "text", "URI", "Alt", "Bag", "Seq" or "structure" in XMP."""
+        return self._field.type
+
+    @property
+    def count(self) -> int:
+        """The number of elements: of a text and of IPTC the bytes, of a list of XMP its members."""
+        return self._field.elements
+
+    @property
+    def key(self) -> str:
+        """What identifies the field in its directory: "0x013b", "2:25", "dc:title"."""
+        return exact_key(self._field.where, self._field.key)
+
+    @property
+    def directory(self) -> str:
+        """The directory: "main", "exif", "interop", "gps", "thumb", "iptc" or "xmp"."""
+        return self._field.where
+
+    @property
+    def block(self) -> str:
+        """The block: "Exif", "IPTC", "XMP", "second Exif", "page 2"."""
+        return self._block
+
+    @property
+    def raw(self) -> bytes:
+        """The bytes of the value, most significant byte first; empty in XMP."""
+        return typed.raw(self._field) or b""
+
+    def __eq__(self, other: object) -> bool:
+        return isinstance(other, Field) and self._field == other._field
+
+    def __hash__(self) -> int:
+        return hash(self._field)
+
+    def __repr__(self) -> str:
+        return f"Field(name={self.name!r}, text={self.text!r})"
+
+
+class Refusal(NamedTuple):
+    """Why a block has no meaning: its first fault.
+
+    `block` is its name, `cause` a word such as "EmptyDirectory", `offset` the byte of the fault in the block or None, `sentence` the fault
+    for people, and `remedy` what helps. `str` makes a line of it.
+    """
+
+    block: str
+    cause: str
+    offset: Optional[int]
+    sentence: str
+    remedy: str
+
+    def __str__(self) -> str:
+        at = "" if self.offset is None else f" (byte {self.offset})"
+        return f"{self.block}: {self.sentence.rstrip('.')}{at}."
+
+
+class Caption(NamedTuple):
+    """The texts of one field for a label, such as "title" or "keywords".
+
+    `field` is the field's name, `standard` "Exif", "IPTC" or "XMP", `guess` how the character set was found if it isn't declared, and
+    `block` is empty for the first block of a kind. `str` joins the texts.
+    """
+
+    label: str
+    texts: Tuple[str, ...]
+    field: str
+    standard: str
+    guess: str
+    block: str
+
+    def __str__(self) -> str:
+        return "; ".join(self.texts)
+
+
+class Position(NamedTuple):
+    """Where a picture was taken, in degrees (north and east are positive) and metres above the sea, or None."""
+
+    latitude: float
+    longitude: float
+    altitude: Optional[float]
+
+
+class Block:
+    """A block of metadata."""
+
+    __slots__ = ("_judged", "_data", "_fields")
+
+    def __init__(self, judged: Judged, data: bytes) -> None:
+        self._judged, self._data = judged, data
+        self._fields: Optional[Tuple[Field, ...]] = None
+
+    @property
+    def kind(self) -> str:
+        """The kind: "exif", "iptc" or "xmp"."""
+        return WORDS[self._judged.kind]
+
+    @property
+    def name(self) -> str:
+        """Which block of the picture it is: "Exif", "second Exif", "page 2"."""
+        return self._judged.name
+
+    @property
+    def status(self) -> str:
+        """The status: "accepted", "refused", "unreadable", "too long" or "failed"."""
+        return self._judged.status
+
+    @property
+    def is_accepted(self) -> bool:
+        """Whether it has a meaning."""
+        return self._judged.status == ACCEPTED
+
+    @property
+    def digest(self) -> Optional[str]:
+        """SHA-256 of the meaning of an accepted block: equal digests of a kind, equal meaning."""
+        return self._judged.digest
+
+    @property
+    def data(self) -> bytes:
+        """The bytes of the block, as they are in the file."""
+        return self._data
+
+    @property
+    def where(self) -> str:
+        """Its position in the file: "APP1 segment at 20"."""
+        return self._judged.source
+
+    @property
+    def extractor(self) -> str:
+        """The program that extracted it: "own", "exiftool" or "exiv2"."""
+        return self._judged.extractor
+
+    @property
+    def fields(self) -> Tuple[Field, ...]:
+        """Its fields, which are made when they are first asked for; of a refused block those after a repair in memory, if one is known."""
+        if self._fields is None:
+            self._fields = tuple(Field(it, self.name) for it in self._judged.fields)
+        return self._fields
+
+    @property
+    def refusal(self) -> Optional[Refusal]:
+        """Why it isn't accepted."""
+        if self.is_accepted:
+            return None
+        from .refusals import causes  # which takes long to import, and few blocks are refused
+
+        cause = self._judged.cause or self.status
+        words = causes.words_of(cause) or (f"It is {self.status}: {cause}.", "")
+        return Refusal(self.name, cause, self._judged.place, *words)
+
+    @property
+    def repair(self) -> Tuple[str, ...]:
+        """The steps of the repair after which its fields were read. The file is as it was."""
+        return tuple(it.what for it in self._judged.steps)
+
+    @property
+    def loses(self) -> Tuple[str, ...]:
+        """What the repair loses."""
+        return tuple(it.loses for it in self._judged.steps if it.loses)
+
+    def __repr__(self) -> str:
+        return f"Block(name={self.name!r}, status={self.status!r}, where={self.where!r})"
+
+
+class Picture:
+    """The metadata of a picture, as they were when it was read. `picture[name]` is the value of the first field with this name."""
+
+    __slots__ = ("_name", "_reading", "_path", "_stamp", "_blocks", "_names", "_made")
+
+    def __init__(self, name: str, reading: Reading, path: bytes = b"", stamp: Optional[Stamp] = None) -> None:
+        self._name, self._reading, self._path, self._stamp = name, reading, path, stamp
+        self._blocks: Optional[Tuple[Block, ...]] = None
+        self._names: Optional[Dict[str, List[Field]]] = None
+        self._made: Optional[PictureRecord] = None
+
+    @property
+    def name(self) -> str:
+        """The path or the name that it was read by."""
+        return self._name
+
+    @property
+    def type(self) -> str:
+        """The format: "JPEG", "PNG", "TIFF", "HEIC" .."""
+        return self._reading.read.type
+
+    @property
+    def not_read(self) -> Tuple[str, ...]:
+        """The parts of the file that may have metadata and were not read."""
+        return tuple(self._reading.not_read)
+
+    @property
+    def blocks(self) -> Tuple[Block, ...]:
+        """The blocks, in the order of the file."""
+        if self._blocks is None:
+            data = {it.name: it.data for it in self._reading.read.found}
+            self._blocks = tuple(Block(it, data.get(it.name, b"")) for it in self._reading.blocks)
+        return self._blocks
+
+    @property
+    def fields(self) -> Iterator[Field]:
+        """All fields of all blocks, in the order of the file."""
+        for it in self.blocks:
+            yield from it.fields
+
+    @property
+    def refusals(self) -> Tuple[Refusal, ...]:
+        """Why blocks have no meaning, one for each that isn't accepted."""
+        return tuple(it.refusal for it in self.blocks if it.refusal)
+
+    @property
+    def is_whole(self) -> bool:
+        """Whether every block is accepted and every part was read."""
+        return not self._reading.read.not_read and all(it.status == ACCEPTED for it in self._reading.blocks)
+
+    @property
+    def key(self) -> Optional[str]:
+        """A text that two pictures share exactly if their Exif, IPTC and XMP mean the same. None if there is no metadata, a block is refused or a
+        part was not read, so that two such pictures never seem to be equal."""
+        meanings = self._record().picture().meanings
+        if not self.is_whole or None in meanings or not any(meanings):
+            return None
+        return "+".join(it or "-" for it in meanings)
+
+    def _record(self) -> PictureRecord:
+        """The picture as the commands have it."""
+        if self._made is None:
+            reading = self._reading
+            self._made = PictureRecord.of(
+                os.path.abspath(self._path) if self._path else b"", b"", self._stamp, reading.read, reading.blocks
+            )
+        return self._made
+
+    def find(self, name: str) -> Tuple[Field, ...]:
+        """All fields with a name, of all blocks: with its group or without, in capital or small letters."""
+        if self._names is None:
+            names: Dict[str, List[Field]] = {}
+            for it in self.fields:
+                folded = it.name.casefold()
+                for one in (folded, folded.partition(":")[2]):
+                    names.setdefault(one, []).append(it)
+            self._names = names
+        return tuple(self._names.get(name.casefold(), ()))
+
+    def get(self, name: str, default: Value = None) -> Value:
+        """The value of the first field with a name; of a DataSet that is repeated a tuple of all its values."""
+        found = self.find(name)
+        if not found:
+            return default
+        same = [it for it in found if it.name == found[0].name and it.block == found[0].block]
+        return same[0].value if len(same) == 1 else tuple(it.value for it in same)
+
+    def __getitem__(self, name: str) -> Value:
+        if not self.find(name):
+            raise KeyError(name)
+        return self.get(name)
+
+    def __contains__(self, name: str) -> bool:
+        return bool(self.find(name))
+
+    @property
+    def captions(self) -> Tuple[Caption, ...]:
+        """The texts by label, such as "title" and "keywords", with the field of each."""
+        found = [Caption(it.label, it.texts, it.field, it.standard, it.guess, it.block) for it in self._reading.texts if not it.is_empty]
+        return tuple(sorted(found, key=lambda it: labels.WORDS.index(it.label)))
+
+    def texts(self, label: str) -> Tuple[str, ...]:
+        """The texts of a label: of several fields those that `captions --csv` prints, the first that is whole and not a camera's."""
+        if label not in labels.WORDS:
+            raise ValueError(f"{label!r} is no label; the labels are {', '.join(labels.WORDS)}")
+        found = [it for it in self._reading.texts if it.label == label]
+        best = chosen(found, conflicts(self._reading.texts) if len(found) > 1 else [])
+        return best.texts if best else ()
+
+    @property
+    def taken(self) -> Optional[datetime]:
+        """When it was taken: DateTimeOriginal, with its part of a second and its zone if they are there."""
+        when = self.get("ExifIFD:DateTimeOriginal")
+        if not isinstance(when, datetime):
+            return None
+        part, zone = self.get("ExifIFD:SubSecTimeOriginal"), self.get("ExifIFD:OffsetTimeOriginal")
+        if isinstance(part, str) and part.strip().isdecimal():
+            when = when.replace(microsecond=int(part.strip()[:6].ljust(6, "0")))
+        match = re.fullmatch(r"([+-])([01]\d|2[0-3]):([0-5]\d)", zone.strip()) if isinstance(zone, str) else None
+        if match:
+            minutes = (int(match[2]) * 60 + int(match[3])) * (-1 if match[1] == "-" else 1)
+            when = when.replace(tzinfo=timezone(timedelta(minutes=minutes)))
+        return when
+
+    @property
+    def position(self) -> Optional[Position]:
+        """Where it was taken; None if a part of the position is missing."""
+        degrees = []
+        for word, signs in (("Latitude", "NS"), ("Longitude", "EW")):
+            angle, letter = self.get(f"GPS:GPS{word}"), self.get(f"GPS:GPS{word}Ref")
+            if not (
+                isinstance(angle, tuple)
+                and len(angle) == 3
+                and None not in angle
+                and isinstance(letter, str)
+                and letter in signs
+                and letter
+            ):
+                return None
+            degrees.append(float(angle[0] + angle[1] / 60 + angle[2] / 3600) * (1 if letter == signs[0] else -1))
+        height, below = self.get("GPS:GPSAltitude"), self.get("GPS:GPSAltitudeRef")
+        altitude = float(height) * (-1 if below == 1 else 1) if isinstance(height, Fraction) else None
+        return Position(degrees[0], degrees[1], altitude)
+
+    def __repr__(self) -> str:
+        return f"Picture(name={self.name!r}, type={self.type!r}, not_read={self.not_read!r})"
+
+
+# Reading
+
+
+def read(source: Source, *, whole: bool = False) -> Picture:
+    """Reads the metadata of a picture: of a path, or of a binary file object, which is read from where it is to its end.
+
+    Raises OSError if the file can't be read, `NoPicture`, and `NotReadable`. A block that breaks the rules raises nothing: see
+    `Picture.refusals`. With `whole` every byte of a JPEG is read, and not only its head and tail. No file is changed.
+    """
+    if not isinstance(source, (str, bytes, os.PathLike)):
+        return read_bytes(source.read(), name=str(getattr(source, "name", "")), whole=whole)
+    path = os.fsencode(source)
+    number, size = opening.opened(path)
+    stamp = Stamp.of(os.fstat(number))
+    return _picture(File(number, size, Budget(whole)), path, os.fsdecode(path), whole, stamp)
+
+
+def read_bytes(data: bytes, *, name: str = "", whole: bool = False) -> Picture:
+    """Reads the metadata of a picture in memory. Raises what `read` raises.
+
+    The ending of a name helps with files that don't show what they are: sidecars of XMP and some raw pictures.
+    """
+    if not isinstance(data, (bytes, bytearray, memoryview)):
+        raise TypeError(f"the bytes of a picture are expected, not {type(data).__name__}: open files in binary mode")
+    return _picture(Memory(bytes(data), Budget(whole)), b"", name or "(bytes)", whole, None)
+
+
+def _picture(file: Union[File, Memory], path: bytes, name: str, whole: bool, stamp: Optional[Stamp]) -> Picture:
+    try:
+        blocks = extraction.blocks_in(file, path or os.fsencode(name), whole)
+        if blocks.problem:
+            raise _error(blocks, name)
+        return Picture(name, Reading(os.fsencode(name), blocks, judge_all(blocks)), path, stamp)
+    except (OSError, MemoryError, NoPicture, NotReadable):
+        raise
+    except TooMuch as why:
+        raise NotReadable("TooMuch", str(why), name) from None
+    except programs.Missing as why:
+        raise NotReadable("NeedsExifTool", str(why), name) from None
+    except programs.Failed as why:
+        raise NotReadable("TooSlow" if isinstance(why, programs.TooSlow) else "ToolFailed", str(why), name) from None
+    except Exception as error:  # a mistake of a reader affects only this picture
+        raise NotReadable("InternalError", f"{PROBLEMS['InternalError']}: {described(error)}", name) from error
+
+
+def _error(blocks: Blocks, name: str) -> Exception:
+    if blocks.problem == "NoPicture":
+        return NoPicture(f"{name}: {blocks.detail}")
+    return NotReadable(blocks.problem or "", blocks.detail, name)
+
+
+Read = Union[Picture, OSError, NoPicture, NotReadable]
+
+
+def read_all(paths: Iterable[PathLike], *, jobs: Optional[int] = None) -> "Iterator[Tuple[PathLike, Read]]":
+    """Reads many pictures in several processes, in their order: each path with its picture, or with the exception that `read` raises."""
+    if jobs == 1:
+        for path in paths:
+            yield path, _one(path)
+        return
+    names = list(paths)
+    with concurrent.futures.ProcessPoolExecutor(jobs) as pool:
+        yield from zip(names, pool.map(_one, names, chunksize=16))
+
+
+def _one(path: PathLike) -> Read:
+    try:
+        return read(path)
+    except exifnorm.LibraryMissing:
+        raise
+    except (OSError, NoPicture, NotReadable) as error:
+        return error
+
+
+# Comparing
+
+
+class Difference(NamedTuple):
+    """A field that differs between two pictures.
+
+    `before` and `after` are its fields, several of a DataSet that is repeated, and None where there is no such field. `note` is a sentence
+    in place of the values, as for a MakerNote. `is_equal_number` is whether both have equal numbers that are only written otherwise.
+    """
+
+    name: str
+    before: Optional[Tuple[Field, ...]]
+    after: Optional[Tuple[Field, ...]]
+    is_equal_number: bool
+    note: str
+
+    def __str__(self) -> str:
+        if self.note:
+            return f"{self.name}: {self.note}"
+        both = ["; ".join(it.text for it in side) if side else "(none)" for side in (self.before, self.after)]
+        if both[0] == both[1]:
+            both = ["; ".join(it.exact for it in side) if side else "(none)" for side in (self.before, self.after)]
+        return f"{self.name}: {both[0]} -> {both[1]}"
+
+
+class Comparison(NamedTuple):
+    """Two pictures compared.
+
+    `same` is True, False, or None if it isn't known: a block is refused, a part was not read, or only the place of a MakerNote differs.
+    `result` is the word that `changed` prints, `note` a sentence about each kind of block, and `differences` are the fields that differ.
+    A comparison has no truth value, because "not known" would be taken for one of the others.
+    """
+
+    same: Optional[bool]
+    result: str
+    note: str
+    differences: Tuple[Difference, ...]
+
+    def __bool__(self) -> bool:
+        raise TypeError("a comparison has three results: look at .same, which is True, False or None")
+
+
+def compare(before: Union[Picture, Source], after: Union[Picture, Source], *, ask_exiftool: bool = False) -> Comparison:
+    """Compares the Exif, IPTC and XMP of two pictures. Each is a picture that was read, or what `read` takes. Raises what `read` raises.
+
+    With `ask_exiftool` ExifTool compares the values of MakerNotes that have moved.
+    """
+    from .compare import changed, two_pictures  # which not every program needs
+
+    one, other = (it if isinstance(it, Picture) else read(it) for it in (before, after))
+    is_identical = _is_unchanged(one) and _is_unchanged(other) and two_pictures.is_identical(one._path, other._path)
+    if is_identical:
+        return Comparison(True, SAME, "the two files are identical, byte for byte", ())
+    found = two_pictures.compared_records(one._record(), other._record(), ask_exiftool and bool(one._path and other._path))
+    return Comparison(changed.decided(found.result), found.result, found.note, tuple(_difference(it) for it in found.changes))
+
+
+def _is_unchanged(it: Picture) -> bool:
+    """Whether the file is the one that was read."""
+    try:
+        return it._stamp is not None and is_marked_as(Stamp.of(os.stat(it._path)), it._stamp[:4])
+    except OSError:
+        return False
+
+
+def _difference(it: differing.Difference) -> Difference:
+    block = it.block or NAMES[{"iptc": "iim", "xmp": "xmp"}.get(it.where, "exif")]
+    before, after = (tuple(Field(one, block) for one in side) or None for side in (it.before, it.after))
+    return Difference(it.name, before, after, it.is_equal_number, it.note)
