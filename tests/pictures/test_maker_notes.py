@@ -467,8 +467,9 @@ def test_offsets_of_uncovered_bytes():
 
 
 def around_in_tiff(note, gap=0, *more):
-    """A TIFF with a MakerNote. A gap moves all parts."""
-    return tiff(page((0x010F, ASCII, b"Canon\0"), (0x8769, LONG, [(0x927C, UNDEFINED, note)]), *more), more=bytes(gap))
+    """A TIFF with a MakerNote. A gap moves all parts but the grey point, which is a byte of the header, so that the pictures stay equal."""
+    entries = [(0x010F, ASCII, b"Canon\0"), (0x0111, LONG, 2), (0x8769, LONG, [(0x927C, UNDEFINED, note)])]
+    return tiff(page(*entries, *more), more=bytes(gap))
 
 
 def in_tiff(gap=0, *more, wrong=False):
