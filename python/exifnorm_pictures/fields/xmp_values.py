@@ -34,7 +34,9 @@ class Array(NamedTuple):
     def __eq__(self, other: object) -> bool:
         if not isinstance(other, Array):
             return False
-        return self.kind == other.kind and (self.members == other.members or self.ordered() == other.ordered())
+        if self.kind != "Bag" or other.kind != "Bag":
+            return self.kind == other.kind and self.members == other.members
+        return sorted(map(identity, self.members)) == sorted(map(identity, other.members))
 
     def __ne__(self, other: object) -> bool:
         return not self == other
@@ -65,9 +67,14 @@ XmpValue = Union[Literal, Resource, Array, Structure, Long]
 
 def identity(value: XmpValue) -> str:
     """A text that is equal exactly for values that mean the same."""
+    return _identity(value, "" if isinstance(value, Literal) else exact(value))
+
+
+def _identity(value: XmpValue, printed: str) -> str:
+    """The same of a value whose exact form is known."""
     if isinstance(value, Literal):
         return f'"{len(value.language)}:{value.language}{len(value.datatype)}:{value.datatype}{value.text}'
-    return exact(value) if isinstance(value, Resource) else "_" + exact(value)
+    return printed if isinstance(value, Resource) else "_" + printed
 
 
 def exact(value: XmpValue) -> str:
@@ -82,7 +89,10 @@ def exact(value: XmpValue) -> str:
     if isinstance(value, Resource):
         return f"<{escaped(value.uri)}>"
     if isinstance(value, Array):
-        return f"{value.kind}[{', '.join(map(exact, value.ordered()))}]"
+        printed = [(exact(it), it) for it in value.members]  # each once: Bags may be nested
+        if value.kind == "Bag":
+            printed.sort(key=lambda it: _identity(it[1], it[0]))
+        return f"{value.kind}[{', '.join(text for text, _ in printed)}]"
     if isinstance(value, Long):
         return f"{value.begins!s}.. sha256:{value.digest}"
     return "{" + ", ".join(f"{escaped(name)}={exact(one)}" for name, one in value.members) + "}"
