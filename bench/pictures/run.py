@@ -28,10 +28,10 @@ sys.dont_write_bytecode = True
 
 import made_files as made
 from exifnorm_pictures.catalogue.store import Catalogue
-from exifnorm_pictures.extract.formats.found import EXIF, IPTC, NAMES, XMP
-from exifnorm_pictures.catalogue.records import Block, PictureRecord, Stamp
 from exifnorm_pictures.fields.listing import Field
 from exifnorm_pictures.fields.packing import packed
+from exifnorm_pictures.model.found import EXIF, IPTC, NAMES, XMP
+from exifnorm_pictures.model.records import Block, PictureRecord, Stamp
 
 ROOT = b"/archive"
 BATCH = 1000  # rows at once: few, because the system counts the memory of this process into that of a command that it starts

@@ -11,21 +11,20 @@ from typing import BinaryIO, Dict, Iterable, Iterator, List, NamedTuple, Optiona
 
 import exifnorm
 
-from .catalogue.records import Block as Judged
-from .catalogue.records import WORDS, PictureRecord, Stamp, is_marked_as
-from .cli.output import described
 from .compare import differing
 from .compare.conflicts import chosen, conflicts
-from .compare.verdicts import ACCEPTED, SAME
 from .extract import extraction, programs
-from .extract.budgets import Budget, TooMuch
-from .extract.formats.found import NAMES, PROBLEMS, Blocks
 from .extract.formats.streams import File, Memory
-from .extract.judge import judge_all
-from .extract.reading import Reading
 from .fields import labels, listing, plain_values, typed
 from .fields.plain_names import exact_key, group_name
 from .files import opening
+from .judge.judge import judge_all
+from .judge.reading import Reading
+from .model.budgets import Budget, TooMuch
+from .model.found import NAMES, PROBLEMS, Blocks
+from .model.records import WORDS, Block as Judged, PictureRecord, Stamp, is_marked_as
+from .model.texts import described
+from .model.verdicts import ACCEPTED, SAME
 
 __all__ = [
     "Block",

@@ -6,8 +6,8 @@ from unittest import mock
 
 import pytest
 
-from exifnorm_pictures.extract import budgets
-from exifnorm_pictures.extract.formats.found import Broken, LeftToOthers
+from exifnorm_pictures.model import budgets
+from exifnorm_pictures.model.found import Broken, LeftToOthers
 
 
 def stream_of(octets):

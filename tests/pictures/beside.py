@@ -11,7 +11,7 @@ from hypothesis import strategies as st
 from studio import run
 
 from exifnorm_pictures.extract import readers
-from exifnorm_pictures.extract.formats.found import Broken, LeftToOthers
+from exifnorm_pictures.model.found import Broken, LeftToOthers
 
 _KINDS = {"EXIF": "exif", "IPTC": "iim", "XMP": "xmp"}
 

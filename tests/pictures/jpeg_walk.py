@@ -6,7 +6,7 @@ import struct
 from jpegs import SOS, Fault, resources, segments
 from made_files import EXTENSION_HEAD, RESOURCES_HEAD, SIX, XMP_HEAD
 
-from exifnorm_pictures.extract.formats.found import EXIF, IPTC, XMP, Blocks, FoundBlock, ordinal
+from exifnorm_pictures.model.found import EXIF, IPTC, XMP, Blocks, FoundBlock, ordinal
 
 TIFF = (b"II*\0", b"MM\0*")
 OLD_HEAD = b"Adobe_Photoshop2.5:"

@@ -61,7 +61,7 @@ def limits():
 
 
 # Then the limits of what is counted end a picture, and not that of time, at which a slow machine comes first.
-NO_CLOCK = "from exifnorm_pictures.extract import budgets\nbudgets.SECONDS = 3600.0\n"
+NO_CLOCK = "from exifnorm_pictures.model import budgets\nbudgets.SECONDS = 3600.0\n"
 
 
 class Ended:
@@ -265,7 +265,7 @@ def test_the_log_of_a_killed_run_is_used(archive):
 
 COARSE = """
 import os, sys
-from exifnorm_pictures.catalogue import records
+from exifnorm_pictures.model import records
 from exifnorm_pictures.scan import looking
 class Stat:
     st_mtime_ns = st_ctime_ns = 1_700_000_000 * 10**9

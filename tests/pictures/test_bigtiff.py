@@ -12,8 +12,9 @@ from made_files import K, T, page, tiff
 from pairs import DIFFERENT, SAME, UNDECIDED, Pair, of_pairs
 from studio import needs, run, write
 
-from exifnorm_pictures.extract import budgets, coded_picture
+from exifnorm_pictures.extract import coded_picture
 from exifnorm_pictures.extract.formats import bigtiff
+from exifnorm_pictures.model import budgets
 
 LONG8, SLONG8, IFD8 = 16, 17, 18
 SIZES = {1: 1, ASCII: 1, SHORT: 2, LONG: 4, 5: 8, UNDEFINED: 1, 9: 4, 13: 4, LONG8: 8, SLONG8: 8, IFD8: 8}

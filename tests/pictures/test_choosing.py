@@ -13,8 +13,8 @@ from made_files import app1, app1_xmp, exif, iim, jpeg, with_record, xmp
 from studio import SMALL_JPEG, needs, tool
 
 from exifnorm_pictures.compare.changed import _Left
-from exifnorm_pictures.extract.formats.found import EXIF, IPTC, XMP
-from exifnorm_pictures.fields.choosing import SAVES, Choice, kinds_of, fits_of as fits
+from exifnorm_pictures.fields.choosing import SAVES, Choice, fits_of as fits, kinds_of
+from exifnorm_pictures.model.found import EXIF, IPTC, XMP
 
 BUT = "the same but for the fields left out"
 

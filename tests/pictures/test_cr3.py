@@ -18,9 +18,11 @@ from made_files import T_OTHERWISE, app1, jpeg, tiff, title
 from pairs import DIFFERENT, SAME, UNDECIDED
 from studio import needs, run
 
-from exifnorm_pictures.extract import budgets, extraction, judge, structure
+from exifnorm_pictures.extract import extraction, structure
 from exifnorm_pictures.extract.formats import cr3 as cr3_, jpeg as jpeg_
-from exifnorm_pictures.extract.formats.found import LeftToOthers
+from exifnorm_pictures.judge import judge
+from exifnorm_pictures.model import budgets
+from exifnorm_pictures.model.found import LeftToOthers
 
 T, U = title("one"), title("two")
 MAIN = [(0x010F, ASCII, b"Canon\0"), (0x0112, SHORT, 6), (0x013B, ASCII, b"Lena Brandt\0")]

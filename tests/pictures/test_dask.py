@@ -16,9 +16,9 @@ from made_blocks import MAKE, block, with_exif
 from studio import SMALL_JPEG, Studio, WithPictures, interpreter_with, needs, run, write
 
 from exifnorm_pictures.extract import programs
+from exifnorm_pictures.model.records import PictureRecord, Stamp
 from exifnorm_pictures.scan import cluster
 from exifnorm_pictures.scan.batches import How
-from exifnorm_pictures.catalogue.records import PictureRecord, Stamp
 from exifnorm_pictures.scan.walk import FoundFile
 
 EXV = b"\xff\x01Exiv2\xff\xd9"  # exiv2's own format, which has no reader here

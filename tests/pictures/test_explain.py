@@ -9,8 +9,8 @@ from made_blocks import BLOCKS
 from reading import CAUSES as PLACES
 
 from exifnorm_pictures.fields import names
+from exifnorm_pictures.model.found import EXIF, IPTC
 from exifnorm_pictures.refusals import causes, explain, layout
-from exifnorm_pictures.extract.formats.found import EXIF, IPTC
 
 MAIN, GPS, THUMB = "main directory (0th IFD)", "GPS directory", "thumbnail directory (1st IFD)"
 

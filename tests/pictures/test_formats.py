@@ -20,9 +20,9 @@ from made_files import app1, app13, app1_xmp, chunk, extension, jpeg, mpf, packe
 from made_raw import arw, camera_profile, dng, rw2, sony, whole_raf
 from studio import SMALL_JPEG, WithPictures, interpreter_with, needs, read, run, tool, write
 
-from exifnorm_pictures.extract import budgets
 from exifnorm_pictures.extract.formats import jpeg_tail
-from exifnorm_pictures.extract.formats.found import Broken, LeftToOthers
+from exifnorm_pictures.model import budgets
+from exifnorm_pictures.model.found import Broken, LeftToOthers
 
 
 def named(blocks):
@@ -207,7 +207,7 @@ class Found(unittest.TestCase):
         self.assertIn(b"Maker one\0", found.found[0].data)
 
     def test_engine_refuses_in_the_page_what_it_refuses_in_the_file(self):
-        from exifnorm_pictures.extract import judge
+        from exifnorm_pictures.judge import judge
 
         shared = bytearray(tiff(page((0x010F, ASCII, b"Abcdefgh"), (0x0110, ASCII, b"Ijklmnop"))))
         at = shared.index(struct.pack(">HHI", 0x0110, ASCII, 8)) + 8
@@ -494,7 +494,7 @@ class Harm(unittest.TestCase):
         self.addCleanup(clock.stop)
 
     def broken(self, octets, most=None):
-        from exifnorm_pictures.extract.formats.found import Broken
+        from exifnorm_pictures.model.found import Broken
 
         stream = Counting(octets)
         with self.assertRaises(Broken) as caught:

@@ -11,8 +11,8 @@ from made_more_files import application, blocks_of_data, gif, gif_xmp
 from pairs import DIFFERENT, SAME, UNDECIDED
 from studio import needs
 
-from exifnorm_pictures.extract import budgets
 from exifnorm_pictures.extract.formats import gif as gif_
+from exifnorm_pictures.model import budgets
 
 A, K, L, T, U = exif(b"Abc"), iim(b"one"), iim(b"k" * 600), title("one"), title("two")
 X, I = gif_xmp(T), application(b"MGKIPTC0000", K)

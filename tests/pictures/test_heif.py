@@ -18,8 +18,9 @@ from made_files import T_OTHERWISE, exif, title, turned
 from pairs import DIFFERENT, SAME, UNDECIDED
 from studio import needs
 
-from exifnorm_pictures.extract import budgets, extraction
+from exifnorm_pictures.extract import extraction
 from exifnorm_pictures.extract.formats import heif as heif_
+from exifnorm_pictures.model import budgets
 
 A, B, C, T, U = exif(b"Abc"), exif(b"Xyz"), exif(b"Pqr"), title("one"), title("two")
 

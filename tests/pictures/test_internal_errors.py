@@ -7,17 +7,18 @@ import zlib
 from collections import Counter
 
 import pytest
-from exifnorm_pictures.catalogue import records, store
+from exifnorm_pictures.catalogue import store
+from exifnorm_pictures.catalogue.store import Catalogue, NoCatalogue
 from exifnorm_pictures.cli import main
 from exifnorm_pictures.compare import changed, pairs
-from exifnorm_pictures.extract import exiftool, extraction, judge, readers
+from exifnorm_pictures.extract import exiftool, extraction, readers
+from exifnorm_pictures.extract.formats import png
 from exifnorm_pictures.fields import packing
 from exifnorm_pictures.fields.listing import exact
-from exifnorm_pictures.catalogue.records import Block, Damaged
-from exifnorm_pictures.catalogue.store import Catalogue, NoCatalogue
-from exifnorm_pictures.extract.formats import png
-from exifnorm_pictures.extract.formats.found import Blocks, NotRead
-from exifnorm_pictures.catalogue.records import PictureRecord, Stamp
+from exifnorm_pictures.judge import judge
+from exifnorm_pictures.model import records
+from exifnorm_pictures.model.found import Blocks, NotRead
+from exifnorm_pictures.model.records import Block, Damaged, PictureRecord, Stamp
 from made_files import jpeg, png as made_png
 from studio import run
 

@@ -13,8 +13,8 @@ from made_files import T_OTHERWISE, app1, app1_xmp, app13, exif, iim, jpeg, page
 from pairs import DIFFERENT, SAME, UNDECIDED
 from studio import needs
 
-from exifnorm_pictures.extract import budgets
 from exifnorm_pictures.extract.formats import jp2 as jp2_
+from exifnorm_pictures.model import budgets
 
 A, B, K, L, T, U = exif(b"Abc"), exif(b"Xyz"), iim(b"one"), iim(b"four"), title("one"), title("two")
 JPG_TIFF_EXIF = b"JpgTiffExif->JP2".hex()

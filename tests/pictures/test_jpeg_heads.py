@@ -20,11 +20,12 @@ from studio import SMALL_JPEG
 
 import exifnorm
 from exifnorm import _jpeg
-from exifnorm_pictures.compare import verdicts
-from exifnorm_pictures.extract import coded_picture, extraction, judge
-from exifnorm_pictures.extract.budgets import Budget
+from exifnorm_pictures.extract import coded_picture, extraction
 from exifnorm_pictures.extract.formats import jpeg as jpeg_
-from exifnorm_pictures.extract.formats.found import EXIF, IPTC, Blocks, Broken
+from exifnorm_pictures.judge import judge
+from exifnorm_pictures.model import verdicts
+from exifnorm_pictures.model.budgets import Budget
+from exifnorm_pictures.model.found import EXIF, IPTC, Blocks, Broken
 from exifnorm_pictures.scan import looking
 from exifnorm_pictures.scan.batches import How
 from exifnorm_pictures.scan.walk import FoundFile

@@ -11,8 +11,9 @@ from made_files import T_OTHERWISE, app1, app1_xmp, exif, jpeg, title, turned
 from pairs import DIFFERENT, SAME, UNDECIDED
 from studio import needs
 
-from exifnorm_pictures.extract import budgets, judge
 from exifnorm_pictures.extract.formats import jxl as jxl_
+from exifnorm_pictures.judge import judge
+from exifnorm_pictures.model import budgets
 from exifnorm_pictures.refusals import explain
 
 A, B, T, U = exif(b"Abc"), exif(b"Xyz"), title("one"), title("two")

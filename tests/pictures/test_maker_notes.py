@@ -14,9 +14,9 @@ import pytest
 from exifnorm_pictures.cli import main
 from exifnorm_pictures.extract import exiftool, structure
 from exifnorm_pictures.extract.extraction import blocks_of
-from exifnorm_pictures.extract.judge import judge_all
 from exifnorm_pictures.fields.listing import MAKER_NOTE, Field
 from exifnorm_pictures.fields.packing import packed
+from exifnorm_pictures.judge.judge import judge_all
 from made_blocks import ASCII, LONG, SHORT as SHORT_, UNDEFINED, block, entry, table
 from made_files import app1, app1_xmp, exif, jpeg, page, tiff, title
 from studio import needs

@@ -15,16 +15,15 @@ from unittest import mock
 
 from studio import WithPictures, read, write
 
-from exifnorm_pictures.catalogue import records
-from exifnorm_pictures.cli import index, main, names, objects, output, parser, report, signals
+from exifnorm_pictures.catalogue.store import VERSION, Catalogue, NoCatalogue
+from exifnorm_pictures.cli import index, main, names, objects, output, parser, report
 from exifnorm_pictures.extract import exiftool, extraction, programs
-from exifnorm_pictures.files import atomic, opening
+from exifnorm_pictures.files import atomic, opening, signals
+from exifnorm_pictures.model import records
+from exifnorm_pictures.model.found import PROBLEMS, NotRead
+from exifnorm_pictures.model.records import Block, Damaged, Digests, PictureRecord, Stamp
 from exifnorm_pictures.scan import looking, progress, walk, workers
 from exifnorm_pictures.scan.batches import How
-from exifnorm_pictures.catalogue.records import Block, Damaged, Digests
-from exifnorm_pictures.catalogue.store import VERSION, Catalogue, NoCatalogue
-from exifnorm_pictures.extract.formats.found import PROBLEMS, NotRead
-from exifnorm_pictures.catalogue.records import PictureRecord, Stamp
 from exifnorm_pictures.scan.walk import FoundFile
 
 

@@ -19,19 +19,20 @@ from made_blocks import BLOCKS, with_exif
 from made_files import app1_xmp, chunk, exif, page, png, tiff, title
 from studio import SMALL_JPEG, TOP, WithPictures, needs, read, tool, write
 
+from exifnorm_pictures.catalogue.store import Catalogue, NoCatalogue
 from exifnorm_pictures.cli import main, mend as mend_cli, report as report_cli, same
 from exifnorm_pictures.compare import differing
-from exifnorm_pictures.extract import exiftool, judge, programs
+from exifnorm_pictures.extract import exiftool, programs
+from exifnorm_pictures.extract.formats import png as png_
 from exifnorm_pictures.fields import labels, listing, names
+from exifnorm_pictures.fields.listing import Field
+from exifnorm_pictures.judge import judge
+from exifnorm_pictures.model import xmp_names as short_names
+from exifnorm_pictures.model.found import Broken, NotRead
+from exifnorm_pictures.model.records import PictureRecord, digests
 from exifnorm_pictures.refusals import explain, mend
 from exifnorm_pictures.report import contents, page as report
 from exifnorm_pictures.scan import index, walk
-from exifnorm_pictures.catalogue.store import Catalogue, NoCatalogue
-from exifnorm_pictures.extract.formats import png as png_
-from exifnorm_pictures.extract.formats.found import Broken, NotRead
-from exifnorm_pictures.catalogue.records import PictureRecord, digests
-from exifnorm_pictures.fields.listing import Field
-from exifnorm_pictures.fields import xmp_names as short_names
 
 
 # Names of the standards that ExifTool doesn't use: by TIFF 6.0, CIPA DC-008 and IPTC-NAA IIM 4.2.

@@ -18,7 +18,7 @@ from studio import Studio, needs, run, write
 
 from exifnorm_pictures.catalogue.store import Catalogue
 from exifnorm_pictures.compare import groups
-from exifnorm_pictures.extract import budgets
+from exifnorm_pictures.model import budgets
 
 
 def exif():

@@ -2,9 +2,9 @@
 
 import os
 
-from exifnorm_pictures.cli import output
 from hypothesis import given
 from hypothesis import strategies as st
+from exifnorm_pictures.model import texts
 
 # Pieces that could be taken for one another: bytes that are no UTF-8, characters with their numbers, what they are escaped as, controls of the
 # writing direction, and whatever else a name can have
@@ -19,17 +19,17 @@ NAMES = st.lists(PIECES, max_size=4).map(b"".join)
 
 @given(NAMES)
 def test_one_printable_line(name):
-    assert output.shown_path(name).isprintable()
+    assert texts.shown_path(name).isprintable()
 
 
 @given(NAMES, NAMES)
 def test_different_names_are_different(one, other):
-    assert (output.shown_path(one) == output.shown_path(other)) is (one == other)
+    assert (texts.shown_path(one) == texts.shown_path(other)) is (one == other)
 
 
 @given(NAMES)
 def test_the_name_can_be_read_back(name):
-    assert os.fsencode(read(output.shown_path(name))) == name
+    assert os.fsencode(read(texts.shown_path(name))) == name
 
 
 def read(shown):
@@ -53,5 +53,5 @@ def read(shown):
 def test_controls_are_escaped():
     """Those of Unicode's categories Cc, Cf, Zl and Zp, and spaces other than U+0020."""
     for character in "\0\x1b\x7f\x85\xa0\xad\u061c\u200b\u202e\u2028\u2029\u2066\u3000\ufeff\U000e0001":
-        assert character not in output.shown_path(character.encode())
-        assert output.shown_path(character.encode()).startswith("\\")
+        assert character not in texts.shown_path(character.encode())
+        assert texts.shown_path(character.encode()).startswith("\\")

@@ -11,7 +11,7 @@ from studio import WithPictures, write
 
 from exifnorm_pictures.extract import exiftool, programs, readers
 from exifnorm_pictures.extract.formats import bigtiff, tiff
-from exifnorm_pictures.extract.formats.found import PROBLEMS, Blocks, NotRead
+from exifnorm_pictures.model.found import PROBLEMS, Blocks, NotRead
 
 ASKED = ("-EXIF:Exif", "-IPTC:IPTC", "-XMP:XMP", "-FileType#", "-MIMEType#", "-Error#")
 # Files in the structure of TIFF, by ExifTool's list of file types

@@ -8,9 +8,9 @@ from unittest import mock
 
 from exifnorm_pictures.compare.conflicts import Conflict
 from exifnorm_pictures.fields.labels import LabelText
+from exifnorm_pictures.model.records import PictureRecord
 from exifnorm_pictures.report import contents, page as report
 from exifnorm_pictures.report.contradictions import Contradictions
-from exifnorm_pictures.catalogue.records import PictureRecord
 from exifnorm_pictures.report.style import STYLE
 
 

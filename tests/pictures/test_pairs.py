@@ -21,8 +21,9 @@ _ASKED = threading.Lock()  # of one ExifTool in this process
 
 def sides(path, whole=False):
     """The meaning of a picture for each kind, and its unread parts."""
-    from exifnorm_pictures.compare import verdicts
-    from exifnorm_pictures.extract import extraction, judge
+    from exifnorm_pictures.extract import extraction
+    from exifnorm_pictures.judge import judge
+    from exifnorm_pictures.model import verdicts
 
     with _ASKED:
         blocks = extraction.blocks_of(os.fsencode(path), whole)
@@ -33,7 +34,7 @@ def sides(path, whole=False):
 
 class Pairs(WithPictures):
     def answer(self, one, other, whole=False, name="jpg"):
-        from exifnorm_pictures.compare import verdicts
+        from exifnorm_pictures.model import verdicts
 
         write(self.path(f"one.{name}"), one)
         write(self.path(f"other.{name}"), other)

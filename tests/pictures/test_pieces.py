@@ -14,16 +14,15 @@ from studio import WithPictures, write
 
 import exifnorm
 from exifnorm_pictures import xmp
-from exifnorm_pictures.catalogue import records
-from exifnorm_pictures.cli import output
-from exifnorm_pictures.compare import differing, moved, verdicts
+from exifnorm_pictures.compare import differing
 from exifnorm_pictures.extract import exiftool, programs
-from exifnorm_pictures.fields import listing
+from exifnorm_pictures.fields import listing, xmp_properties
+from exifnorm_pictures.model import records, texts, verdicts
+from exifnorm_pictures.model.found import Blocks, NotRead
+from exifnorm_pictures.model.records import PictureRecord, Stamp
+from exifnorm_pictures.model.verdicts import Side, Verdict
 from exifnorm_pictures.report import thumbnails
-from exifnorm_pictures.scan import batches, walk, workers
-from exifnorm_pictures.extract.formats.found import Blocks, NotRead
-from exifnorm_pictures.catalogue.records import PictureRecord, Stamp
-from exifnorm_pictures.compare.verdicts import Side, Verdict
+from exifnorm_pictures.scan import batches, moved, walk, workers
 from exifnorm_pictures.scan.walk import FoundFile
 
 
@@ -116,21 +115,21 @@ class Shown(unittest.TestCase):
 
     def test_names_of_files(self):
         self.assertEqual(
-            output.escaped("\ud800\x7f\x85\u2028\U000e0001\udc80\udcff\ud7ff\\\r\n\t"),
+            texts.escaped("\ud800\x7f\x85\u2028\U000e0001\udc80\udcff\ud7ff\\\r\n\t"),
             "\\ud800\\x7f\\u0085\\u2028\\U000e0001\\x80\\xff\\ud7ff\\\\\\r\\n\\t",
         )
         self.assertEqual(
-            [output.reason(it) for it in (OSError(2, "No Such File"), OSError(), PermissionError())],
+            [texts.reason(it) for it in (OSError(2, "No Such File"), OSError(), PermissionError())],
             ["no such file", "oserror", "permissionerror"],
         )
         self.assertEqual(
-            [output.path_members(it) for it in ("\u00fc\n".encode(), b"\xfc")], [{"path": "\u00fc\n"}, {"path": "\\xfc", "path_hex": "fc"}]
+            [texts.path_members(it) for it in ("\u00fc\n".encode(), b"\xfc")], [{"path": "\u00fc\n"}, {"path": "\\xfc", "path_hex": "fc"}]
         )
 
     def test_xmp(self):
         def shown(inside, attributes=""):
             found = xmp.statements(packet_of(inside, attributes), xmp.Extensions({}), set())
-            return [(it.key, it.type, it.elements, listing.exact(it)) for it in xmp.fields(found)]
+            return [(it.key, it.type, it.elements, listing.exact(it)) for it in xmp_properties.fields(found)]
 
         lists = "".join(
             f"<dc:{name}><rdf:{kind}><rdf:li>b</rdf:li><rdf:li xml:lang='DE'>a</rdf:li></rdf:{kind}></dc:{name}>"

@@ -15,8 +15,9 @@ from made_more_files import named, psd
 from pairs import DIFFERENT, SAME, UNDECIDED
 from studio import needs
 
-from exifnorm_pictures.extract import budgets, extraction
+from exifnorm_pictures.extract import extraction
 from exifnorm_pictures.extract.formats import psd as psd_
+from exifnorm_pictures.model import budgets
 
 A, B, K, L, T, U = exif(b"Abc"), exif(b"Xyz"), iim(b"one"), iim(b"four"), title("one"), title("two")
 E, I, X = resource(0x0422, A), resource(0x0404, K), resource(0x0424, T)

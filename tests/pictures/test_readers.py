@@ -14,9 +14,9 @@ from made_files import A, B, EXTENSION_HEAD, K, L, T, U
 from made_files import app1, app13, app1_xmp, chunk, extension, jpeg, mpf, page, png, png_xmp, profile, resource, tiff, webp
 from studio import SMALL_JPEG
 
-from exifnorm_pictures.extract import budgets
 from exifnorm_pictures.extract.formats import jpeg as jpeg_, mpf as mpf_, tiff as tiff_
-from exifnorm_pictures.extract.formats.found import Blocks, Broken, ordinal
+from exifnorm_pictures.model import budgets
+from exifnorm_pictures.model.found import Blocks, Broken, ordinal
 
 MIN = b"\xff\xd8\xff\xda\0\2\xff\xd9"  # a JPEG of one scan without data
 

@@ -8,10 +8,12 @@ import subprocess
 
 import pytest
 from exifnorm_pictures.cli import main
-from exifnorm_pictures.extract.formats.found import EXIF, FoundBlock
 from exifnorm_pictures.fields import normal_form
 from exifnorm_pictures.fields.listing import exact
-from exifnorm_pictures.refusals import mend, repaired_file, repairs, steps
+from exifnorm_pictures.judge import repairs
+from exifnorm_pictures.model import steps
+from exifnorm_pictures.model.found import EXIF, FoundBlock
+from exifnorm_pictures.refusals import mend, repaired_file
 from made_blocks import ASCII, BLOCKS, LONG, MAKE, SHORT, entry, table
 from made_files import app1, chunk, exif, jpeg, page, png, tiff, webp
 from studio import needs

@@ -8,9 +8,9 @@ from collections import Counter
 import made_files as made
 from studio import WithPictures, needs, run, write
 
-from exifnorm_pictures.catalogue.records import Block, PictureRecord, Stamp
 from exifnorm_pictures.catalogue.store import Catalogue
-from exifnorm_pictures.extract.formats.found import EXIF
+from exifnorm_pictures.model.found import EXIF
+from exifnorm_pictures.model.records import Block, PictureRecord, Stamp
 
 EXV = b"\xff\x01Exiv2\xff\xd9"  # exiv2's own format, which has no reader here and goes to ExifTool
 GROWTH = 8  # MB by which ten times as many pictures may need more: SQLite's caches (2 MB each) and Python's own memory, no list of all
@@ -272,7 +272,7 @@ class Scale(WithPictures):
             (["index", "p", "--catalogue", "e", "--quiet"], {"subprocess", "exifnorm", "xml", *reading}),
             (["merge", "c", "--catalogue", "d"], {"subprocess"}),
             (["changed", "c", "c"], {"subprocess", "exifnorm_pictures.compare.changed"}),
-            (["show", "p/0000.jpg"], {"subprocess", "exifnorm", "xml", reading[0], "exifnorm_pictures.refusals.repairs"}),
+            (["show", "p/0000.jpg"], {"subprocess", "exifnorm", "xml", reading[0], "exifnorm_pictures.judge.repairs"}),
         ):
             with self.subTest(words[0]):
                 done = run([sys.executable, "-S", "-c", call, *words], self.folder)

@@ -13,11 +13,11 @@ from unittest import mock
 
 from studio import WithPictures, read, write
 
-from exifnorm_pictures.cli import each_block, index, mend as mend_cli
-from exifnorm_pictures.extract import programs
+from exifnorm_pictures.cli import index, mend as mend_cli
+from exifnorm_pictures.extract import named, programs
 from exifnorm_pictures.files import tempdir
+from exifnorm_pictures.model.found import Blocks
 from exifnorm_pictures.refusals import mend
-from exifnorm_pictures.extract.formats.found import Blocks
 
 READ = 2_140_000_000  # when the picture was read: in the future, so that reading it changes nothing
 EXIFTOOL = ["exiftool", "-config", ""]
@@ -307,8 +307,8 @@ class Problems(unittest.TestCase):
     def test_a_program_that_fails_or_is_missing(self):
         missing = programs.Missing("exiftool")
         for raised, problem in ((programs.Failed("it ended"), "ToolFailed"), (missing, "NeedsExifTool")):
-            with mock.patch.object(each_block.extraction, "blocks_of", mock.Mock(side_effect=raised)):
-                found = each_block.blocks_of(b"a.gif")
+            with mock.patch.object(named.extraction, "blocks_of", mock.Mock(side_effect=raised)):
+                found = named.blocks_of(b"a.gif")
             self.assertEqual((found.problem, found.detail, found.found), (problem, str(raised), []))
             self.assertIn(problem, index.NOT_READABLE)
 

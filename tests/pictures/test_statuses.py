@@ -7,7 +7,7 @@ import sqlite3
 import pytest
 from exifnorm_pictures import xmp
 from exifnorm_pictures.cli import main
-from exifnorm_pictures.extract.formats.found import UNREAD_TRAILER
+from exifnorm_pictures.model.found import UNREAD_TRAILER
 from exifnorm_pictures.refusals import causes
 from exifnorm_pictures.scan import index
 from made_blocks import BLOCKS

@@ -15,17 +15,17 @@ from unittest import mock
 import kinds
 from studio import WithPictures
 
-from exifnorm_pictures.compare import changed, groups, pairs as pairing
-from exifnorm_pictures.compare.differing import bare
-from exifnorm_pictures.scan import looking
-from exifnorm_pictures.report import contents
 from exifnorm_pictures.catalogue import store
 from exifnorm_pictures.catalogue.store import VERSION, Catalogue, NoCatalogue
-from exifnorm_pictures.extract.formats.found import EXIF, IPTC, NAMES, XMP, NotRead
-from exifnorm_pictures.catalogue.records import Block, Digests, PictureRecord, Stamp
+from exifnorm_pictures.compare import changed, groups, pairs as pairing
+from exifnorm_pictures.compare.differing import bare
 from exifnorm_pictures.fields import normal_form
 from exifnorm_pictures.fields.listing import Field, numbers_text
 from exifnorm_pictures.fields.packing import packed
+from exifnorm_pictures.model.found import EXIF, IPTC, NAMES, XMP, NotRead
+from exifnorm_pictures.model.records import Block, Digests, PictureRecord, Stamp
+from exifnorm_pictures.report import contents
+from exifnorm_pictures.scan import looking
 
 BASE = {EXIF: "e", IPTC: "i", XMP: "x"}
 KNOWN, OTHER, UNKNOWN = NotRead("trailer", "1" * 64), NotRead("trailer", "2" * 64), NotRead("trailer", "")

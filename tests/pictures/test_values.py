@@ -14,16 +14,16 @@ from made_blocks import segment
 from made_files import exif, jpeg, xmp
 from studio import TESTS_PATH, WithPictures, interpreter_with, needs, run
 
-from exifnorm_pictures.cli import signals
+from exifnorm_pictures.catalogue.store import BLOCK_COLUMNS, PICTURE_COLUMNS, Catalogue, NoCatalogue
 from exifnorm_pictures.compare import changed
 from exifnorm_pictures.compare.differing import bare
-from exifnorm_pictures.extract import judge
+from exifnorm_pictures.extract.formats import jpeg as jpeg_
+from exifnorm_pictures.files import signals
+from exifnorm_pictures.judge import judge
+from exifnorm_pictures.model import found as found_
+from exifnorm_pictures.model.found import EXIF, PROBLEMS, NotRead
+from exifnorm_pictures.model.records import Block, Damaged, PictureRecord, Stamp, block_of_row
 from exifnorm_pictures.scan import batches, index
-from exifnorm_pictures.catalogue.records import Block, Damaged
-from exifnorm_pictures.catalogue.store import BLOCK_COLUMNS, PICTURE_COLUMNS, Catalogue, NoCatalogue
-from exifnorm_pictures.extract.formats import found as found_, jpeg as jpeg_
-from exifnorm_pictures.extract.formats.found import EXIF, PROBLEMS, NotRead
-from exifnorm_pictures.catalogue.records import PictureRecord, Stamp, block_of_row
 
 # The columns of each table that are read, and a value of another type in SQL for each type of a column, as SQLite keeps it there.
 COLUMNS = {"pictures": PICTURE_COLUMNS, "blocks": BLOCK_COLUMNS, "not_read": "what, digest"}
@@ -248,7 +248,7 @@ class Closed(WithPictures):
         """nohup ignores SIGHUP for a command (POSIX): it stays ignored."""
         for ignored in ("SIGHUP", "SIGTERM"):
             text = (
-                "import signal\nfrom exifnorm_pictures.cli import signals as ends\n"
+                "import signal\nfrom exifnorm_pictures.files import signals as ends\n"
                 f"for it in ends.SIGNALS: signal.signal(it, signal.SIG_IGN if it.name == '{ignored}' else signal.SIG_DFL)\n"
                 "ends.heed_signals()\nprint(*[it.name for it in ends.SIGNALS if signal.getsignal(it) == signal.SIG_IGN])\n"
                 "print(*[it.name for it in ends.SIGNALS if signal.getsignal(it) == signal.SIG_DFL])"

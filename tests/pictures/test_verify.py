@@ -88,7 +88,7 @@ def test_a_missing_picture_that_is_there_elsewhere(archive, called, verified):
 
 def test_metadata_that_rotted(archive, verified, monkeypatch):
     """Bytes that differ while the inode's time stayed are no edit, even if the picture is the same."""
-    from exifnorm_pictures.catalogue.records import Stamp
+    from exifnorm_pictures.model.records import Stamp
 
     before = os.stat(archive / "a.jpg")
     with open(archive / "a.jpg", "r+b") as file:

@@ -8,13 +8,15 @@ import sys
 import unittest
 from xml.etree import ElementTree
 
-from exifnorm_pictures.xmp import CAUSES, by_rdflib, properties, reader, tree
+from exifnorm_pictures.fields import xmp_properties as properties
+from exifnorm_pictures.xmp import CAUSES, by_rdflib, reader, tree
 from exifnorm_pictures.xmp.packets import Unreadable, rdf_of
 from exifnorm_pictures.xmp.reading import check_repeated
 from hypothesis import assume, given, settings
 from made_files import SPACES, title, xmp
 from packets import packets
 from studio import TESTS_PATH, interpreter_with, needs
+from exifnorm_pictures.fields import xmp_properties
 
 RDF = "http://www.w3.org/1999/02/22-rdf-syntax-ns#"
 
@@ -227,12 +229,12 @@ class Packets(unittest.TestCase):
         self.assertEqual(cause(asking, {name: more + b" "}), "ExtensionDamaged")
 
     def test_properties_are_named(self):
+        from exifnorm_pictures import xmp as reading
         from exifnorm_pictures.compare.differing import bare, differences
         from exifnorm_pictures.fields import listing
-        from exifnorm_pictures import xmp as reading
 
         def fields(packet):
-            return reading.fields(reading.statements(packet, {}, set()))
+            return xmp_properties.fields(reading.statements(packet, {}, set()))
 
         one = fields(xmp("<dc:format>one</dc:format><dc:subject><rdf:Bag><rdf:li>b</rdf:li><rdf:li>a</rdf:li></rdf:Bag></dc:subject>"))
         other = fields(xmp("<dc:format>two</dc:format><dc:subject><rdf:Bag><rdf:li>a</rdf:li><rdf:li>b</rdf:li></rdf:Bag></dc:subject>"))

@@ -16,12 +16,11 @@ import stat
 import time
 from typing import Any, Callable, Iterable, Iterator, List, NamedTuple, Optional, Sequence, Tuple, TypeVar, overload
 
-from ..cli import signals
-from ..cli.signals import Failure
-from ..extract.budgets import ROW_BYTES, STEPS
-from ..extract.formats.found import NotRead
-from ..files import mounts, opening as files
-from .records import Block, Damaged, Picture, PictureRecord, Stamp, block_of_row, has, not_read_of_row, picture_of_row
+from ..files import mounts, opening as files, signals
+from ..model.budgets import ROW_BYTES, STEPS
+from ..model.errors import Failure
+from ..model.found import NotRead
+from ..model.records import Block, Damaged, Picture, PictureRecord, Stamp, block_of_row, has, not_read_of_row, picture_of_row
 
 APPLICATION = 0x45584E50  # 'EXNP', which distinguishes a catalogue from other SQLite files
 VERSION = 6

@@ -4,10 +4,10 @@ from __future__ import annotations
 
 from typing import List, NamedTuple, Sequence, Set, Tuple
 
-from ..extract.formats.found import NAMES
 from ..fields.labels import STANDARDS, WORDS, LabelText, camera_of, not_kept, of_block, with_own
 from ..fields.listing import Field
-from .records import Block
+from ..model.found import NAMES
+from ..model.records import Block
 
 
 class PictureTexts(NamedTuple):

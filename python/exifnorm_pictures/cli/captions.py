@@ -7,15 +7,16 @@ import os
 from typing import Iterator, List
 
 from ..compare.conflicts import ALIKE, best, conflicts, own_texts
-from ..extract.formats.found import each_kind
-from ..extract.reading import Reading
 from ..fields.labels import WORDS, LabelText
+from ..judge.reading import Reading
+from ..model.found import each_kind
+from ..model.texts import Members, escaped, shown_path
 from .columns import width
-from .exit_codes import SUCCESS
 from .each_block import status_of
+from .exit_codes import SUCCESS
 from .labelled import is_of_many, members, not_read, origins, pictures, refused, together
 from .objects import print_object
-from .output import Members, escaped, print_line, shown_path
+from .output import print_line
 from .tables import Cell, Table
 
 _OWN = "a camera's or a program's own text"

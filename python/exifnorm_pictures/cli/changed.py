@@ -17,24 +17,24 @@ from ..compare.summary import Summary
 from ..compare.wording import NONE, line_of
 from ..extract import exiftool, programs
 from ..fields.choosing import Choice
+from ..fields.left_out import lines as lines_of_choice
 from ..fields.listing import MAKER_NOTE
 from ..fields.plain_names import group_name
-from ..files import tempdir
-from ..scan.batches import How
+from ..files import signals, tempdir
+from ..model.errors import WrongUse
+from ..model.texts import shown_path
 from ..scan.index import IndexOptions, index
-from . import changed_tables, signals
-from .choice import choice_of, lines as lines_of_choice, listings_of, refuse_unknown, say_unseen
-from .exit_codes import DIFFERENCE, SUCCESS, UNKNOWN, USAGE
+from . import changed_tables
+from .choice import choice_of, listings_of, refuse_unknown, say_unseen
+from .exit_codes import DIFFERENCE, SUCCESS, UNKNOWN
+from .looking import how_of
 from .names import from_list, refuse_pictures, say_unknown
-from .output import closed_folder, print_line, shown_path
-from .signals import Failure
+from .output import closed_folder, print_line
 from .summary import lines
 
 
-class NotRead(Failure):
+class NotRead(WrongUse):
     """An option says how pictures are read, and they were read by an earlier `index` without it."""
-
-    status = USAGE
 
 
 def run(arguments: argparse.Namespace) -> int:
@@ -166,7 +166,7 @@ def _side(name: str, arguments: argparse.Namespace, open_: contextlib.ExitStack)
     try:
         closed: List[str] = []
         quiet = arguments.quiet or not sys.stderr.isatty()
-        index(IndexOptions([os.fsencode(name)], quiet=quiet, how=How.of(arguments, room, closed_folder), print_line=closed.append), made)
+        index(IndexOptions([os.fsencode(name)], quiet=quiet, how=how_of(arguments, room, closed_folder), print_line=closed.append), made)
         if closed:  # its pictures would seem to be missing
             raise NoCatalogue("; ".join(closed))
     except BaseException:

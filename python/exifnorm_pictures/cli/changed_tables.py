@@ -5,18 +5,18 @@ from __future__ import annotations
 from collections import Counter
 from typing import Iterable, Optional, Sequence, Tuple
 
-from ..catalogue.records import WORDS
 from ..compare.changed import Compared
 from ..compare.differing import Difference, exact
 from ..compare.wording import plain_sides
 from ..fields.choosing import Choice
+from ..fields.left_out import lines
 from ..fields.listing import MAKER_NOTE, Field
 from ..fields.plain_names import exact_key, group_name
 from ..fields.typed import together
-from ..refusals.steps import Step
-from .choice import lines
+from ..model.records import WORDS
+from ..model.steps import Step
+from ..model.texts import Members, path_members
 from .objects import print_object
-from .output import Members, path_members
 from .tables import Table
 
 Found = Iterable[Compared]

@@ -6,16 +6,14 @@ import argparse
 from typing import Iterable, Iterator, Sequence, Tuple
 
 from ..catalogue.store import Catalogue
-from ..extract.formats.found import NAMES
 from ..fields.choosing import Choice, UnknownField, hint
 from ..fields.listing import Field
 from ..fields.packing import unpacked
-from . import signals
-from .output import escaped, reason
+from ..files import signals
+from ..model.found import NAMES
+from ..model.texts import escaped, reason
 
 LONGEST_FILE = 1 << 20  # bytes of a file with names
-BY_LISTING = "Fields are left out by their listing, which is tested, and not proved."
-SHOWN = 6  # fields that are named in a line
 
 
 def choice_of(arguments: argparse.Namespace) -> Choice:
@@ -68,23 +66,6 @@ def listings_of(catalogue: Catalogue) -> Iterator[Listed]:
 def other_name(name: str) -> str:
     """The name of a block that isn't the first one of its kind; otherwise empty."""
     return "" if name in NAMES.values() else name
-
-
-def lines(choice: Choice, is_counted: bool = False) -> Iterator[str]:
-    """The fields of labels, and what was left out though it differs, perhaps with the number of pictures."""
-    yield from of_labels(choice)
-    if choice.left_out:
-        counts = sorted(choice.left_out.items(), key=lambda it: (-it[1], it[0]))
-        names = [escaped(name) + (f" ({count:,} picture{'s' * (count != 1)})" if is_counted else "") for name, count in counts[:SHOWN]]
-        more = f" and {len(counts) - SHOWN:,} more" if len(counts) > SHOWN else ""
-        yield f"Left out though {'they differ' if len(counts) > 1 else 'it differs'}: {', '.join(names)}{more}."
-        yield BY_LISTING
-
-
-def of_labels(choice: Choice) -> Iterator[str]:
-    """Which fields a label stands for."""
-    for label, fields in choice.labels().items():
-        yield f"{label} stands for {', '.join(fields)}."
 
 
 def say_unseen(choice: Choice, which: str) -> None:

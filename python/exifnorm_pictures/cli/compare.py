@@ -8,23 +8,25 @@ import shutil
 from collections import Counter
 from typing import Iterator, List, Optional, Sequence
 
-from ..catalogue.records import WORDS, PictureRecord
-from ..compare import changed as changes
-from ..compare import coded, verdicts
+from ..compare import changed as changes, coded
 from ..compare.two_pictures import Comparison, Row, compare, read, with_position
 from ..compare.wording import NONE, tag_of
 from ..extract import exiftool, programs
 from ..fields.choosing import Choice
+from ..fields.left_out import lines
 from ..fields.typed import together
 from ..files import tempdir
+from ..model import verdicts
+from ..model.records import WORDS, PictureRecord
+from ..model.texts import Members, escaped, shown_path
 from ..scan.batches import How
 from .changed import status_of
+from .choice import choice_of, other_name, refuse_unknown, say_unseen
 from .columns import columns
-from .choice import choice_of, lines, other_name, refuse_unknown, say_unseen
 from .exit_codes import SUCCESS, UNKNOWN
 from .names import refuse_folders
 from .objects import picture_object, print_object
-from .output import Members, escaped, print_line, shown_path
+from .output import print_line
 from .tables import Table
 
 

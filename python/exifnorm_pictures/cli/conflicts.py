@@ -8,15 +8,16 @@ from dataclasses import dataclass, field
 from typing import Dict, Iterator, List, Sequence, Set
 
 from ..compare.conflicts import ALIKE, CAMERA, CHARACTERS, CUT, EMPTY, JOINED, ORDER, Conflict, conflicts
-from ..extract.formats.found import damage
-from ..extract.reading import Reading
 from ..fields.choosing import UnknownField
 from ..fields.labels import LABELS, STANDARDS, label_of
+from ..judge.reading import Reading
+from ..model.found import damage
+from ..model.texts import Members, escaped, shown_path
 from .captions import text_members
 from .exit_codes import DIFFERENCE, SUCCESS, UNKNOWN
 from .labelled import members, origins, pictures, refused, together
 from .objects import print_object
-from .output import Members, escaped, print_line, shown_path
+from .output import print_line
 from .tables import Cell, Table
 
 LONGEST = 160  # characters of a text that is shown whole

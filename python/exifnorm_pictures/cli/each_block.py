@@ -5,44 +5,21 @@ from __future__ import annotations
 import argparse
 from typing import Callable, Iterator, List, Tuple
 
-from exifnorm import LIMIT, LibraryMissing
-
-from ..catalogue.records import WORDS, Block
-from ..compare.verdicts import ACCEPTED
-from ..extract import exiftool, extraction, programs
-from ..extract.formats.found import EXIF, IPTC, NAMES, Blocks, FoundBlock, each_kind
-from ..extract.reading import Reading
-from ..files import opening, tempdir
+from ..extract import exiftool, programs
+from ..extract.named import blocks_of
+from ..files import tempdir
+from ..judge.reading import Reading
+from ..model.found import FoundBlock, each_kind
+from ..model.records import WORDS, Block
+from ..model.texts import Members, path_members, shown_path
+from ..model.verdicts import ACCEPTED
 from .exit_codes import SUCCESS, UNKNOWN
 from .names import named
-from .output import Members, block_members, output, path_members, reason, shown_path
+from .output import block_members, output
 
-LONGEST = LIMIT + 7  # bytes of a block that are read: one more than any block and its six bytes in front can have
 
 Described = Tuple[List[str], Members]
 Describe = Callable[[FoundBlock, Block], Described]
-
-
-def blocks_of(name: bytes, whole: bool = False, is_block: bool = False) -> Blocks:
-    """The blocks of a picture, or the file as a block by itself."""
-    if not is_block:
-        try:
-            return extraction.blocks_of(name, whole)
-        except programs.Failed as error:
-            return Blocks(problem="TooSlow" if isinstance(error, programs.TooSlow) else "ToolFailed", detail=str(error))
-        except programs.Missing as error:
-            return Blocks(problem="NeedsExifTool", detail=str(error))
-        except (LibraryMissing, MemoryError):
-            raise
-        except Exception as error:  # an error of a reader affects only this file
-            return extraction.failed_here(error)
-    try:
-        with opening.reading(name) as file:
-            octets = file.read(LONGEST)
-    except OSError as error:
-        return Blocks(problem="Unreadable", detail=reason(error))
-    kind = IPTC if octets[:1] == b"\x1c" else EXIF
-    return Blocks([FoundBlock(kind, octets, NAMES[kind], "the file")])
 
 
 def status_of(it: Reading) -> int:

@@ -5,10 +5,11 @@ from __future__ import annotations
 import argparse
 from typing import List
 
-from ..catalogue.records import Block
-from ..compare.verdicts import ACCEPTED, REFUSED
-from ..extract.formats.found import EXIF, XMP, FoundBlock
-from ..refusals import explain, steps
+from ..model import steps
+from ..model.found import EXIF, XMP, FoundBlock
+from ..model.records import Block
+from ..model.verdicts import ACCEPTED, REFUSED
+from ..refusals import explain
 from .each_block import Described, each_block, with_kind
 from .output import block_members
 

@@ -15,10 +15,11 @@ from ..export.rows import Export
 from ..export.tables import VERSION, Tables, head_is_ours, tables
 from ..extract import exiftool, programs
 from ..files import atomic, tempdir
+from ..model.texts import path_members, shown_path
 from .exit_codes import SUCCESS
 from .names import chosen_paths, say_unknown
 from .objects import print_object
-from .output import path_members, print_line, shown_path
+from .output import print_line
 
 
 def run(arguments: argparse.Namespace) -> int:

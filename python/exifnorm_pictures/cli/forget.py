@@ -6,9 +6,10 @@ import argparse
 import os
 
 from ..catalogue.store import Catalogue
+from ..model.texts import path_members, shown_path
 from .exit_codes import SUCCESS
 from .names import named
-from .output import output, path_members, shown_path
+from .output import output
 
 
 def run(arguments: argparse.Namespace) -> int:

@@ -11,24 +11,23 @@ from typing import Iterator, List
 
 from ..catalogue.store import Catalogue, NoCatalogue, head_is_ours
 from ..extract import programs
-from ..files import atomic, tempdir
-from ..scan.batches import How
+from ..files import atomic, signals, tempdir
+from ..model.errors import WrongUse
+from ..model.texts import escaped, moved_line, shown_path
 from ..scan.excluded import Excluded
 from ..scan.index import IndexOptions, index
-from .exit_codes import SUCCESS, UNKNOWN, USAGE
+from . import objects
+from .exit_codes import SUCCESS, UNKNOWN
+from .looking import how_of
 from .names import named
-from . import objects, signals
-from .output import escaped, kind_of_part, moved_line, print_line, record_lines, shown_path
-from .signals import Failure
+from .output import kind_of_part, print_line, record_lines
 
 # Pictures that should be readable and aren't
 NOT_READABLE = ("Unreadable", "ToolFailed", "InternalError", "TooMuch", "TooSlow", "NeedsExifTool", "NeedsExiv2")
 
 
-class NoSidecars(Failure):
+class NoSidecars(WrongUse):
     """A catalogue can't have XMP sidecars."""
-
-    status = USAGE
 
 
 def _check_sidecars(arguments: argparse.Namespace, catalogue: Catalogue) -> None:
@@ -40,16 +39,12 @@ def _check_sidecars(arguments: argparse.Namespace, catalogue: Catalogue) -> None
         raise NoSidecars("XMP sidecars are read here only, not on the workers of a cluster: leave out --scheduler")
 
 
-class NoScheduler(Failure):
+class NoScheduler(WrongUse):
     """An option is for the workers of a cluster, and no cluster was named."""
 
-    status = USAGE
 
-
-class NothingThere(Failure):
+class NothingThere(WrongUse):
     """No name leads to a folder or a file, and there is no catalogue yet: a mistyped name makes none."""
-
-    status = USAGE
 
 
 def run(arguments: argparse.Namespace) -> int:
@@ -69,7 +64,7 @@ def run(arguments: argparse.Namespace) -> int:
         arguments.pixels = arguments.pixels or catalogue.has_digests()  # of the pictures that changed, too
         lines = objects.record_lines if arguments.json else None if arguments.quiet else record_lines
         excluded = Excluded(arguments.exclude)
-        how = How.of(arguments, room, lines)
+        how = how_of(arguments, room, lines)
         options = IndexOptions(names, arguments.again, arguments.quiet, how, print_line, excluded=excluded, lines=lines or record_lines)
         options.moved_line = None if arguments.json or arguments.quiet else moved_line
         if arguments.scheduler:

@@ -6,22 +6,22 @@ import argparse
 import os
 from typing import Dict, Iterator, List, Sequence
 
-from ..catalogue.records import NOT_THERE
 from ..catalogue.store import Catalogue, head_is_ours
 from ..catalogue.texts import texts_of
-from ..compare.verdicts import ACCEPTED, REACHED
 from ..extract import exiftool, programs
-from ..extract.formats.found import Blocks, NotRead
-from ..extract.reading import Reading
+from ..extract.named import blocks_of
 from ..fields.labels import LabelText
 from ..fields.packing import unpacked
 from ..files import opening, tempdir
-from ..refusals import steps
+from ..judge.reading import Reading
+from ..model import steps
+from ..model.found import Blocks, NotRead
+from ..model.records import NOT_THERE
+from ..model.texts import Members
+from ..model.verdicts import ACCEPTED, REACHED
 from ..scan.walk import Unlisted, below
-from .each_block import blocks_of
 from .names import named
 from .objects import picture_object
-from .output import Members
 
 
 def pictures(arguments: argparse.Namespace) -> Iterator[Reading]:

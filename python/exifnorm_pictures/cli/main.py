@@ -13,9 +13,10 @@ import sys
 from types import ModuleType
 from typing import Optional, Sequence
 
-from . import signals
-from .exit_codes import FAILURE, STOPPED
-from .output import described, reason, shown_path
+from ..files import signals
+from ..model import errors
+from ..model.texts import described, reason, shown_path
+from .exit_codes import FAILURE, STOPPED, USAGE
 from .parser import parsed
 
 COLLECTED = 50_000  # objects after which Python looks for rings of objects: what a picture needs makes none, so mostly it looks in vain
@@ -32,7 +33,7 @@ def main(words: Optional[Sequence[str]] = None) -> int:
         sys.stdout.flush()
         return status
     except signals.ClosedOutput as error:
-        return _failed(str(error), error.status)
+        return _failed(str(error))
     except signals.Stopped as stopped:
         signals.end_children()
         signals.drop(sys.stdout)
@@ -76,8 +77,8 @@ def _with_spreadsheet(module: ModuleType, arguments: argparse.Namespace) -> int:
 
 
 def _failed_by(error: Exception) -> int:
-    if isinstance(error, signals.Failure):
-        return _failed(str(error), error.status)
+    if isinstance(error, errors.Failure):
+        return _failed(str(error), USAGE if isinstance(error, errors.WrongUse) else FAILURE)
     if _is_expected(error):
         return _failed(str(error))
     if not isinstance(error, OSError):

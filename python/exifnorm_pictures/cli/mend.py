@@ -7,12 +7,14 @@ import os
 from typing import Dict, Iterator, List, Tuple, Type
 
 from ..extract import exiftool, programs
-from ..extract.budgets import TooMuch
 from ..files import atomic, tempdir
-from ..refusals import mend, steps
+from ..model import steps
+from ..model.budgets import TooMuch
+from ..model.texts import Members, path_members, shown_path
+from ..refusals import mend
 from .exit_codes import DIFFERENCE, FAILURE, SUCCESS, UNKNOWN
 from .names import from_list
-from .output import Members, output, path_members, shown_path
+from .output import output
 from .parser import refuse
 
 

@@ -6,13 +6,12 @@ import argparse
 import os
 from typing import Callable, Iterable, List, Optional, Sequence, Set
 
+from ..files import signals
 from ..files.opening import reading
+from ..model.errors import WrongUse
+from ..model.texts import shown_path
 from ..scan.walk import BadList, listed
-from . import signals
-from .exit_codes import USAGE
-from .output import shown_path
 from .parser import refuse
-from .signals import Failure
 
 
 def from_list(arguments: argparse.Namespace) -> Optional[List[bytes]]:
@@ -50,10 +49,8 @@ def named(arguments: argparse.Namespace, names: Sequence[str]) -> List[bytes]:
     return found
 
 
-class WrongCommand(Failure):
+class WrongCommand(WrongUse):
     """Two names for which another command is meant."""
-
-    status = USAGE
 
 
 def _is_catalogue(name: str) -> bool:

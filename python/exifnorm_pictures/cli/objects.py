@@ -5,8 +5,8 @@ from __future__ import annotations
 import json
 from typing import List, Optional
 
-from ..catalogue.records import WORDS, Block, PictureRecord
-from .output import Members, path_members
+from ..model.records import WORDS, Block, PictureRecord
+from ..model.texts import Members, path_members
 
 # The version of a command's objects. It grows if a key is renamed or removed, or gets another meaning; a new key alone doesn't count.
 _VERSIONS = {"captions": 1, "changed": 1, "compare": 1, "conflicts": 1, "export": 1, "index": 1, "same": 1, "show": 1, "verify": 1}

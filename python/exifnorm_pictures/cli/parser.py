@@ -6,10 +6,10 @@ import argparse
 import sys
 from typing import IO, Callable, Dict, NoReturn, Optional, Sequence, Tuple
 
-from ..catalogue.records import KIND_OF
-from ..extract.budgets import PROGRAM_SECONDS
+from ..model.budgets import PROGRAM_SECONDS
+from ..model.records import KIND_OF
+from ..model.texts import safe
 from .exit_codes import USAGE
-from .output import safe
 
 PIXELS = "pixels"  # the kind of groups with the same coded picture
 

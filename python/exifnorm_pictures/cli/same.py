@@ -8,22 +8,24 @@ import json
 from collections import Counter
 from typing import Dict, Iterator, List, Optional, Sequence, Tuple
 
-from ..catalogue.records import KIND_OF, KINDS, WORDS, Picture
 from ..catalogue.store import Catalogue
-from ..compare import groups, verdicts
+from ..compare import groups
 from ..compare.keeping import NOT_KNOWN, Keep, keeping
 from ..compare.readings import Unknown, of_unknown
 from ..extract import exiftool
 from ..fields.choosing import Choice
-from ..files import tempdir
-from .choice import BY_LISTING, choice_of, listings_of, of_labels, refuse_unknown, say_unseen
-from .exit_codes import DIFFERENCE, SUCCESS, UNKNOWN, USAGE
+from ..fields.left_out import BY_LISTING, of_labels
+from ..files import signals, tempdir
+from ..model import verdicts
+from ..model.errors import WrongUse
+from ..model.records import KINDS, KIND_OF, WORDS, Picture
+from ..model.texts import Members, path_members, shown_path
+from .choice import choice_of, listings_of, refuse_unknown, say_unseen
+from .exit_codes import DIFFERENCE, SUCCESS, UNKNOWN
 from .names import chosen_paths, say_unknown
 from .objects import line_of, print_object
-from .output import Members, path_members, print_line, shown_path
+from .output import print_line
 from .parser import PIXELS
-from . import signals
-from .signals import Failure
 from .tables import Table
 
 
@@ -95,10 +97,8 @@ def _status(results: "Counter[str]") -> int:
     return DIFFERENCE if results[verdicts.ONLY_MAKER_NOTE] else SUCCESS
 
 
-class NoDigests(Failure):
+class NoDigests(WrongUse):
     """No digests of coded pictures, or options that have nothing to do with them."""
-
-    status = USAGE
 
 
 def _groups(

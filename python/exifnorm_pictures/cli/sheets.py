@@ -9,8 +9,9 @@ import shutil
 from typing import Iterator, Optional, Sequence, Union
 
 from ..files import atomic, tempdir
-from .output import escaped, print_line, shown_path
-from .signals import Failure
+from ..model.errors import Failure
+from ..model.texts import escaped, shown_path
+from .output import print_line
 
 Cell = Union[str, bytes, int, None]
 ROWS, LONGEST = 1_048_576, 32_767  # of a sheet, and characters of a cell, of Excel and LibreOffice

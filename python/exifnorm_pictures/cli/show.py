@@ -5,20 +5,20 @@ from __future__ import annotations
 import argparse
 from typing import Iterator, List
 
-from ..catalogue.records import Block
-from ..compare.verdicts import ACCEPTED
-from ..extract.formats.found import PROGRAMS, each_kind
-from ..extract.reading import Reading
 from ..fields.listing import Field, exact, readable
 from ..fields.plain_names import exact_key, group_name
 from ..fields.plain_values import plain
 from ..fields.typed import typed
-from ..refusals import steps
+from ..judge.reading import Reading
+from ..model import steps
+from ..model.found import PROGRAMS, each_kind
+from ..model.records import Block
+from ..model.texts import Members, escaped
+from ..model.verdicts import ACCEPTED
 from .columns import LONGEST_NAME, width
 from .each_block import Described, each_block, each_picture, status_of
 from .exit_codes import SUCCESS
 from .objects import block_object, picture_object, print_object
-from .output import Members, escaped
 from .tables import Table
 
 

@@ -7,10 +7,10 @@ from typing import Iterator, List, NamedTuple, Sequence
 
 from ..compare import changed
 from ..compare.summary import FIELDS, FieldCount, PartCount, Summary
-from ..compare.verdicts import SAME
 from ..compare.wording import cut
+from ..model.texts import shown_path
+from ..model.verdicts import SAME
 from .columns import width
-from .output import shown_path
 
 LINES = 30  # of the page
 LEAST = 6  # lines for fields, and for blocks, however many results there are

@@ -10,8 +10,8 @@ import csv
 import sys
 from typing import Optional, Sequence, Union
 
+from ..model.texts import escaped, shown_path
 from . import sheets
-from .output import escaped, shown_path
 
 Cell = sheets.Cell
 

@@ -14,21 +14,20 @@ from ..catalogue.store import Catalogue, NoCatalogue
 from ..compare import verified
 from ..extract import exiftool, programs
 from ..files import atomic, tempdir
+from ..model.errors import WrongUse
+from ..model.texts import escaped, path_members, shown_path
 from ..scan.batches import How
 from ..scan.index import IndexOptions, index
-from .exit_codes import DIFFERENCE, SUCCESS, UNKNOWN, USAGE
+from .exit_codes import DIFFERENCE, SUCCESS, UNKNOWN
 from .names import named
 from .objects import print_object
-from .output import closed_folder, escaped, path_members, print_line, shown_path
-from .signals import Failure
+from .output import closed_folder, print_line
 
 SHOWN = 10  # files that are named of each state
 
 
-class NotThere(Failure):
+class NotThere(WrongUse):
     """A folder that isn't there, as of a disk that isn't mounted: each of its files would seem to be missing."""
-
-    status = USAGE
 
 
 def run(arguments: argparse.Namespace) -> int:

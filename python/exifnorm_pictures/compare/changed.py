@@ -11,19 +11,16 @@ from collections import Counter
 from dataclasses import dataclass, field
 from typing import TYPE_CHECKING, Dict, Iterable, Iterator, List, Optional, Set, Tuple
 
-from ..catalogue.records import Block, Picture, is_same_file
 from ..catalogue.store import Catalogue
-from ..extract.formats.found import EXIF, NAMES, OWN, PROGRAMS
 from ..fields.choosing import EVERYTHING, Choice
 from ..fields.listing import MAKER_NOTE
 from ..fields.plain_names import group_name
-from ..refusals import steps
-from ..refusals.steps import Step
-from . import coded
-from .differing import Difference, differences
-from .pairs import AFTER, BEFORE, Pair, Pairs
-from .sides import Sides
-from .verdicts import (
+from ..judge.sides import Sides
+from ..model import steps
+from ..model.found import EXIF, NAMES, OWN, PROGRAMS
+from ..model.records import Block, Picture, is_same_file
+from ..model.steps import Step
+from ..model.verdicts import (
     ABSENT,
     ACCEPTED,
     DIFFERENT,
@@ -46,11 +43,14 @@ from .verdicts import (
     sentence,
     verdicts,
 )
+from . import coded
+from .differing import Difference, differences
+from .pairs import AFTER, BEFORE, Pair, Pairs
 
 ONLY_NUMBERS = "only equal numbers are written otherwise"
 REFUSED_SAME, UNREADABLE_SAME = f"{REFUSED}, the same bytes", f"{UNREADABLE}, the same bytes"
 if TYPE_CHECKING:
-    from . import maker_notes
+    from ..judge import maker_notes
 
 MISSING_BEFORE, MISSING_AFTER, MOVED, NOT_READ = "missing before", "missing after", "moved", "not read"
 OTHER_PICTURE_ALONE, OTHER_PICTURE = "other picture, the same metadata", "other picture"  # of the latter it isn't wholly known
@@ -228,7 +228,7 @@ def _judge_maker_notes(it: Compared, one: Picture, other: Picture, pairs: Sides,
     rewritten = both and one.exif_octets != other.exif_octets  # then what the MakerNote leads to may be gone or have changed
     if not (lines or moved or reached or rewritten) or it.result == REFUSED_SAME:
         return parts
-    from . import maker_notes  # which is seldom needed
+    from ..judge import maker_notes  # which is seldom needed
 
     found = maker_notes.compared(pairs.catalogues[BEFORE], one, pairs.catalogues[AFTER], other) if ask else None
     if found is None:

@@ -5,7 +5,7 @@ from __future__ import annotations
 from collections import Counter
 from typing import NamedTuple, Optional
 
-from ..catalogue.records import Picture
+from ..model.records import Picture
 
 SAME, OTHER, DAMAGED, DAMAGED_BOTH, UNKNOWN = "the same", "other", "damaged", "damaged before and after", "not compared"
 RESULTS = (SAME, OTHER, DAMAGED, DAMAGED_BOTH, UNKNOWN)

@@ -6,15 +6,15 @@ import hashlib
 from itertools import groupby
 from typing import Any, Iterator, List, NamedTuple, Optional, Sequence, Tuple
 
-from ..catalogue.records import KINDS, WORDS, Picture, has, kind_of
 from ..catalogue.store import Catalogue
-from ..extract.formats.found import EXIF, NAMES
 from ..fields.choosing import Choice
 from ..fields.listing import MAKER_NOTE, Field, exact
 from ..fields.packing import unpacked
-from ..refusals import steps
+from ..model import steps
+from ..model.found import EXIF, NAMES
+from ..model.records import KINDS, WORDS, Picture, has, kind_of
+from ..model.verdicts import ACCEPTED, joined
 from .differing import equal_form
-from .verdicts import ACCEPTED, joined
 
 _BATCH = 1000  # rows that are written at once
 

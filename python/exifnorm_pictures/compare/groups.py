@@ -12,15 +12,15 @@ from collections import Counter
 from dataclasses import dataclass, field, replace
 from typing import Dict, Iterable, Iterator, List, NamedTuple, Optional, Sequence, Tuple
 
-from ..catalogue.records import KINDS, NOT_THERE, WORDS, Picture, Stamp, is_marked_as, picture_of_row
 from ..catalogue.store import PICTURE_COLUMNS, Catalogue
-from ..extract.formats.found import EXIF, NAMES, each_kind
 from ..extract.sidecars import Folders
 from ..fields.choosing import EVERYTHING, Choice, UnknownField
 from ..fields.packing import unpacked
-from ..refusals import steps
+from ..model import steps
+from ..model.found import EXIF, NAMES, each_kind
+from ..model.records import KINDS, NOT_THERE, WORDS, Picture, Stamp, is_marked_as, picture_of_row
+from ..model.verdicts import ABSENT, DIFFERENT, MOVED_NOTE, ONLY_MAKER_NOTE, ONLY_REACHED, SAME, SAME_REPAIRED, clause, listed, none_of
 from .readings import LOST, Readings, Unknown
-from .verdicts import ABSENT, DIFFERENT, MOVED_NOTE, ONLY_MAKER_NOTE, ONLY_REACHED, SAME, SAME_REPAIRED, clause, listed, none_of
 
 MEANING, BYTES, MAKER_NOTE, REPAIR = "meaning", "bytes", "maker note", "repair"
 FIELDS = "fields"  # the meaning but for the fields left out, by the listing of fields, which is tested and not proved

@@ -8,8 +8,8 @@ import contextlib
 from collections import Counter
 from typing import Dict, List, NamedTuple, Optional, Sequence, Tuple
 
-from ..catalogue.records import Picture
-from ..cli.output import shown_path
+from ..model.records import Picture
+from ..model.texts import shown_path
 from .groups import KEEP_ALL, Group
 
 NOT_KNOWN = "whether its picture is that of another one isn't known: index --pixels finds out"
@@ -90,6 +90,6 @@ def _keys(members: Sequence[Picture], reads: bool) -> Dict[int, _Key]:
 
 def _damage_of(it: Picture) -> str:
     from ..extract import coded_picture
-    from ..extract.budgets import Budget
+    from ..model.budgets import Budget
 
     return coded_picture.of_file(it.path, Budget()).damage

@@ -9,14 +9,14 @@ import sqlite3
 from collections import Counter
 from typing import Callable, Iterator, List, NamedTuple, Optional, Set, Tuple, TypeVar
 
-from ..catalogue.records import NOT_THERE, Block, Damaged, Picture, block_of_row, not_read_of_row, picture_of_row
 from ..catalogue.store import BLOCK_COLUMNS, PICTURE_COLUMNS, Catalogue, NoCatalogue, address, check_schema, connect, unlike
-from ..cli import signals
-from ..extract.formats.found import NotRead
 from ..fields.listing import Field
 from ..fields.packing import unpacked
+from ..files import signals
+from ..model.found import NotRead
+from ..model.records import NOT_THERE, Block, Damaged, Picture, block_of_row, not_read_of_row, picture_of_row
+from ..scan.moved import content_key
 from . import coded
-from .moved import content_key
 
 BEFORE, AFTER = 0, 1  # the two sides
 _BASES, _ALIASES = ("before", "after"), ("old", "new")

@@ -6,11 +6,11 @@ import contextlib
 from collections import Counter
 from typing import TYPE_CHECKING, Dict, Iterable, NamedTuple, Optional, Set
 
-from ..catalogue.records import Picture
 from ..catalogue.store import Catalogue
+from ..model.records import Picture
 
 if TYPE_CHECKING:
-    from . import maker_notes
+    from ..judge import maker_notes
 
 # Why it isn't known whether ExifTool reads the same of some MakerNotes
 NOT_LOOKED_AT, NO_EXIFTOOL, LOST, IN_DOUBT, FAILED = "not looked at", "no ExifTool", "gone or changed", "in doubt", "failed"
@@ -56,7 +56,7 @@ class Readings:
 
     def of(self, pictures: Iterable[Picture]) -> Dict[int, Optional[Read]]:
         """The readings of some pictures and of earlier ones, by their numbers: None for one at which ExifTool fails."""
-        from . import maker_notes  # which is seldom needed
+        from ..judge import maker_notes  # which is seldom needed
         from ..extract.programs import Missing
 
         wanted = [it for it in pictures if it.id not in self._known] if self.look else []

@@ -8,20 +8,20 @@ import os
 from dataclasses import dataclass, field
 from typing import Callable, Dict, List, NamedTuple, Optional, Sequence, Tuple
 
-from ..catalogue.records import KINDS, Block, Picture, PictureRecord, Stamp
-from ..extract.formats.found import NAMES, PROBLEMS, NotRead
 from ..fields.choosing import EVERYTHING, Choice
 from ..fields.listing import MAKER_NOTE, Field
 from ..fields.plain_names import group_name
 from ..fields.plain_values import POSITION, plain, position
+from ..judge.sides import Made
+from ..model.found import NAMES, PROBLEMS, NotRead
+from ..model.records import KINDS, Block, Picture, PictureRecord, Stamp
+from ..model.verdicts import ABSENT, SAME
 from ..scan.batches import How
-from ..scan.walk import FoundFile
 from ..scan.looking import look
+from ..scan.walk import FoundFile
 from .changed import DAMAGED, OTHER_PICTURE_ALONE, Compared, compared
 from .differing import Difference, exact
 from .pairs import Pair
-from .sides import Made
-from .verdicts import ABSENT, SAME
 
 
 class _KeepsNothing(NamedTuple):

@@ -4,10 +4,10 @@ from __future__ import annotations
 
 from typing import Iterator, NamedTuple, Optional, Sequence, Tuple
 
-from ..catalogue.records import NOT_THERE, Picture, picture_of_row
 from ..catalogue.store import PICTURE_COLUMNS, Catalogue
-from ..extract.formats.found import PROBLEMS
-from .verdicts import SAME, result, verdicts
+from ..model.found import PROBLEMS
+from ..model.records import NOT_THERE, Picture, picture_of_row
+from ..model.verdicts import SAME, result, verdicts
 
 AS_IT_WAS, CAPTIONED, AGAIN, MOVED = "as they were", "captioned", "written again", "moved"
 OTHER, OTHER_FILE, ROTTED, CUT, MISSING = "other picture", "other file", "DAMAGED", "cut off", "missing"

@@ -6,10 +6,8 @@ import functools
 from datetime import datetime, timedelta, timezone
 from typing import Iterator, List, Optional, Sequence, Tuple
 
-from ..catalogue.records import WORDS, Block, Picture
 from ..catalogue.store import Catalogue
 from ..catalogue.texts import texts_of
-from ..cli.output import shown_path
 from ..compare.conflicts import ALIKE, conflicts
 from ..compare.groups import Fewest, groups
 from ..compare.keeping import Keep, keeping
@@ -19,7 +17,9 @@ from ..fields.packing import unpacked
 from ..fields.plain_names import exact_key, group_name
 from ..fields.plain_values import plain
 from ..fields.typed import typed
-from ..refusals import steps
+from ..model import steps
+from ..model.records import WORDS, Block, Picture
+from ..model.texts import shown_path
 from ..scan.progress import Progress
 from .tables import Row, Tables
 

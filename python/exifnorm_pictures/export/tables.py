@@ -6,8 +6,8 @@ import contextlib
 import sqlite3
 from typing import Dict, Iterable, Iterator, List, Tuple
 
-from ..cli import signals
-from ..extract.budgets import STEPS
+from ..files import signals
+from ..model.budgets import STEPS
 
 APPLICATION = 0x45584E54  # 'EXNT', which distinguishes an export from a catalogue and from other SQLite files
 VERSION = 2

@@ -14,9 +14,9 @@ import hashlib
 from typing import Dict, Iterator, List, NamedTuple, Optional, Tuple
 
 from ..files import opening
-from .budgets import CHUNKS, STRIPS, Budget, TooMuch
+from ..model.budgets import CHUNKS, STRIPS, Budget, TooMuch
+from ..model.found import Broken
 from .formats import bigtiff, jpeg, png, tiff, webp
-from .formats.found import Broken
 from .formats.jpeg_segments import EOI, SOI, SOS, read_head
 from .formats.jpeg_tail import Markers
 from .formats.streams import File, Stream, pieces, read_at, size_of

@@ -20,9 +20,9 @@ import threading
 from typing import Dict, List, Optional, Sequence
 
 from ..files import tempdir
+from ..model.budgets import OUTPUT, WHOLE_FILE, budget_of
+from ..model.found import EXIF, EXIFTOOL, EXIV2, IPTC, PROBLEMS, UNREAD_TRAILER, XMP, Blocks, NotRead
 from . import programs
-from .budgets import OUTPUT, WHOLE_FILE, budget_of
-from .formats.found import EXIF, EXIFTOOL, EXIV2, IPTC, PROBLEMS, UNREAD_TRAILER, XMP, Blocks, NotRead
 from .formats.streams import Stream, digest_of, size_of
 from .programs import Failed
 

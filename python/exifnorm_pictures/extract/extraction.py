@@ -9,13 +9,12 @@ from typing import Union
 
 from exifnorm import LibraryMissing
 
-from ..cli import signals
-from ..cli.output import described
-from ..files import opening
-from .budgets import Budget, TooMuch
+from ..files import opening, signals
+from ..model.budgets import Budget, TooMuch
+from ..model.found import BROKEN, PROBLEMS, Blocks, Broken, LeftToOthers
+from ..model.texts import described
 from .exiftool import add_trailers, by_others
 from .formats import jpeg
-from .formats.found import BROKEN, PROBLEMS, Blocks, Broken, LeftToOthers
 from .formats.streams import File, Memory
 
 

@@ -15,10 +15,10 @@ import subprocess
 import time
 from typing import Callable, List, NamedTuple, Optional, Set
 
-from ..cli import signals
-from ..cli.output import reason
-from ..cli.signals import Failure
-from .budgets import OUTPUT, PROGRAM_SECONDS
+from ..files import signals
+from ..model.budgets import OUTPUT, PROGRAM_SECONDS
+from ..model.errors import Failure
+from ..model.texts import reason
 
 PACKAGES = {"exiftool": "libimage-exiftool-perl", "exiv2": "exiv2"}
 

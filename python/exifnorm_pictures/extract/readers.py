@@ -8,8 +8,8 @@ from __future__ import annotations
 import re
 from typing import Callable, NamedTuple, Optional, Tuple
 
+from ..model.found import Blocks
 from .formats import bigtiff, cr3, gif, heif, jp2, jpeg, jxl, png, psd, raf, tiff, webp, xmp_file
-from .formats.found import Blocks
 from .formats.streams import Stream
 
 HEAD = 16  # bytes of a file that show its format

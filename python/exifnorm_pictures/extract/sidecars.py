@@ -12,10 +12,10 @@ import os
 import re
 from typing import Callable, Dict, Iterable, List, NamedTuple, Optional, Sequence, Set, Tuple
 
-from ..catalogue.records import RACY, Stamp
 from ..files import opening
-from .budgets import LIMITS, PACKET_BYTES, XMP_BYTES
-from .formats.found import XMP, Blocks, FoundBlock, NotRead, ordinal
+from ..model.budgets import LIMITS, PACKET_BYTES, XMP_BYTES
+from ..model.found import XMP, Blocks, FoundBlock, NotRead, ordinal
+from ..model.records import RACY, Stamp
 
 NAME = "XMP sidecar"
 _RAW = b"dng nef nrw cr2 cr3 crw arw arq sr2 srf srw orf pef rw2 rwl raf 3fr iiq erf mef mos mrw dcr kdc k25 gpr fff raw x3f".split()

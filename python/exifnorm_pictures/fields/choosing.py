@@ -7,9 +7,8 @@ import re
 from dataclasses import dataclass
 from typing import Callable, Dict, FrozenSet, Iterable, Iterator, List, Sequence, Tuple
 
-from ..cli.exit_codes import USAGE
-from ..cli.signals import Failure
-from ..extract.formats.found import EXIF, IPTC, NAMES, XMP
+from ..model.errors import WrongUse
+from ..model.found import EXIF, IPTC, NAMES, XMP
 from .field_names import EXIF_GROUPS, XMP_GROUPS, dictionary, groups_of, is_possible, names_of
 from .listing import MAKER_NOTE, Field, is_rest
 
@@ -32,10 +31,8 @@ MOST_LISTED = 1000  # fields that are listed as left out
 Test = Callable[[str, str, str], bool]  # of a directory, a key, and a block that isn't the first of its kind
 
 
-class UnknownField(Failure):
+class UnknownField(WrongUse):
     """A name that no field can have, and that no picture has."""
-
-    status = USAGE
 
 
 _WILD = re.compile(r"[*?]")

@@ -6,8 +6,8 @@ import functools
 import re
 from typing import FrozenSet, List, Tuple
 
-from ..cli.output import safe
-from .xmp_names import PREFIXES
+from ..model.texts import safe
+from ..model.xmp_names import PREFIXES
 from .names import TABLES, name_of
 from .plain_names import group_name, group_of, plain_name
 

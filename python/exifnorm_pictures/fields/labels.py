@@ -9,11 +9,11 @@ import functools
 import re
 from typing import Dict, Iterable, Iterator, List, NamedTuple, Optional, Sequence, Set, Tuple
 
+from ..xmp.values import Long, texts
 from .listing import Field
 from .own_texts import is_own
 from .plain_names import group_name, plain_name
 from .plain_texts import comment
-from .xmp_values import Long, texts
 
 EXIF, IPTC, XMP = "Exif", "IPTC", "XMP"
 STANDARDS = (EXIF, IPTC, XMP)  # the first one that has a text wins where there is space for one

@@ -8,11 +8,11 @@ from typing import Iterable, Iterator, NamedTuple, Optional, Tuple, Union
 
 from exifnorm import Ratio
 
-from ..cli.output import escaped
-from . import xmp_values
+from ..model.texts import escaped
+from ..xmp import values as xmp_values
+from ..xmp.values import Long, XmpValue
 from .names import full_name
 from .plain_names import group_of, plain_name
-from .xmp_values import Long, XmpValue
 
 LONGEST_TEXT = 65_536  # bytes of a text that is kept whole
 LONGEST_OTHER_TEXT = 400  # characters of bytes that happen to be a text, in a field of no texts

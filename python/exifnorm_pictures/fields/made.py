@@ -5,7 +5,7 @@ from __future__ import annotations
 from typing import List, Optional, Union
 
 from .. import xmp
-from . import normal_form
+from . import normal_form, xmp_properties
 from .listing import Field
 
 
@@ -22,5 +22,5 @@ class Fields:
         """The fields, in the order of a listing."""
         if self._made is None:
             source = self._source
-            self._made = normal_form.fields(source) if isinstance(source, bytes) else xmp.fields(source)
+            self._made = normal_form.fields(source) if isinstance(source, bytes) else xmp_properties.fields(source)
         return self._made

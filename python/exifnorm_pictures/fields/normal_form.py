@@ -7,9 +7,9 @@ from typing import Iterable, List
 
 from exifnorm._forms import _READ, Place, places
 
-from ..extract.budgets import FIELDS
+from ..model.budgets import FIELDS
+from ..xmp.values import Long
 from .listing import OCTETS, Field, digest_of
-from .xmp_values import Long
 
 _LEAST = 5  # bytes of a field: the head of an empty DataSet
 

@@ -19,10 +19,10 @@ from typing import Any, Callable, List, NamedTuple, Optional, Sequence
 
 from exifnorm import Ratio
 
-from ..catalogue.records import Damaged
-from ..extract.budgets import FIELD_BYTES
+from ..model.budgets import FIELD_BYTES
+from ..model.records import Damaged
+from ..xmp.values import Array, Literal, Long, Resource, Structure, XmpValue
 from .listing import LONGEST_BYTES, MAKER_NOTE, OCTETS, Field, Value, digest_of, kept_value, plain_text
-from .xmp_values import Array, Literal, Long, Resource, Structure, XmpValue
 
 _SHORTEST = 200  # characters of a list that compression makes longer, or hardly shorter
 _SHORT = 4096  # characters of a list that is compressed with small buffers

@@ -9,12 +9,12 @@ from typing import Dict, Optional
 
 from exifnorm import Ratio
 
-from ..cli.output import escaped
+from ..model.texts import escaped
+from ..xmp.values import Literal
 from . import plain_numbers as numbers
 from .listing import OCTETS, Field, exact, is_comment, kept_value, shortened
 from .plain_numbers import Rule, decimal, degrees, fractions, with_unit
 from .plain_texts import EMPTY, guessed, plain_comment, plain_xmp, quoted, quoted_xmp, text_of
-from .xmp_values import Literal
 
 # Words for numbers: TIFF 6.0 and CIPA DC-008 (Exif 2.32), 4.6
 _WORDS: Dict[str, Dict[str, str]] = {}

@@ -11,8 +11,8 @@ import shutil
 import stat
 from typing import BinaryIO, Callable, Iterator, Optional, Tuple
 
-from ..cli.output import reason
-from ..cli.signals import Failure
+from ..model.errors import Failure
+from ..model.texts import reason
 from . import opening
 
 Write = Callable[[BinaryIO], None]

@@ -5,11 +5,11 @@ from __future__ import annotations
 from dataclasses import dataclass, field
 from typing import Callable, Dict, List, Optional
 
-from ..catalogue.records import Block
-from ..cli.output import Members
-from ..compare.verdicts import REFUSED
-from ..extract.formats.found import XMP
-from ..extract.judge import judge, judge_packet
+from ..judge.judge import judge, judge_packet
+from ..model.found import XMP
+from ..model.records import Block
+from ..model.texts import Members
+from ..model.verdicts import REFUSED
 from .causes import CAUSES, Cause, Facts, words_of
 from .layout import EntryAt, Layout, Part, hexadecimal
 

@@ -10,15 +10,15 @@ from collections import Counter
 from dataclasses import dataclass, field
 from typing import Callable, Dict, List, NamedTuple, Optional, Tuple
 
-from ..cli.output import reason
-from ..compare.verdicts import ACCEPTED
 from ..extract import programs
 from ..extract.extraction import blocks_of
-from ..extract.formats.found import EXIF, REST, Blocks, damage
-from ..extract.judge import judge_all
 from ..files import atomic, opening
+from ..judge.judge import judge_all
+from ..model.found import EXIF, REST, Blocks, damage
+from ..model.steps import Step, loses
+from ..model.texts import reason
+from ..model.verdicts import ACCEPTED
 from .repaired_file import KINDS, repaired_file
-from .steps import Step, loses
 
 COPY, NONE = "copy", "none"
 STEPS = ("repair", "touch", "exiv2", "rebuild")

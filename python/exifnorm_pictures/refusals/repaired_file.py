@@ -6,9 +6,9 @@ import struct
 import zlib
 from typing import Callable, Dict, Optional, Sequence, Tuple
 
-from ..extract.formats.found import EXIF, FoundBlock
-from . import repairs
-from .steps import Step
+from ..judge import repairs
+from ..model.found import EXIF, FoundBlock
+from ..model.steps import Step
 
 _HEAD = b"Exif\0\0"  # which JPEG puts before a block, and some programs in WebP too
 

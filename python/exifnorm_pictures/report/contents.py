@@ -8,16 +8,16 @@ from collections import Counter
 from dataclasses import dataclass, field
 from typing import Any, Dict, Iterator, List, Optional, Sequence, Set, Tuple
 
-from ..catalogue.records import WORDS, Picture, has, kind_of
 from ..catalogue.store import Catalogue, Run
-from ..cli.choice import lines
-from ..cli.output import Members, path_members, shown_path
 from ..compare import changed, groups
-from ..compare.differing import bare
-from ..compare.wording import sides
 from ..compare.conflicts import Conflict
+from ..compare.differing import bare
 from ..compare.readings import Unknown
+from ..compare.wording import sides
 from ..fields.choosing import EVERYTHING, Choice
+from ..fields.left_out import lines
+from ..model.records import WORDS, Picture, has, kind_of
+from ..model.texts import Members, path_members, shown_path
 from .contradictions import Contradictions, checked, texts
 
 # what a page has of each list

@@ -9,13 +9,13 @@ from collections import Counter
 from dataclasses import dataclass, field
 from typing import Dict, Iterator, List, NamedTuple, Tuple
 
-from ..catalogue.records import Block, Picture
 from ..catalogue.store import Catalogue
 from ..catalogue.texts import PictureTexts, texts_of
 from ..compare.conflicts import ALIKE, Conflict, conflicts
-from ..compare.verdicts import ACCEPTED
 from ..fields.labels import COMMENT, STANDARDS, WORDS
 from ..fields.packing import unpacked
+from ..model.records import Block, Picture
+from ..model.verdicts import ACCEPTED
 
 _COMPARED = tuple(it for it in WORDS if it != COMMENT)
 

@@ -9,12 +9,13 @@ from datetime import datetime, timezone
 from html import escape
 from typing import Dict, List, Optional, Tuple
 
-from ..cli.output import escaped, safe, shown_path
-from ..compare import changed, coded, verdicts
-from ..compare.readings import of_unknown
+from ..compare import changed, coded
 from ..compare.conflicts import Conflict
-from ..extract.formats.found import PROBLEMS
+from ..compare.readings import of_unknown
 from ..fields.labels import STANDARDS
+from ..model import verdicts
+from ..model.found import PROBLEMS
+from ..model.texts import escaped, safe, shown_path
 from ..refusals.causes import CAUSES, words_of
 from .contents import (
     MOST_CHANGES,

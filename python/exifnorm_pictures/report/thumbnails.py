@@ -8,8 +8,8 @@ from typing import Dict, Optional, Sequence
 import exifnorm
 
 from ..extract import extraction, programs
-from ..extract.formats.found import EXIF
 from ..files import opening
+from ..model.found import EXIF
 
 LARGEST = 32_768  # bytes of one small picture
 MOST = 2_000_000  # bytes of all small pictures of a page

@@ -8,15 +8,12 @@ import os
 import sqlite3
 from collections import Counter
 from dataclasses import dataclass
-from typing import TYPE_CHECKING, Callable, List, NamedTuple, Optional, Sequence, Set, Union
+from typing import Callable, List, NamedTuple, Optional, Sequence, Set, Union
 
-from ..catalogue.records import PictureRecord
 from ..catalogue.store import KEPT_BEFORE, make_rows, put_rows
-from ..extract.budgets import PROGRAM_SECONDS
+from ..model.budgets import PROGRAM_SECONDS
+from ..model.records import PictureRecord
 from .walk import FoundFile
-
-if TYPE_CHECKING:
-    import argparse
 
 LONGEST_WAIT = 2.0  # seconds until results are committed, if pictures are slow
 
@@ -35,12 +32,6 @@ class How:
     seconds: float = PROGRAM_SECONDS  # that a program may take for one file
     room: str = ""  # a folder for temporary files
     lines: Optional[Lines] = None  # makes the lines that are printed about a picture
-
-    @classmethod
-    def of(cls, arguments: argparse.Namespace, room: str, lines: Optional[Lines] = None) -> "How":
-        """As the arguments of a command have it."""
-        notes, pixels, sidecars = (getattr(arguments, it, False) for it in ("maker_notes", "pixels", "sidecars"))
-        return cls(arguments.jobs, notes, arguments.whole, pixels, sidecars, arguments.limit, room, lines)
 
     @property
     def processes(self) -> int:

@@ -12,8 +12,8 @@ import time
 from dataclasses import replace
 from typing import Any, Dict, Iterator, List, Optional, Sequence
 
-from ..catalogue.records import RACY, PictureRecord, Stamp
 from ..extract import programs
+from ..model.records import RACY, PictureRecord, Stamp
 from . import looking
 from .batches import How
 from .index import Look

@@ -10,14 +10,14 @@ from dataclasses import dataclass, field
 from datetime import datetime, timezone
 from typing import Callable, Dict, Iterable, Iterator, List, Optional, Sequence, Set, Tuple
 
-from ..catalogue.records import PictureRecord, is_as_before
 from ..catalogue.store import Catalogue, Known
-from ..compare.moved import Departed, moved_together
 from ..extract import programs
-from ..extract.formats.found import EXIFTOOL, EXIV2, PROBLEMS, UNREAD_TRAILER
 from ..extract.sidecars import marks
-from .excluded import Excluded
+from ..model.found import EXIFTOOL, EXIV2, PROBLEMS, UNREAD_TRAILER
+from ..model.records import PictureRecord, is_as_before
 from .batches import LONGEST_WAIT, Batch, How, Lines, Result
+from .excluded import Excluded
+from .moved import Departed, moved_together
 from .progress import Progress
 from .walk import FoundFile, Unlisted, below
 

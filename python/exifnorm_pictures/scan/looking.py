@@ -8,12 +8,13 @@ from typing import Iterator, List, Optional, Sequence, Tuple
 
 from exifnorm import LibraryMissing
 
-from ..catalogue.records import RACY, Block, PictureRecord, Stamp
-from ..cli.output import reason
-from ..extract import exiftool, extraction, judge, programs, sidecars
-from ..extract.budgets import WHOLE_FILE, TooMuch
-from ..extract.formats.found import PROBLEMS, Blocks
+from ..extract import exiftool, extraction, programs, sidecars
 from ..extract.formats.streams import digest_of_file
+from ..judge import judge
+from ..model.budgets import WHOLE_FILE, TooMuch
+from ..model.found import PROBLEMS, Blocks
+from ..model.records import RACY, Block, PictureRecord, Stamp
+from ..model.texts import reason
 from .batches import How
 from .walk import FoundFile
 
@@ -78,7 +79,7 @@ def _maker_notes(path: bytes, judged: Sequence[Block]) -> Optional[bytes]:
     """What ExifTool reads of the MakerNotes of a picture that has one."""
     if all(it.note is None for it in judged):
         return None
-    from ..compare import maker_notes
+    from ..judge import maker_notes
 
     return maker_notes.packed(maker_notes.readings_of([path])[0])
 

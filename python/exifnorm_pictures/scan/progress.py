@@ -7,7 +7,7 @@ import time
 from collections import deque
 from typing import Deque, Optional, TextIO, Tuple
 
-from ..cli.signals import drop
+from ..files.signals import drop
 
 WINDOW = 20.0  # seconds over which the speed is measured: pictures of some folders take longer than others
 _CLEAR = "\r\x1b[K"

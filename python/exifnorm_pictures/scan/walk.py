@@ -7,11 +7,10 @@ import stat
 import sys
 from typing import BinaryIO, Callable, Collection, Iterable, Iterator, List, NamedTuple, Optional, Set, Tuple
 
-from ..catalogue.records import Stamp
-from ..cli.exit_codes import USAGE
-from ..cli.output import reason
-from ..cli.signals import Failure
 from ..extract.sidecars import Folder, Folders, Sidecar
+from ..model.errors import WrongUse
+from ..model.records import Stamp
+from ..model.texts import reason
 from .excluded import Excluded
 
 
@@ -32,10 +31,8 @@ class Unlisted(NamedTuple):
     reason: str
 
 
-class BadList(Failure):
+class BadList(WrongUse):
     """A list of names that can't be used."""
-
-    status = USAGE
 
 
 OnUnlisted = Callable[[Unlisted], None]

@@ -16,10 +16,10 @@ from concurrent.futures.process import BrokenProcessPool
 from multiprocessing import util
 from typing import Deque, Iterable, Iterator, List, NamedTuple, Sequence, Set
 
-from ..catalogue.records import PictureRecord
-from ..cli import signals
-from ..cli.output import reason
 from ..extract import exiftool, programs
+from ..files import signals
+from ..model.records import PictureRecord
+from ..model.texts import reason
 from .batches import LONGEST_WAIT, Batch, How, Result, batch
 from .looking import failed, in_this_process, look
 from .walk import FoundFile

@@ -15,7 +15,6 @@ entity is expanded and nothing is fetched.
 
 from .packets import CAUSES, Unreadable
 from .reading import Extensions, digest, statements
-from .properties import fields
 from .tree import Statements
 
-__all__ = ["CAUSES", "Extensions", "Statements", "Unreadable", "digest", "fields", "statements"]
+__all__ = ["CAUSES", "Extensions", "Statements", "Unreadable", "digest", "statements"]

@@ -6,8 +6,8 @@ import codecs
 import re
 from xml.etree import ElementTree
 
-from ..extract import budgets
-from ..extract.budgets import LANGUAGE, LIMITS, NESTED, PACKET_BYTES, Budget
+from ..model import budgets
+from ..model.budgets import LANGUAGE, LIMITS, NESTED, PACKET_BYTES, Budget
 from .tree import RDF
 
 CAUSES = {

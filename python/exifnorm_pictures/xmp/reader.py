@@ -7,7 +7,7 @@ import re
 from typing import Dict, List
 from xml.etree.ElementTree import Element
 
-from ..extract.budgets import LANGUAGE
+from ..model.budgets import LANGUAGE
 from .packets import Unreadable
 from .tree import MEMBER, RDF, TYPE, Literal, Node, Resource, Statement, Statements, Value
 

@@ -5,7 +5,7 @@ from __future__ import annotations
 import hashlib
 from typing import Dict, Mapping, Optional, Set, Tuple, Union
 
-from ..extract.budgets import RARE_ELEMENTS, Budget, TooLong, TooMuch
+from ..model.budgets import RARE_ELEMENTS, Budget, TooLong, TooMuch
 from . import by_rdflib, reader
 from .packets import Unreadable, rdf_of, spend
 from .tree import TYPE, Literal, Node, Statements, Value, digest_of, key_of

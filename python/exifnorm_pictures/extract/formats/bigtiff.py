@@ -10,9 +10,9 @@ from __future__ import annotations
 import struct
 from typing import Dict, List, Optional, Tuple
 
-from ..budgets import DIRECTORIES, ENTRIES, budget_of
+from ...model.budgets import DIRECTORIES, ENTRIES, budget_of
+from ...model.found import PROBLEMS, Blocks, Broken
 from . import tiff
-from .found import PROBLEMS, Blocks, Broken
 from .streams import Stream, read_at, size_of
 from .tiff_directories import IFD, LONG, SIZES, Directories, Directory, Entry
 

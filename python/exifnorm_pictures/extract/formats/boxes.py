@@ -9,8 +9,8 @@ from __future__ import annotations
 import re
 from typing import Callable, Iterator, List, NamedTuple, Set
 
-from ..budgets import BOX_BYTES, BOXES, budget_of
-from .found import XMP, Blocks, Broken
+from ...model.budgets import BOXES, BOX_BYTES, budget_of
+from ...model.found import XMP, Blocks, Broken
 from .streams import Stream, leave, leave_rest, read_at, size_of
 
 _LONGEST_HEAD = 32

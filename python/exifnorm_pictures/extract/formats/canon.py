@@ -4,8 +4,8 @@ from __future__ import annotations
 
 from typing import Dict
 
+from ...model.found import Blocks, Broken
 from .boxes import Box, boxes
-from .found import Blocks, Broken
 from .streams import Stream, leave
 
 UUID = bytes.fromhex("85c0b687820f11e08111f4ce462b6a48")

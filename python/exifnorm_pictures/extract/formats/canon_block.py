@@ -10,10 +10,10 @@ from typing import Dict, List, Optional, Tuple
 
 from exifnorm import LIMIT
 
-from ..budgets import Budget
+from ...model.budgets import Budget
+from ...model.found import Broken
 from ..structure import gaps
 from .canon import EXIF, GPS, MAIN, MAKER_NOTE
-from .found import Broken
 from .tiff_block import NOWHERE, Layout, Table, is_pointer
 from .tiff_directories import HEADS, LONG, Directories, Directory, Entry
 

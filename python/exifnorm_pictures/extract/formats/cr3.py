@@ -8,11 +8,11 @@ from __future__ import annotations
 
 from typing import Dict, List, Optional, Tuple
 
-from ..budgets import EXTENTS, budget_of
+from ...model.budgets import EXTENTS, budget_of
+from ...model.found import EXIF, Blocks, Broken, LeftToOthers, NotRead
 from . import canon
 from .boxes import XMP_UUID, Box, Fields, add_xmp, boxes, boxes_of_file, content
 from .canon_block import one_block
-from .found import EXIF, Blocks, Broken, LeftToOthers, NotRead
 from .streams import Stream, digest_of_parts, is_blank, leave, size_of
 
 _PREVIEW = bytes.fromhex("eaf42b5e1c984b88b9fbb7dc406e4d16")

@@ -2,8 +2,8 @@
 
 from __future__ import annotations
 
+from ...model.found import Blocks, Broken, NotRead
 from . import jpeg
-from .found import Blocks, Broken, NotRead
 from .streams import Stream, read_at
 from .window import Window
 

@@ -5,7 +5,7 @@ from __future__ import annotations
 import struct
 from typing import Dict, Tuple
 
-from .found import XMP, Blocks, FoundBlock, ordinal
+from ...model.found import XMP, Blocks, FoundBlock, ordinal
 
 HEAD = b"http://ns.adobe.com/xmp/extension/\0"
 _DIGEST = 32  # characters of the digest in the main packet, after the head

@@ -7,9 +7,9 @@ from __future__ import annotations
 
 from typing import Callable, Dict
 
-from ..budgets import BLOCK_BYTES, EXTENSIONS, budget_of
+from ...model.budgets import BLOCK_BYTES, EXTENSIONS, budget_of
+from ...model.found import IPTC, XMP, Blocks, Broken
 from . import photoshop
-from .found import IPTC, XMP, Blocks, Broken
 from .streams import PIECE, Stream, leave, leave_rest, size_of
 
 STARTS = (b"GIF87a", b"GIF89a")

@@ -8,10 +8,10 @@ from __future__ import annotations
 
 from typing import Dict, List, Optional, Set, Tuple
 
-from ..budgets import BOX_BYTES, budget_of
+from ...model.budgets import BOX_BYTES, budget_of
+from ...model.found import EXIF, XMP, Blocks, Broken, NotRead
 from . import canon, item_exif
 from .boxes import XMP_UUID, Box, add_xmp, boxes, boxes_of_file
-from .found import EXIF, XMP, Blocks, Broken, NotRead
 from .heif_items import PICTURES, READERS, Item, Items
 from .streams import Stream, digest_of_parts, leave, read_at, size_of
 

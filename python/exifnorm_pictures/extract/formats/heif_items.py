@@ -4,9 +4,9 @@ from __future__ import annotations
 
 from typing import Callable, Dict, List, NamedTuple, Optional, Set
 
-from ..budgets import EXTENTS, ITEMS, budget_of
+from ...model.budgets import EXTENTS, ITEMS, budget_of
+from ...model.found import Broken
 from .boxes import Box, Fields, boxes, content
-from .found import Broken
 from .streams import Stream
 
 # Coded and derived pictures: their items have no metadata

@@ -8,10 +8,10 @@ from __future__ import annotations
 
 from typing import Set
 
-from ..budgets import budget_of
+from ...model.budgets import budget_of
+from ...model.found import EXIF, IPTC, Blocks, Broken, NotRead
 from . import photoshop, tiff
 from .boxes import XMP_UUID, Box, add_xml, add_xmp, boxes, boxes_of_file, content
-from .found import EXIF, IPTC, Blocks, Broken, NotRead
 from .streams import Stream, leave, read_at
 from .window import Window
 

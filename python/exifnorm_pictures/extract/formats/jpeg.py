@@ -10,15 +10,27 @@ from __future__ import annotations
 import re
 from typing import List, Set, Tuple
 
-from ..budgets import Budget, budget_of
+from ...model.budgets import Budget, budget_of
+from ...model.found import EXIF, REST, XMP, Blocks, Broken, NotRead, length_of
 from . import mpf, photoshop
-from .extended_xmp import Pieces
-from .extended_xmp import HEAD as EXTENDED
-from .found import EXIF, REST, XMP, Blocks, Broken, NotRead, length_of
-from .jpeg_segments import APP0, APP1, APP2, APP3, APP13, APP15, SOS, EXIF_PIECE, PHOTOSHOP_PIECE, XMP_PACKET, XMP_PIECE
-from .jpeg_segments import is_not_compared, read_head
+from .extended_xmp import HEAD as EXTENDED, Pieces
+from .jpeg_segments import (
+    APP0,
+    APP1,
+    APP13,
+    APP15,
+    APP2,
+    APP3,
+    EXIF_PIECE,
+    PHOTOSHOP_PIECE,
+    SOS,
+    XMP_PACKET,
+    XMP_PIECE,
+    is_not_compared,
+    read_head,
+)
 from .jpeg_tail import WINDOW, Tail, is_scan, tail
-from .streams import Stream, digest_of_rest, digest_of, read_at, size_of
+from .streams import Stream, digest_of, digest_of_rest, read_at, size_of
 from .trailers import known_trailer
 
 START = b"\xff\xd8\xff"

@@ -7,7 +7,7 @@ from typing import List, NamedTuple, Tuple
 import exifnorm
 from exifnorm._jpeg import KINDS, Row, part_rows
 
-from ..budgets import SEGMENT_BYTES, SEGMENTS, Budget
+from ...model.budgets import SEGMENTS, SEGMENT_BYTES, Budget
 from .streams import HEAD, Stream
 
 SOI, EOI, SOS = 0xD8, 0xD9, 0xDA

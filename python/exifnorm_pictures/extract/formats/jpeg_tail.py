@@ -10,7 +10,7 @@ from __future__ import annotations
 import re
 from typing import List, NamedTuple
 
-from ..budgets import SCAN_SEGMENTS, TooMuch, budget_of
+from ...model.budgets import SCAN_SEGMENTS, TooMuch, budget_of
 from .jpeg_segments import APP1, APP13, EOI, SOI
 from .streams import CHUNK, Stream
 

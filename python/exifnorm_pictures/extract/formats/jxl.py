@@ -9,10 +9,10 @@ from __future__ import annotations
 
 from typing import Set
 
-from ..budgets import budget_of
+from ...model.budgets import budget_of
+from ...model.found import COMPRESSED, EXIF, XMP, Blocks, Broken
 from . import item_exif
 from .boxes import XMP_UUID, Box, add_xml, add_xmp, boxes_of_file, content
-from .found import COMPRESSED, EXIF, XMP, Blocks, Broken
 from .streams import Stream, leave, read_at
 
 START = b"\0\0\0\x0cJXL \r\n\x87\n"

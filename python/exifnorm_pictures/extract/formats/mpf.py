@@ -5,7 +5,7 @@ from __future__ import annotations
 import struct
 from typing import List, NamedTuple
 
-from .found import Broken
+from ...model.found import Broken
 
 HEAD = b"MPF\0"
 _MP_ENTRIES = 0xB002

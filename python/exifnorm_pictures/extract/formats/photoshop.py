@@ -10,8 +10,8 @@ from typing import List, Sequence, Tuple
 
 import exifnorm
 
-from ..budgets import LIMITS, RESOURCES, TooMuch
-from .found import EXIF, FEW, IPTC, XMP, Blocks
+from ...model.budgets import LIMITS, RESOURCES, TooMuch
+from ...model.found import EXIF, FEW, IPTC, XMP, Blocks
 
 HEAD = b"Photoshop 3.0\0"
 OLD_HEAD = b"Adobe_Photoshop2.5:"

@@ -8,9 +8,9 @@ from __future__ import annotations
 
 import zlib
 
-from ..budgets import CHUNK_BYTES, CHUNKS, budget_of
+from ...model.budgets import CHUNKS, CHUNK_BYTES, budget_of
+from ...model.found import EXIF, IPTC, XMP, Blocks, Broken, NotRead, length_of
 from . import photoshop
-from .found import EXIF, IPTC, XMP, Blocks, Broken, NotRead, length_of
 from .streams import Stream, digest_of_rest, read_at, size_of
 
 START = b"\x89PNG\r\n\x1a\n"

@@ -11,9 +11,9 @@ from typing import Callable, List, Optional, Tuple
 
 from exifnorm import LIMIT
 
-from ..budgets import DIRECTORIES
+from ...model.budgets import DIRECTORIES
+from ...model.found import EXIF, Blocks, Broken, NotRead
 from .embedded import add_jpeg
-from .found import EXIF, Blocks, Broken, NotRead
 from .streams import digest_of_rest, read_at
 from .tiff_block import Layout, Table, is_pointer
 from .tiff_directories import HEADS, IFD, LONG, Directories, Directory, Entry

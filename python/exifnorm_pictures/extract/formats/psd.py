@@ -9,9 +9,9 @@ from __future__ import annotations
 import struct
 from typing import Callable, Dict, NamedTuple, Optional
 
-from ..budgets import RESOURCE_BYTES, RESOURCES, STRIPS, budget_of
+from ...model.budgets import RESOURCES, RESOURCE_BYTES, STRIPS, budget_of
+from ...model.found import Blocks, Broken, NotRead, length_of
 from . import photoshop
-from .found import Blocks, Broken, NotRead, length_of
 from .streams import Stream, digest_of_rest, leave, pieces, read_at, size_of
 from .trailers import known_trailer
 

@@ -8,14 +8,14 @@ from __future__ import annotations
 
 from typing import Tuple
 
+from ...model.budgets import budget_of
+from ...model.found import Blocks, Broken, NotRead, length_of
 from .embedded import add_jpeg
-from .found import Blocks, Broken, NotRead, length_of
 from .private import add_directory
 from .streams import Stream, digest_of_rest, read_at, size_of
 from .tiff_block import is_pointer
 from .tiff_directories import HEADS, Directories
 from .window import Window
-from ..budgets import budget_of
 
 START = b"FUJIFILMCCD-RAW "
 _HEADER = 0x88  # bytes of the longest header; the JPEG follows a shorter one directly

@@ -10,8 +10,8 @@ import tempfile
 from typing import IO, Iterable, Iterator, Optional, Protocol, Tuple
 
 from ...files import opening
-from ..budgets import BYTES_READ, Budget, budget_of
-from .found import Blocks, Broken, NotRead, length_of
+from ...model.budgets import BYTES_READ, Budget, budget_of
+from ...model.found import Blocks, Broken, NotRead, length_of
 
 CHUNK = 1 << 18
 PIECE = 1 << 13  # bytes that are read at once where the parts are small

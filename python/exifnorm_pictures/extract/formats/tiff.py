@@ -13,10 +13,10 @@ from typing import Deque, Dict, Iterator, List, NamedTuple, Optional, Set, Tuple
 
 from exifnorm import LIMIT
 
-from ..budgets import DIRECTORIES, STRIPS
+from ...model.budgets import DIRECTORIES, STRIPS
+from ...model.found import EXIF, IPTC, XMP, Blocks, Broken, NotRead, length_of
 from ..structure import counted, placed
 from . import photoshop
-from .found import EXIF, IPTC, XMP, Blocks, Broken, NotRead, length_of
 from .private import RW2_HEAD, Private
 from .streams import Stream, digest_of_rest, pieces
 from .tiff_block import Layout, Table, is_directory

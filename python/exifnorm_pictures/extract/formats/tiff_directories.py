@@ -9,8 +9,8 @@ import struct
 from bisect import bisect_left
 from typing import Dict, List, NamedTuple, Optional, Tuple
 
-from ..budgets import DIRECTORIES, ENTRIES, VALUE_BYTES, budget_of
-from .found import Broken
+from ...model.budgets import DIRECTORIES, ENTRIES, VALUE_BYTES, budget_of
+from ...model.found import Broken
 from .streams import Stream, read_at, size_of
 
 HEADS = (b"II*\0", b"MM\0*")

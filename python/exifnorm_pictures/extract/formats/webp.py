@@ -5,8 +5,8 @@ from __future__ import annotations
 
 import struct
 
-from ..budgets import CHUNK_BYTES, CHUNKS, budget_of
-from .found import EXIF, XMP, Blocks, Broken, NotRead, length_of
+from ...model.budgets import CHUNKS, CHUNK_BYTES, budget_of
+from ...model.found import EXIF, XMP, Blocks, Broken, NotRead, length_of
 from .streams import Stream, digest_of_rest, read_at, size_of
 
 _SIX = b"Exif\0\0"

@@ -4,7 +4,7 @@ from __future__ import annotations
 
 import os
 
-from ..budgets import Budget, budget_of
+from ...model.budgets import Budget, budget_of
 from .streams import Stream, size_of
 
 

@@ -4,8 +4,8 @@ from __future__ import annotations
 
 import re
 
-from ..budgets import PACKET_BYTES, TooMuch, budget_of
-from .found import XMP, Blocks, LeftToOthers
+from ...model.budgets import PACKET_BYTES, TooMuch, budget_of
+from ...model.found import XMP, Blocks, LeftToOthers
 from .streams import Stream, read_at, size_of
 
 _NAME = re.compile(rb"\.xmp\Z", re.I)

@@ -5,9 +5,9 @@ from __future__ import annotations
 import os
 from typing import Collection, Dict, Iterator, List, Optional, Sequence, Tuple
 
-from ..catalogue.records import PictureRecord
 from ..catalogue.store import Catalogue
-from ..cli.output import shown_path
+from ..model.records import PictureRecord
+from ..model.texts import shown_path
 
 Key = Tuple[object, ...]
 _MARKS = "size, modified, inode, not_read, exif_octets, iptc_octets, xmp_octets"

@@ -5,12 +5,12 @@ from __future__ import annotations
 from dataclasses import dataclass, field
 from typing import List, Optional
 
-from ..catalogue.records import Block
-from ..compare.verdicts import ACCEPTED
+from ..extract.extraction import too_much
 from ..fields.labels import STANDARDS, LabelText, camera_of, of_block, with_own
-from .budgets import TooMuch
-from .extraction import too_much
-from .formats.found import EXIF, NAMES, Blocks, FoundBlock, damage
+from ..model.budgets import TooMuch
+from ..model.found import EXIF, NAMES, Blocks, FoundBlock, damage
+from ..model.records import Block
+from ..model.verdicts import ACCEPTED
 from .judge import judge_all
 
 

@@ -9,8 +9,8 @@ import sys
 from types import FrameType
 from typing import IO, Iterator, List, Optional, Set
 
-from .exit_codes import FAILURE
-from .output import safe
+from ..model.errors import Failure
+from ..model.texts import safe
 
 SIGNALS = (signal.SIGTERM, signal.SIGHUP)
 
@@ -21,12 +21,6 @@ class Stopped(BaseException):
     def __init__(self, number: int) -> None:
         super().__init__(number)
         self.number = number
-
-
-class Failure(Exception):
-    """An error whose text is for people. It ends the command with `status`."""
-
-    status = FAILURE
 
 
 class ClosedOutput(Failure):

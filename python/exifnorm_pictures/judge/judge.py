@@ -8,14 +8,14 @@ from typing import Dict, List, Optional, Set, Tuple
 import exifnorm
 
 from .. import xmp
-from ..catalogue.records import FAILED, TOO_LONG, Block
-from ..compare.verdicts import ACCEPTED, REFUSED, UNREADABLE
+from ..extract import structure
 from ..fields.made import Fields
 from ..fields.packing import left_out, packed
-from ..refusals import steps
-from . import structure
-from .budgets import KEPT_BYTES
-from .formats.found import COMPRESSED, EXIF, FEW, IPTC, NAMES, XMP, Blocks, FoundBlock
+from ..model import steps
+from ..model.budgets import KEPT_BYTES
+from ..model.found import COMPRESSED, EXIF, FEW, IPTC, NAMES, XMP, Blocks, FoundBlock
+from ..model.records import FAILED, TOO_LONG, Block
+from ..model.verdicts import ACCEPTED, REFUSED, UNREADABLE
 
 _BY_ITSELF = FoundBlock("", b"", "", "")  # where a block is that was given without a picture
 
@@ -49,7 +49,7 @@ def _with_fields(it: Block, fields: Fields, packs: bool) -> Block:
 
 def _repaired(it: Block, block: bytes, packs: bool) -> Block:
     """A refused block with what a repair makes of it."""
-    from ..refusals import repairs  # which takes long to import, and few blocks are refused
+    from . import repairs  # which takes long to import, and few blocks are refused
 
     found = repairs.repaired(block)
     if found is None:

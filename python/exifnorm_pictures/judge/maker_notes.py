@@ -11,9 +11,9 @@ import zlib
 from collections import Counter
 from typing import Dict, Iterator, List, NamedTuple, Optional, Sequence, Tuple
 
-from ..catalogue.records import Damaged, Picture, Stamp, has, is_marked_as
 from ..extract import exiftool, programs
-from ..extract.budgets import FIELD_BYTES
+from ..model.budgets import FIELD_BYTES
+from ..model.records import Damaged, Picture, Stamp, has, is_marked_as
 from .sides import KeepsNotes
 
 Values = Dict[str, str]

@@ -4,9 +4,9 @@ from __future__ import annotations
 
 from typing import Callable, List, Optional, Protocol, Tuple, TypeVar
 
-from ..catalogue.records import Block, Picture
-from ..extract.formats.found import NotRead
 from ..fields.listing import Field
+from ..model.found import NotRead
+from ..model.records import Block, Picture
 
 
 Made = TypeVar("Made")

@@ -10,7 +10,7 @@ from collections import Counter
 from dataclasses import dataclass
 from typing import Dict, Iterable, List, NamedTuple, Optional, Protocol, Sequence, Tuple
 
-from ..extract.formats.found import EXIF, IPTC, NAMES, XMP, NotRead
+from .found import EXIF, IPTC, NAMES, XMP, NotRead
 
 ACCEPTED, REFUSED, UNREADABLE, ABSENT = "accepted", "refused", "unreadable", "absent"
 SAME, DIFFERENT = "same", "different"

@@ -22,9 +22,9 @@ from typing import (
     get_type_hints,
 )
 
-from ..compare.verdicts import ABSENT, ACCEPTED, REACHED, REFUSED, UNREADABLE, Side, joined, side_of
-from ..extract.formats.found import EXIF, EXIFTOOL, IPTC, PROGRAMS, XMP, Blocks, NotRead
-from ..refusals.steps import Step, loses, unpacked
+from .found import EXIF, EXIFTOOL, IPTC, PROGRAMS, XMP, Blocks, NotRead
+from .steps import Step, loses, unpacked
+from .verdicts import ABSENT, ACCEPTED, REACHED, REFUSED, UNREADABLE, Side, joined, side_of
 
 if TYPE_CHECKING:
     from ..fields.listing import Field

@@ -13,7 +13,7 @@ from typing import Callable, Dict, List, NamedTuple, Optional, Tuple
 import exifnorm
 
 from ..extract.structure import LINKS, MAKER_NOTE, SIZE, Directory, Entry, Walk
-from .steps import Step
+from ..model.steps import Step
 
 MOST = 100  # steps
 _POINTERS = (0x0111, 0x0117, 0x0201, 0x0202, 0x8769, 0x8825, 0xA005)

@@ -7,7 +7,7 @@ from collections import Counter
 from dataclasses import dataclass, field
 from typing import Dict, Iterable, List, NamedTuple, Optional
 
-from ..budgets import BLOCKS, NOT_READ, Budget
+from .budgets import BLOCKS, NOT_READ, Budget
 
 COMPRESSED = b"brob"  # how a block begins that is compressed by Brotli, as a box of JPEG XL: no block of a kind begins like this
 FEW = 8  # blocks or parts of a usual picture at most; more are counted, which takes time

@@ -5,10 +5,10 @@ from __future__ import annotations
 import hashlib
 from typing import Dict, List, Tuple
 
-from ..fields.listing import DIGITS, Field
-from ..fields.xmp_names import short_name
-from ..fields.xmp_values import Array, Long, Structure, XmpValue, exact, texts
-from .tree import MEMBER, Literal, Node, Resource, Statement, Statements, Value, key_of, unique
+from ..model.xmp_names import short_name
+from ..xmp.tree import MEMBER, Literal, Node, Resource, Statement, Statements, Value, key_of, unique
+from ..xmp.values import Array, Long, Structure, XmpValue, exact, texts
+from .listing import DIGITS, Field
 
 WHERE = "xmp"
 LONGEST_STRUCTURE = 400  # characters of the exact form of a value without texts that is kept whole

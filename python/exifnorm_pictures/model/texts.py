@@ -1,0 +1,92 @@
+"""Results as lines for people or as JSON objects, and names of files and texts of pictures as one safe line.
+
+Such a line can't control a terminal, and has no end of a line in it.
+"""
+
+from __future__ import annotations
+
+import os
+from types import TracebackType
+from typing import Any, Dict, Optional, Union
+
+
+Members = Dict[str, Any]  # of a JSON object
+
+
+def escaped(text: str) -> str:
+    r"""The text with the backslash, control characters, undecodable bytes and unprintable characters escaped, so that no two are alike.
+
+    A byte is written as `\xff`, and a character from U+0080 on as `\u00ff`.
+
+    >>> escaped("a\nb\\c"), escaped(os.fsdecode(b"x\x85")), escaped("x\x85\u202e")
+    ('a\\nb\\\\c', 'x\\x85', 'x\\u0085\\u202e')
+    """
+    if text.isprintable() and "\\" not in text:
+        return text
+    return text.translate({ord(it): _escaped_character(it) for it in set(text)})  # few characters are different ones
+
+
+def safe(text: str) -> str:
+    r"""The text without control characters and others that aren't printable; a text that was escaped before stays as it is.
+
+    >>> safe("a\n\x9b\u202e")
+    'a\\n\\u009b\\u202e'
+    """
+    if text.isprintable():
+        return text
+    return "".join([it if it == "\\" else _escaped_character(it) for it in text])
+
+
+_SHORT = {"\n": "\\n", "\r": "\\r", "\t": "\\t", "\\": "\\\\"}
+
+
+def _escaped_character(character: str) -> str:
+    if character in _SHORT:
+        return _SHORT[character]
+    number = ord(character)
+    if 0xDC80 <= number <= 0xDCFF:  # a byte that is no UTF-8, as Python keeps it in a file name
+        return f"\\x{number - 0xDC00:02x}"
+    if character.isprintable():
+        return character
+    if number < 0x80:  # which is a byte, too
+        return f"\\x{number:02x}"
+    return f"\\u{number:04x}" if number < 0x10000 else f"\\U{number:08x}"
+
+
+def shown_path(path: Union[bytes, str]) -> str:
+    """The name of a file in one line, in which different names are different."""
+    return escaped(os.fsdecode(path))
+
+
+def reason(error: OSError) -> str:
+    """Why the system refused something, as a message has it."""
+    return (error.strerror or type(error).__name__).lower()
+
+
+_PACKAGES = ("exifnorm_pictures", "exifnorm")
+
+
+def described(error: BaseException) -> str:
+    """An error of our own code: its kind, its text, and the innermost of our lines that it came through."""
+    line = ""
+    step: Optional[TracebackType] = error.__traceback__
+    while step is not None:
+        file = step.tb_frame.f_code.co_filename
+        package = str(step.tb_frame.f_globals.get("__name__")).partition(".")[0]
+        if package in _PACKAGES:
+            line = f" ({file[file.rfind(package + os.sep) :]}, line {step.tb_lineno})"
+        step = step.tb_next
+    return f"{type(error).__name__}: {error}{line}"
+
+
+def path_members(path: bytes) -> Members:
+    """The members of a JSON object for a path: `path`, and `path_hex` if the name is no UTF-8."""
+    try:
+        return {"path": path.decode("utf-8")}
+    except UnicodeDecodeError:
+        return {"path": shown_path(path), "path_hex": path.hex()}
+
+
+def moved_line(old: bytes, new: bytes, count: int) -> str:
+    """A line for the pictures of a folder that moved together."""
+    return f"{shown_path(old)}: Moved: {count:,} pictures to {shown_path(new)}"
