@@ -20,11 +20,8 @@ A refused block raises nothing: see `Picture.refusals`.
 
 from __future__ import annotations
 
-import sys
-
 TYPE_CHECKING = False  # that of `typing`, which isn't imported here: a program may yet have the current folder in its search path
 if TYPE_CHECKING:
-    from types import ModuleType
     from typing import List
 
     from .api import (
@@ -43,8 +40,6 @@ if TYPE_CHECKING:
         read_all,
         read_bytes,
     )
-else:
-    ModuleType = type(sys)
 
 __all__ = [
     "Block",
@@ -62,17 +57,6 @@ __all__ = [
     "read_all",
     "read_bytes",
 ]
-
-
-class _Package(ModuleType):
-    """This package, in which the folder `compare` doesn't hide the function."""
-
-    def __setattr__(self, name: str, value: object) -> None:
-        if not (name == "compare" and isinstance(value, ModuleType)):
-            super().__setattr__(name, value)
-
-
-sys.modules[__name__].__class__ = _Package
 
 
 def __getattr__(name: str) -> object:

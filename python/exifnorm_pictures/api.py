@@ -11,8 +11,8 @@ from typing import BinaryIO, Dict, Iterable, Iterator, List, NamedTuple, Optiona
 
 import exifnorm
 
-from .compare import differing
-from .compare.conflicts import chosen, conflicts
+from .comparison import differing
+from .comparison.conflicts import chosen, conflicts
 from .extract import extraction, programs
 from .extract.formats.streams import File, Memory
 from .fields import labels, listing, plain_values, typed
@@ -548,7 +548,7 @@ def compare(before: Union[Picture, Source], after: Union[Picture, Source], *, as
 
     With `ask_exiftool` ExifTool compares the values of MakerNotes that have moved.
     """
-    from .compare import changed, two_pictures  # which not every program needs
+    from .comparison import changed, two_pictures  # which not every program needs
 
     one, other = (it if isinstance(it, Picture) else read(it) for it in (before, after))
     is_identical = _is_unchanged(one) and _is_unchanged(other) and two_pictures.is_identical(one._path, other._path)

@@ -298,7 +298,7 @@ def test_an_edit_within_a_tick(later, archive):
 def test_a_signal_in_a_long_query(number, archive):
     """A signal ends a command also while SQLite works."""
     code = (
-        "import sys\nfrom exifnorm_pictures.compare import groups\nfrom exifnorm_pictures.cli import same\n"
+        "import sys\nfrom exifnorm_pictures.comparison import groups\nfrom exifnorm_pictures.cli import same\n"
         "def endless(catalogue, *_, **__):\n"
         "    print('begun', flush=True)\n"
         "    yield from catalogue.rows('WITH RECURSIVE n(i) AS (SELECT 1 UNION ALL SELECT i + 1 FROM n) SELECT i FROM n WHERE i < 0')\n"

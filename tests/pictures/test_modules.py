@@ -21,7 +21,7 @@ from studio import SMALL_JPEG, TOP, WithPictures, needs, read, tool, write
 
 from exifnorm_pictures.catalogue.store import Catalogue, NoCatalogue
 from exifnorm_pictures.cli import main, mend as mend_cli, report as report_cli, same
-from exifnorm_pictures.compare import differing
+from exifnorm_pictures.comparison import differing
 from exifnorm_pictures.extract import exiftool, programs
 from exifnorm_pictures.extract.formats import png as png_
 from exifnorm_pictures.fields import labels, listing, names

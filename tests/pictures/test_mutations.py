@@ -17,7 +17,7 @@ import made_raw
 from studio import Studio, needs, run, write
 
 from exifnorm_pictures.catalogue.store import Catalogue
-from exifnorm_pictures.compare import groups
+from exifnorm_pictures.comparison import groups
 from exifnorm_pictures.model import budgets
 
 

@@ -6,7 +6,7 @@ from collections import Counter
 from datetime import datetime
 from unittest import mock
 
-from exifnorm_pictures.compare.conflicts import Conflict
+from exifnorm_pictures.comparison.conflicts import Conflict
 from exifnorm_pictures.fields.labels import LabelText
 from exifnorm_pictures.model.records import PictureRecord
 from exifnorm_pictures.report import contents, page as report

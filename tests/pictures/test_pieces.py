@@ -14,7 +14,7 @@ from studio import WithPictures, write
 
 import exifnorm
 from exifnorm_pictures import xmp
-from exifnorm_pictures.compare import differing
+from exifnorm_pictures.comparison import differing
 from exifnorm_pictures.extract import exiftool, programs
 from exifnorm_pictures.fields import listing, xmp_properties
 from exifnorm_pictures.model import records, texts, verdicts

@@ -256,8 +256,8 @@ class Scale(WithPictures):
         call = "import sys; from exifnorm_pictures.cli.main import main; main(sys.argv[1:]); print(*sys.modules, file=sys.stderr)"
         reading = [f"exifnorm_pictures.{it}" for it in ("extract.extraction", "scan.looking")]
         names = (
-            "compare.changed",
-            "compare.groups",
+            "comparison.changed",
+            "comparison.groups",
             "extract.readers",
             "refusals.explain",
             "refusals.mend",
@@ -267,11 +267,11 @@ class Scale(WithPictures):
         watched = {"exifnorm", "html", "logging", "multiprocessing", "subprocess", "urllib", "xml", *reading}
         watched.update(f"exifnorm_pictures.{it}" for it in names)
         for words, needed in (
-            (["same", "--catalogue", "c"], {"subprocess", "exifnorm_pictures.compare.groups"}),
+            (["same", "--catalogue", "c"], {"subprocess", "exifnorm_pictures.comparison.groups"}),
             (["index", "p", "--catalogue", "c", "--quiet"], {"subprocess"}),
             (["index", "p", "--catalogue", "e", "--quiet"], {"subprocess", "exifnorm", "xml", *reading}),
             (["merge", "c", "--catalogue", "d"], {"subprocess"}),
-            (["changed", "c", "c"], {"subprocess", "exifnorm_pictures.compare.changed"}),
+            (["changed", "c", "c"], {"subprocess", "exifnorm_pictures.comparison.changed"}),
             (["show", "p/0000.jpg"], {"subprocess", "exifnorm", "xml", reading[0], "exifnorm_pictures.judge.repairs"}),
         ):
             with self.subTest(words[0]):

@@ -15,9 +15,9 @@ from made_files import app1, exif, jpeg
 from studio import SMALL_JPEG, needs, tool
 
 from exifnorm_pictures.cli import summary as page
-from exifnorm_pictures.compare import summary
-from exifnorm_pictures.compare.changed import RESULTS, Compared
-from exifnorm_pictures.compare.differing import differences
+from exifnorm_pictures.comparison import summary
+from exifnorm_pictures.comparison.changed import RESULTS, Compared
+from exifnorm_pictures.comparison.differing import differences
 
 
 @pytest.fixture

@@ -17,8 +17,8 @@ from studio import WithPictures
 
 from exifnorm_pictures.catalogue import store
 from exifnorm_pictures.catalogue.store import VERSION, Catalogue, NoCatalogue
-from exifnorm_pictures.compare import changed, groups, pairs as pairing
-from exifnorm_pictures.compare.differing import bare
+from exifnorm_pictures.comparison import changed, groups, pairs as pairing
+from exifnorm_pictures.comparison.differing import bare
 from exifnorm_pictures.fields import normal_form
 from exifnorm_pictures.fields.listing import Field, numbers_text
 from exifnorm_pictures.fields.packing import packed
@@ -719,7 +719,7 @@ class Forms(unittest.TestCase):
 class EqualChanges(unittest.TestCase):
     def test_equal_ones_are_together(self):
         """Also where more are known than are kept in memory, and in the order in which they came."""
-        from exifnorm_pictures.compare.changed import Equal
+        from exifnorm_pictures.comparison.changed import Equal
 
         equal, most = Equal(), 0
         self.addCleanup(equal.close)

@@ -15,8 +15,8 @@ from made_files import exif, jpeg, xmp
 from studio import TESTS_PATH, WithPictures, interpreter_with, needs, run
 
 from exifnorm_pictures.catalogue.store import BLOCK_COLUMNS, PICTURE_COLUMNS, Catalogue, NoCatalogue
-from exifnorm_pictures.compare import changed
-from exifnorm_pictures.compare.differing import bare
+from exifnorm_pictures.comparison import changed
+from exifnorm_pictures.comparison.differing import bare
 from exifnorm_pictures.extract.formats import jpeg as jpeg_
 from exifnorm_pictures.files import signals
 from exifnorm_pictures.judge import judge

@@ -230,7 +230,7 @@ class Packets(unittest.TestCase):
 
     def test_properties_are_named(self):
         from exifnorm_pictures import xmp as reading
-        from exifnorm_pictures.compare.differing import bare, differences
+        from exifnorm_pictures.comparison.differing import bare, differences
         from exifnorm_pictures.fields import listing
 
         def fields(packet):

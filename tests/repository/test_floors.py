@@ -5,7 +5,7 @@ from pathlib import Path
 
 FOLDER = Path(__file__).resolve().parents[2] / "python/exifnorm_pictures"
 KNOWN = {"model/records.py: from ..fields.listing import Field"}  # the type of what a block's fields are, for mypy alone
-FLOORS = "model files xmp fields extract judge refusals catalogue scan compare report export cli".split()  # the lowest one first
+FLOORS = "model files xmp fields extract judge refusals catalogue scan comparison report export cli".split()  # the lowest one first
 
 
 def test_no_module_imports_from_a_floor_above() -> None:

@@ -6,7 +6,7 @@ import argparse
 import os
 from typing import Iterator, List
 
-from ..compare.conflicts import ALIKE, best, conflicts, own_texts
+from ..comparison.conflicts import ALIKE, best, conflicts, own_texts
 from ..fields.labels import WORDS, LabelText
 from ..judge.reading import Reading
 from ..model.found import each_kind

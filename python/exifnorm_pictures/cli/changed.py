@@ -12,9 +12,9 @@ from collections import Counter
 from typing import Callable, Iterable, Iterator, List
 
 from ..catalogue.store import Catalogue, NoCatalogue
-from ..compare import changed as changes, coded
-from ..compare.summary import Summary
-from ..compare.wording import NONE, line_of
+from ..comparison import changed as changes, coded
+from ..comparison.summary import Summary
+from ..comparison.wording import NONE, line_of
 from ..extract import exiftool, programs
 from ..fields.choosing import Choice
 from ..fields.left_out import lines as lines_of_choice

@@ -5,9 +5,9 @@ from __future__ import annotations
 from collections import Counter
 from typing import Iterable, Optional, Sequence, Tuple
 
-from ..compare.changed import Compared
-from ..compare.differing import Difference, exact
-from ..compare.wording import plain_sides
+from ..comparison.changed import Compared
+from ..comparison.differing import Difference, exact
+from ..comparison.wording import plain_sides
 from ..fields.choosing import Choice
 from ..fields.left_out import lines
 from ..fields.listing import MAKER_NOTE, Field

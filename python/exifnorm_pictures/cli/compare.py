@@ -8,9 +8,9 @@ import shutil
 from collections import Counter
 from typing import Iterator, List, Optional, Sequence
 
-from ..compare import changed as changes, coded
-from ..compare.two_pictures import Comparison, Row, compare, read, with_position
-from ..compare.wording import NONE, tag_of
+from ..comparison import changed as changes, coded
+from ..comparison.two_pictures import Comparison, Row, compare, read, with_position
+from ..comparison.wording import NONE, tag_of
 from ..extract import exiftool, programs
 from ..fields.choosing import Choice
 from ..fields.left_out import lines

@@ -7,7 +7,7 @@ from collections import Counter
 from dataclasses import dataclass, field
 from typing import Dict, Iterator, List, Sequence, Set
 
-from ..compare.conflicts import ALIKE, CAMERA, CHARACTERS, CUT, EMPTY, JOINED, ORDER, Conflict, conflicts
+from ..comparison.conflicts import ALIKE, CAMERA, CHARACTERS, CUT, EMPTY, JOINED, ORDER, Conflict, conflicts
 from ..fields.choosing import UnknownField
 from ..fields.labels import LABELS, STANDARDS, label_of
 from ..judge.reading import Reading

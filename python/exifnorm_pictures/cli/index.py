@@ -96,7 +96,7 @@ def _may_be_read(name: bytes) -> bool:
 
 def _next_steps(catalogue: Catalogue, name: str, excluded: int) -> Iterator[str]:
     """What can be done with the catalogue, a line for each."""
-    from ..compare import groups  # which takes long to import, and --quiet needs none of it
+    from ..comparison import groups  # which takes long to import, and --quiet needs none of it
 
     word = escaped(shlex.quote(name))
     count, _ = groups.totals(catalogue)

@@ -9,9 +9,9 @@ from collections import Counter
 from typing import Dict, Iterator, List, Optional, Sequence, Tuple
 
 from ..catalogue.store import Catalogue
-from ..compare import groups
-from ..compare.keeping import NOT_KNOWN, Keep, keeping
-from ..compare.readings import Unknown, of_unknown
+from ..comparison import groups
+from ..comparison.keeping import NOT_KNOWN, Keep, keeping
+from ..comparison.readings import Unknown, of_unknown
 from ..extract import exiftool
 from ..fields.choosing import Choice
 from ..fields.left_out import BY_LISTING, of_labels

@@ -5,9 +5,9 @@ from __future__ import annotations
 from collections import Counter
 from typing import Iterator, List, NamedTuple, Sequence
 
-from ..compare import changed
-from ..compare.summary import FIELDS, FieldCount, PartCount, Summary
-from ..compare.wording import cut
+from ..comparison import changed
+from ..comparison.summary import FIELDS, FieldCount, PartCount, Summary
+from ..comparison.wording import cut
 from ..model.texts import shown_path
 from ..model.verdicts import SAME
 from .columns import width

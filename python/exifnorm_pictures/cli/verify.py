@@ -11,7 +11,7 @@ from datetime import datetime, timezone
 from typing import BinaryIO, Dict, Iterator, List, Sequence
 
 from ..catalogue.store import Catalogue, NoCatalogue
-from ..compare import verified
+from ..comparison import verified
 from ..extract import exiftool, programs
 from ..files import atomic, tempdir
 from ..model.errors import WrongUse

@@ -8,9 +8,9 @@ from typing import Iterator, List, Optional, Sequence, Tuple
 
 from ..catalogue.store import Catalogue
 from ..catalogue.texts import texts_of
-from ..compare.conflicts import ALIKE, conflicts
-from ..compare.groups import Fewest, groups
-from ..compare.keeping import Keep, keeping
+from ..comparison.conflicts import ALIKE, conflicts
+from ..comparison.groups import Fewest, groups
+from ..comparison.keeping import Keep, keeping
 from ..fields.labels import LabelText
 from ..fields.listing import Field, exact
 from ..fields.packing import unpacked

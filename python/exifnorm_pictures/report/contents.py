@@ -9,11 +9,11 @@ from dataclasses import dataclass, field
 from typing import Any, Dict, Iterator, List, Optional, Sequence, Set, Tuple
 
 from ..catalogue.store import Catalogue, Run
-from ..compare import changed, groups
-from ..compare.conflicts import Conflict
-from ..compare.differing import bare
-from ..compare.readings import Unknown
-from ..compare.wording import sides
+from ..comparison import changed, groups
+from ..comparison.conflicts import Conflict
+from ..comparison.differing import bare
+from ..comparison.readings import Unknown
+from ..comparison.wording import sides
 from ..fields.choosing import EVERYTHING, Choice
 from ..fields.left_out import lines
 from ..model.records import WORDS, Picture, has, kind_of

@@ -11,7 +11,7 @@ from typing import Dict, Iterator, List, NamedTuple, Tuple
 
 from ..catalogue.store import Catalogue
 from ..catalogue.texts import PictureTexts, texts_of
-from ..compare.conflicts import ALIKE, Conflict, conflicts
+from ..comparison.conflicts import ALIKE, Conflict, conflicts
 from ..fields.labels import COMMENT, STANDARDS, WORDS
 from ..fields.packing import unpacked
 from ..model.records import Block, Picture

@@ -9,9 +9,9 @@ from datetime import datetime, timezone
 from html import escape
 from typing import Dict, List, Optional, Tuple
 
-from ..compare import changed, coded
-from ..compare.conflicts import Conflict
-from ..compare.readings import of_unknown
+from ..comparison import changed, coded
+from ..comparison.conflicts import Conflict
+from ..comparison.readings import of_unknown
 from ..fields.labels import STANDARDS
 from ..model import verdicts
 from ..model.found import PROBLEMS
