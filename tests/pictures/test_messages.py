@@ -264,12 +264,12 @@ class Messages(WithPictures):
     def test_of_names(self):
         write(self.path("list"), b"a\0b\0")
         text = f"the list {self.path('list')} contains a NUL: if its names end with NUL, give -0"
-        self.assertEqual(self.raised(walk.BadList, walk.listed, self.path("list"), False), text)
-        self.assertEqual(walk.listed(self.path("list"), True), [b"a", b"b"])
-        self.assertEqual(walk.listed("-", False, io.BytesIO(b"a\n\nb")), [b"a", b"b"])
+        self.assertEqual(self.raised(walk.BadList, list, walk.listed(self.path("list"), False)), text)
+        self.assertEqual(list(walk.listed(self.path("list"), True)), [b"a", b"b"])
+        self.assertEqual(list(walk.listed("-", False, stdin=io.BytesIO(b"a\n\nb"))), [b"a", b"b"])
         with mock.patch.object(sys, "stdin", None):
-            self.assertEqual(self.raised(walk.BadList, walk.listed, "-", False), "standard input is closed")
-            self.assertEqual(walk.listed("-", True, io.BytesIO(b"a\nb\0\0c")), [b"a\nb", b"c"])
+            self.assertEqual(self.raised(walk.BadList, list, walk.listed("-", False)), "standard input is closed")
+            self.assertEqual(list(walk.listed("-", True, stdin=io.BytesIO(b"a\nb\0\0c"))), [b"a\nb", b"c"])
         asked = argparse.Namespace(files_from=None, null=False, command="show")
         self.assertEqual(self.raised(walk.BadList, names.named, asked, ["a\0b"]), "a name contains a NUL")
         with contextlib.redirect_stderr(io.StringIO()) as printed, self.assertRaises(SystemExit) as ended:

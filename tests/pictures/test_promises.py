@@ -417,7 +417,7 @@ class Pictures(Promises):
         for name, it in {"lines": b"@/p/a.jpg\n", "nuls": b"@/p/a.jpg\0@/p/b\nc.jpg\0"}.items():
             write(self.path(name), it.replace(b"@", os.fsencode(self.folder)))
         self.index("@/p")
-        self.assertEqual(self.printed("show", "--files-from", "@/lines"), self.printed("show", "@/p/a.jpg"))
+        self.assertEqual(self.printed("show", "--files-from", "@/lines"), ["== F/p/a.jpg", *self.printed("show", "@/p/a.jpg")])
         heads = [it for it in self.printed("show", "--files-from", "@/nuls", "-0") if it.startswith("== ")]
         self.assertEqual(heads, ["== F/p/a.jpg", "== F/p/b\\nc.jpg"])
         same = ("same", "--catalogue", "@/c")

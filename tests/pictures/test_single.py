@@ -278,7 +278,7 @@ class Lines(WithPictures):
             )
 
     def pairs(self, names, files_from=None, given=()):
-        with mock.patch.object(mend_cli, "from_list", lambda _: list(given)):
+        with mock.patch.object(mend_cli, "each_of_list", lambda _: list(given)):
             return list(mend_cli._pairs(argparse.Namespace(names=names, files_from=files_from)))
 
     def test_pictures_and_their_copies(self):

@@ -15,6 +15,7 @@ from .columns import width
 from .each_block import status_of
 from .exit_codes import SUCCESS
 from .labelled import is_of_many, members, not_read, origins, pictures, refused, together
+from .names import is_list
 from .objects import print_object
 from .output import print_line
 from .tables import Cell, Table
@@ -27,7 +28,7 @@ def run(arguments: argparse.Namespace) -> int:
     """Lists captions of Exif, IPTC and XMP."""
     worst = SUCCESS
     table = Table(["picture", *WORDS, "camera's text", "contradicts itself", "not read"]) if arguments.csv else None
-    has_heads = len(arguments.pictures) != 1 or bool(arguments.files_from) or is_of_many(os.fsencode(arguments.pictures[0]))
+    has_heads = is_list(arguments, arguments.pictures) or is_of_many(os.fsencode(arguments.pictures[0]))
     for it in pictures(arguments):
         worst = max(worst, status_of(it))
         if table:

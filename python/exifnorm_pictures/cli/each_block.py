@@ -14,7 +14,7 @@ from ..model.records import WORDS, Block
 from ..model.texts import Members, path_members, shown_path
 from ..model.verdicts import ACCEPTED
 from .exit_codes import SUCCESS, UNKNOWN
-from .names import named
+from .names import each_name, is_list
 from .output import block_members, output
 
 
@@ -28,13 +28,12 @@ def status_of(it: Reading) -> int:
 
 
 def each_picture(arguments: argparse.Namespace) -> Iterator[Reading]:
-    """The pictures that are named."""
-    names = dict.fromkeys(named(arguments, arguments.pictures))
+    """The pictures that are named. What is printed of one is written before the next name of standard input is read."""
     programs.set_limit(arguments.limit)
     with tempdir.room() as room:
         exiftool.begin(room)
         try:
-            yield from (Reading.of(it, blocks_of(it, arguments.whole, arguments.block)) for it in names)
+            yield from (Reading.of(it, blocks_of(it, arguments.whole, arguments.block)) for it in each_name(arguments, arguments.pictures))
         finally:
             exiftool.finish()
 
@@ -42,7 +41,7 @@ def each_picture(arguments: argparse.Namespace) -> Iterator[Reading]:
 def each_block(arguments: argparse.Namespace, describe: Describe, refused_too: bool = False) -> int:
     """Prints something about each block of each picture. Returns the greatest status."""
     worst = SUCCESS
-    has_heads = len(set(named(arguments, arguments.pictures))) > 1
+    has_heads = is_list(arguments, arguments.pictures)
     for it in each_picture(arguments):
         worst = max(worst, status_of(it))
         _print(arguments, it, [f"== {shown_path(it.name)}"] if has_heads else [], describe, refused_too)

@@ -20,7 +20,7 @@ from ..model.records import NOT_THERE
 from ..model.texts import Members
 from ..model.verdicts import ACCEPTED, REACHED
 from ..scan.walk import Unlisted, below
-from .names import named
+from .names import each_name
 from .objects import picture_object
 
 
@@ -30,7 +30,7 @@ def pictures(arguments: argparse.Namespace) -> Iterator[Reading]:
     with tempdir.room() as room:
         exiftool.begin(room)
         try:
-            for name in dict.fromkeys(named(arguments, arguments.pictures)):
+            for name in each_name(arguments, arguments.pictures):
                 if arguments.block or not is_of_many(name):
                     yield _reading(arguments, name)
                 elif os.path.isdir(name):

@@ -13,7 +13,7 @@ from ..model.budgets import TooMuch
 from ..model.texts import Members, path_members, shown_path
 from ..refusals import mend
 from .exit_codes import DIFFERENCE, FAILURE, SUCCESS, UNKNOWN
-from .names import from_list
+from .names import each_of_list
 from .output import output
 from .parser import refuse
 
@@ -53,7 +53,7 @@ def _pairs(arguments: argparse.Namespace) -> Iterator[Tuple[bytes, bytes]]:
     if arguments.files_from:
         if len(names) != 1 or not os.path.isdir(names[0]):
             refuse("mend", "with --files-from give the folder OUT alone, which must be there")
-        for it in from_list(arguments) or []:
+        for it in each_of_list(arguments):
             yield it, os.path.join(names[0], _below(it))
     elif len(names) != 2:
         refuse("mend", "give PICTURE and OUT")

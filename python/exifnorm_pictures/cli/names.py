@@ -4,7 +4,9 @@ from __future__ import annotations
 
 import argparse
 import os
-from typing import Callable, Iterable, List, Optional, Sequence, Set
+import sys
+from itertools import chain
+from typing import Callable, Iterable, Iterator, List, Optional, Sequence, Set
 
 from ..files import signals
 from ..files.opening import reading
@@ -14,11 +16,18 @@ from ..scan.walk import BadList, listed
 from .parser import refuse
 
 
-def from_list(arguments: argparse.Namespace) -> Optional[List[bytes]]:
-    """The names of --files-from."""
+def each_of_list(arguments: argparse.Namespace) -> Iterator[bytes]:
+    """The names of --files-from. Those of standard input come one by one, and what was printed is written before more are read."""
     if arguments.null and not arguments.files_from:
         refuse(arguments.command, "-0 is for the names of --files-from")
-    return listed(arguments.files_from, arguments.null) if arguments.files_from else None
+    if arguments.files_from:
+        yield from listed(arguments.files_from, arguments.null, sys.stdout.flush)
+
+
+def from_list(arguments: argparse.Namespace) -> Optional[List[bytes]]:
+    """All names of --files-from; None without a list."""
+    names = list(each_of_list(arguments))
+    return names if arguments.files_from else None
 
 
 def chosen_paths(arguments: argparse.Namespace) -> Optional[Set[bytes]]:
@@ -40,13 +49,26 @@ def say_unknown(names: Iterable[bytes], is_known: Callable[[bytes], bool]) -> No
 
 
 def named(arguments: argparse.Namespace, names: Sequence[str]) -> List[bytes]:
-    """The names of the arguments and of the list together; at least one."""
-    found = [os.fsencode(it) for it in names] + (from_list(arguments) or [])
-    if not found and not arguments.files_from:
+    """The names of the arguments and of the list together, each once; at least one."""
+    return list(each_name(arguments, names))
+
+
+def each_name(arguments: argparse.Namespace, names: Sequence[str]) -> Iterator[bytes]:
+    """The same, one by one: a name of standard input before the next one is read."""
+    if not names and not arguments.files_from:
         refuse(arguments.command, "no name was given")
-    if any(b"\0" in it for it in found):
-        raise BadList("a name contains a NUL")
-    return found
+    known = set()
+    for name in chain(map(os.fsencode, names), each_of_list(arguments)):
+        if b"\0" in name:
+            raise BadList("a name contains a NUL")
+        if name not in known:
+            known.add(name)
+            yield name
+
+
+def is_list(arguments: argparse.Namespace, names: Sequence[str]) -> bool:
+    """Whether each picture needs its name above what is printed of it: there may be several."""
+    return bool(arguments.files_from) or len(set(names)) > 1
 
 
 class WrongCommand(WrongUse):

@@ -2,10 +2,11 @@
 
 from __future__ import annotations
 
+import io
 import os
 import stat
 import sys
-from typing import BinaryIO, Callable, Collection, Iterable, Iterator, List, NamedTuple, Optional, Set, Tuple
+from typing import Callable, Collection, Iterable, Iterator, NamedTuple, Optional, Set, Tuple, cast
 
 from ..extract.sidecars import Folder, Folders, Sidecar
 from ..model.errors import WrongUse
@@ -109,15 +110,44 @@ def _stamp(it: "os.DirEntry[bytes]") -> Optional[Stamp]:
         return None
 
 
-def listed(name: str, by_nul: bool, stdin: Optional[BinaryIO] = None) -> List[bytes]:
-    """The names in a list file (`-` is standard input): one for each line, or each ended by a NUL. Raises `BadList`."""
-    if name == "-":
-        if stdin is None and sys.stdin is None:
-            raise BadList("standard input is closed")
-        octets = (stdin or sys.stdin.buffer).read()
-    else:
+def listed(name: str, by_nul: bool, before_read: Callable[[], object] = bool, stdin: Optional[io.BufferedIOBase] = None) -> Iterator[bytes]:
+    """The names in a list file: one for each line, or each ended by a NUL. Raises `BadList`.
+
+    Those of standard input, `-`, come one by one, each before more is read, so that a program can ask for a name and wait for the answer.
+    `before_read` is called each time that more of it is read. A file is read whole first.
+    """
+    if name != "-":
         with open(name, "rb") as file:
             octets = file.read()
-    if not by_nul and b"\0" in octets:
-        raise BadList(f"the list {name} contains a NUL: if its names end with NUL, give -0")
-    return [it for it in octets.split(b"\0" if by_nul else b"\n") if it]
+        if not by_nul and b"\0" in octets:
+            raise _ended_by_nul(name)
+        yield from filter(None, octets.split(b"\0" if by_nul else b"\n"))
+        return
+    if stdin is None and sys.stdin is None:
+        raise BadList("standard input is closed")
+    stream = stdin or cast(io.BufferedIOBase, sys.stdin.buffer)
+    name_so_far = bytearray()
+    while piece := _more(stream, before_read):
+        if not by_nul and b"\0" in piece:
+            raise _ended_by_nul(name)
+        first, *others = piece.split(b"\0" if by_nul else b"\n")
+        name_so_far += first
+        for other in others:
+            if name_so_far:
+                yield bytes(name_so_far)
+            name_so_far = bytearray(other)
+    if name_so_far:
+        yield bytes(name_so_far)
+
+
+def _more(stream: io.BufferedIOBase, before_read: Callable[[], object]) -> bytes:
+    """What is there of a stream, or what comes next; nothing at its end."""
+    before_read()
+    return stream.read1(_CHUNK)
+
+
+_CHUNK = 1 << 16
+
+
+def _ended_by_nul(name: str) -> BadList:
+    return BadList(f"the list {name} contains a NUL: if its names end with NUL, give -0")
