@@ -109,10 +109,12 @@ class Cluster(WithPictures):
 
     def test_a_picture_that_kills_workers_is_a_line(self):
         write(self.path("p", "a.exv"), EXV)
-        lines = self.index("p", "--scheduler", self.cluster(PATH=self.deadly("true"), failures="0"), status=2, quiet=())
+        scheduler = self.cluster(PATH=self.deadly("true"), failures="0")
+        lines = self.index("p", "--scheduler", scheduler, status=2, quiet=())
         self.assertEqual(
             lines[:2], [f"{self.path('p', 'a.exv')}: ToolFailed: the workers that looked at it died", "150 accepted, 1 ToolFailed"]
         )
+        self.assertEqual(self.index("p", "--scheduler", scheduler, quiet=())[0], "150 unchanged, 1 ToolFailed as before")
 
     def test_another_path_of_the_folder_on_the_workers(self):
         os.rename(self.path("p"), self.path("there"))

@@ -135,16 +135,16 @@ def _chunks(work: Sequence[FoundFile]) -> Iterator[Sequence[FoundFile]]:
 
 
 def _failed(it: FoundFile, why: str) -> PictureRecord:
-    return PictureRecord(it.path, it.root, it.stamp, problem="ToolFailed", detail=why)
+    return looking.compared_with_before(it, PictureRecord(it.path, it.root, it.stamp, problem="ToolFailed", detail=why))
 
 
 def _here(it: FoundFile, answer: PictureRecord) -> PictureRecord:
-    """A worker's result with the name and the marks that the file has here."""
+    """A worker's result with the name and the marks that the file has here. A worker doesn't know which problems it had at the last run."""
     if answer.problem == "Vanished":
         detail = f"the worker has no such file: {os.fsdecode(answer.path)!r}"
-        return PictureRecord(it.path, it.root, None, problem="Unreadable", detail=detail)
+        return looking.compared_with_before(it, PictureRecord(it.path, it.root, None, problem="Unreadable", detail=detail))
     same = answer.stamp is not None and it.stamp is not None and answer.stamp.size == it.stamp.size
     stamp = it.stamp if same else None
     if stamp and answer.stamp and answer.stamp.changed == RACY:
         stamp = stamp._replace(changed=RACY)
-    return answer._replace(path=it.path, root=it.root, stamp=stamp)
+    return looking.compared_with_before(it, answer._replace(path=it.path, root=it.root, stamp=stamp))

@@ -26,10 +26,11 @@ _NOT_OPENED = ("Vanished", "LinkToNothing", "NotAFile", "Unreadable")  # the pro
 
 def look(it: FoundFile, how: How, packs: bool = True) -> PictureRecord:
     """The result for one file, its fields packed for a catalogue unless that isn't asked for. An error of any kind affects only this file."""
-    return _compared_with_before(it, _look(it, how, packs))
+    return compared_with_before(it, _look(it, how, packs))
 
 
-def _compared_with_before(it: FoundFile, found: PictureRecord) -> PictureRecord:
+def compared_with_before(it: FoundFile, found: PictureRecord) -> PictureRecord:
+    """The result for a file, marked as known if the last run had the same problem with it."""
     return found._replace(is_known=True) if found.problem and found.problem == it.problem else found
 
 
@@ -105,7 +106,7 @@ def file_digest(path: bytes, blocks: Blocks, whole: bool) -> str:
 
 def failed(it: FoundFile, why: str) -> PictureRecord:
     """The result for a file at which a program or a process failed."""
-    return _compared_with_before(it, PictureRecord.of(it.path, it.root, it.stamp, Blocks(problem="ToolFailed", detail=why)))
+    return compared_with_before(it, PictureRecord.of(it.path, it.root, it.stamp, Blocks(problem="ToolFailed", detail=why)))
 
 
 def _now() -> int:
