@@ -6,6 +6,7 @@ import contextlib
 import os
 from typing import Sequence
 
+from ..files import rights
 from .store import Catalogue, NoCatalogue, check_schema, unlike
 
 _RUNS = "INSERT INTO main.runs SELECT id + ?, started, ended, exifnorm, exiftool, exiv2, sidecars FROM other.runs"
@@ -18,6 +19,7 @@ def merge(name: str, others: Sequence[str]) -> int:
     Each catalogue is one transaction: a merge that is stopped leaves whole catalogues in it.
     """
     _check(name, others)  # before it is made: a mistyped name would leave a catalogue of no pictures
+    rights.make(name, others)
     with Catalogue(name, make=True) as all_:
         for it in others:
             _add(all_, it)

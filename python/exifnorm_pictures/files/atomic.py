@@ -13,7 +13,7 @@ from typing import BinaryIO, Callable, Iterator, Optional, Tuple
 
 from ..model.errors import Failure
 from ..model.texts import reason
-from . import opening
+from . import opening, rights
 
 Write = Callable[[BinaryIO], None]
 
@@ -27,35 +27,46 @@ def not_written(name: str, why: object) -> str:
     return f"{name} isn't written: {why}"
 
 
-def copy_new(source: bytes, out: bytes, like: os.stat_result) -> None:
-    """Copies a file to `out`, with the mode and times of another one. Raises `FileExistsError` if `out` exists."""
+def copy_new(source: bytes, out: bytes, like: bytes) -> None:
+    """Copies a file to `out`, with the times and the rights of the file `like`, or fewer. Raises `FileExistsError` if `out` exists."""
+    times, allowed = os.stat(like), rights.rights_of(like)
 
     def write(file: BinaryIO) -> None:
         with opening.reading(source) as given:
             shutil.copyfileobj(given, file)
         file.flush()
-        os.fchmod(file.fileno(), stat.S_IMODE(like.st_mode))
-        os.utime(file.fileno(), ns=(like.st_atime_ns, like.st_mtime_ns))
+        rights.give(file.fileno(), allowed)
+        os.utime(file.fileno(), ns=(times.st_atime_ns, times.st_mtime_ns))
 
-    with _written(out, write) as (file, name):
+    with _written(out, write, 0o600) as (file, name):
         _link(file, name, out)
 
 
 def replace(out: bytes, write: Write, allowed: Callable[[bytes], bool], kept: Tuple[str, ...] = ()) -> None:
     """Writes a file that may replace an earlier one: a regular file whose first bytes are `allowed`, or an empty one.
 
-    The files of `kept` are never replaced, whatever name `out` is. Raises `NotReplaced`.
+    It is made from the files `kept`, which are never replaced, whatever name `out` is. It has the rights of the file that it replaces, or
+    those of `kept` and umask. Raises `NotReplaced`.
     """
     there = os.path.realpath(out)
     try:
         _check(there, allowed, kept)
-        _replace(there, write)
+        _replace(there, write, kept)
     except OSError as error:  # the file that it names may be the one that gets its name in the end
         raise NotReplaced(reason(error)) from None
 
 
-def _replace(there: bytes, write: Write) -> None:
-    with _written(there, write) as (file, name):
+def _replace(there: bytes, write: Write, sources: Tuple[str, ...]) -> None:
+    before = rights.rights_of(there) if os.path.exists(there) else None
+
+    def write_all(file: BinaryIO) -> None:
+        if before:
+            rights.give(file.fileno(), before)
+        else:
+            rights.limit(file.fileno(), sources)
+        write(file)
+
+    with _written(there, write_all, 0o600 if before else 0o666) as (file, name):
         beside = name or _free_name(there)
         if not name:
             _link(file, None, beside)
@@ -85,10 +96,10 @@ def _check(out: bytes, allowed: Callable[[bytes], bool], kept: Tuple[str, ...]) 
 
 
 @contextlib.contextmanager
-def _written(out: bytes, write: Write) -> Iterator[Tuple[BinaryIO, Optional[bytes]]]:
-    """A file in the folder of `out` with all its bytes on the disk, and its name if it needed one."""
+def _written(out: bytes, write: Write, mode: int) -> Iterator[Tuple[BinaryIO, Optional[bytes]]]:
+    """A file in the folder of `out` with all its bytes on the disk, and its name if it needed one. It begins with a mode, less umask."""
     folder = os.path.dirname(out) or b"."
-    number, name = _opened(folder, out)
+    number, name = _opened(folder, out, mode)
     try:
         with open(number, "wb") as file:
             write(file)
@@ -101,8 +112,7 @@ def _written(out: bytes, write: Write) -> Iterator[Tuple[BinaryIO, Optional[byte
                 os.unlink(name)
 
 
-def _opened(folder: bytes, out: bytes) -> Tuple[int, Optional[bytes]]:
-    mode = 0o666
+def _opened(folder: bytes, out: bytes, mode: int) -> Tuple[int, Optional[bytes]]:
     if hasattr(os, "O_TMPFILE"):
         with contextlib.suppress(OSError):
             return os.open(folder, os.O_TMPFILE | os.O_RDWR | os.O_CLOEXEC, mode), None

@@ -130,9 +130,9 @@ def _beside_exif(taken: Blocks) -> List[object]:
 
 
 def _put(made: bytes, picture: bytes, out: bytes) -> None:
-    """Writes the bytes of `made` to `out`, with the mode and times of the picture."""
+    """Writes the bytes of `made` to `out`, with the times and the rights of the picture."""
     try:
-        atomic.copy_new(made, out, like=os.stat(picture))
+        atomic.copy_new(made, out, like=picture)
     except OSError as error:
         raise NotWritten("the copy is there already" if isinstance(error, FileExistsError) else reason(error)) from error
 
