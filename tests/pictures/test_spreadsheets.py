@@ -3,6 +3,7 @@
 import csv
 import io
 import os
+import re
 
 import pytest
 from made_blocks import BLOCKS, with_exif
@@ -12,6 +13,7 @@ from test_captions import data_set, with_record, with_texts
 from test_groups import FILES as TWINS
 
 FORMULA = '=HYPERLINK("http://x")\r\n\x1b'
+INSIDE = "a;=1+1;b\t+1\tc\n@x;-1,=2"  # formulas for who separates by semicolons or tabs
 PICTURE = jpeg(with_texts(artist=FORMULA.encode()), with_record(data_set(80, b"Otto"), data_set(5, b'a;b,c"d')), app1_xmp(title("+1")))
 NAMES = [b"=1+1.jpg", b"@a.jpg", b"+b\xff\n.jpg", b"-c.jpg", "\uff1d1.jpg".encode(), b'plain,"1".jpg']
 
@@ -31,9 +33,7 @@ def rows(out):
     """The rows of a table, which must be as RFC 4180 has it: lines end with CR LF, and all rows have as many cells."""
     found = list(csv.reader(io.StringIO(out, newline=""), strict=True))
     assert {len(it) for it in found} == {len(found[0])}
-    written = io.StringIO(newline="")
-    csv.writer(written).writerows(found)  # whose default is RFC 4180
-    assert out == written.getvalue()
+    assert out.endswith("\r\n") and len(re.findall("[^\r]\n", out)) == sum(cell.count("\n") for it in found for cell in it)
     return [dict(zip(found[0], it)) for it in found[1:]]
 
 
@@ -54,6 +54,27 @@ def test_no_cell_is_a_formula(command, run, folder):
             assert not cell.startswith(("=", "+", "-", "@", "\t", "\r", "\n", "\uff1d")), cell
             assert all(one.isprintable() or one in "\n\t" for one in cell), cell
     assert {it["picture"] for it in found} >= {"'=1+1.jpg", "'+b\\xff\\n.jpg", 'plain,"1".jpg'}
+
+
+@pytest.mark.parametrize("command", ["show", "captions", "conflicts"])
+@pytest.mark.parametrize("separator", ",;\t", ids=["comma", "semicolon", "tab"])
+def test_no_part_of_a_cell_is_a_formula(command, separator, run, folder):
+    """Whatever separates cells where the table is opened."""
+    put(
+        folder,
+        jpeg(with_texts(artist=INSIDE.encode(), copyright=INSIDE.encode()), with_record(data_set(80, b"Otto"))),
+        [b"a;=1.jpg", b"b\t@1.jpg"],
+    )
+    _, out = run(command, "--csv", names=[b"a;=1.jpg", b"b\t@1.jpg"])
+    cells = [cell for row in csv.reader(io.StringIO(out, newline=""), delimiter=separator) for cell in row]
+    assert "1" in "".join(cells)
+    assert not [it for it in cells if it.startswith(("=", "+", "-", "@"))]
+
+
+def test_a_cell_with_a_separator_is_in_quotes(run, folder):
+    for separator, text in ((",", "a,b"), (";", "a;b"), ("\t", "a\tb")):
+        (folder / "a.jpg").write_bytes(jpeg(with_record(data_set(120, text.encode()))))
+        assert f'"{text}"' in run("captions", "a.jpg", "--csv")[1], separator
 
 
 def test_groups(run, folder):

@@ -1,31 +1,33 @@
 r"""Tables for spreadsheets (--csv, --xlsx): RFC 4180 in UTF-8, a line of heads first.
 
-A text that a spreadsheet would run as a formula gets an apostrophe in front. Bytes that are no UTF-8 and control characters are escaped
-as in all other output; only ends of lines and tabs inside a text stay.
+What a spreadsheet would run as a formula gets an apostrophe in front, also inside a text, where a spreadsheet that separates cells by
+semicolons or tabs would begin another cell. Bytes that are no UTF-8 and control characters are escaped as in all other output; only ends
+of lines and tabs inside a text stay.
 """
 
 from __future__ import annotations
 
-import csv
+import re
 import sys
-from typing import Optional, Sequence, Union
+from typing import Sequence
 
 from ..model.texts import escaped, shown_path
 from . import sheets
 
 Cell = sheets.Cell
 
-_FORMULA = tuple("=+-@\t\n＝＋－＠")  # Excel and LibreOffice take these as the beginning of a formula, the wide ones in East Asian settings
+# Excel and LibreOffice take these as the beginning of a formula, the wide ones in East Asian settings
+_FORMULA = re.compile(r"\A(?=[=+\-@\t\n＝＋－＠])|(?<=[;\t\n])(?=[=+\-@＝＋－＠])")
+_SPECIAL = re.compile(r'[,;\t\n"]')  # what separates cells or rows somewhere
 
 
 def cell(text: str) -> str:
     r"""A text as a cell: no spreadsheet takes it for a formula, and it has no control character but ends of lines and tabs.
 
-    >>> cell("=1+1"), cell("a\x1bb"), cell("a\nb")
-    ("'=1+1", 'a\\x1bb', 'a\nb')
+    >>> cell("=1+1"), cell("a;=1+1"), cell("a\x1bb"), cell("a\nb")
+    ("'=1+1", "a;'=1+1", 'a\\x1bb', 'a\nb')
     """
-    shown = "".join(it if it in "\n\t" or it.isprintable() else escaped(it) for it in text)
-    return f"'{shown}" if shown.startswith(_FORMULA) else shown
+    return _FORMULA.sub("'", "".join(it if it in "\n\t" or it.isprintable() else escaped(it) for it in text))
 
 
 class Table:
@@ -37,8 +39,7 @@ class Table:
         if self._sheet:
             self._sheet.heads(heads)
             return
-        self._rows = csv.writer(sys.stdout, lineterminator="\r\n")
-        self._rows.writerow(heads)
+        self.row(*heads)
 
     def row(self, *cells: Cell) -> None:
         """Writes a row: a path is bytes, a number stays one, and None is an empty cell."""
@@ -46,10 +47,12 @@ class Table:
         if self._sheet:
             self._sheet.row(cells)
         else:
-            self._rows.writerow([_written(it) for it in cells])
+            sys.stdout.write(",".join(map(_quoted, cells)) + "\r\n")
 
 
-def _written(it: Cell) -> Optional[Union[str, int]]:
-    if isinstance(it, bytes):
-        return cell(shown_path(it))
-    return cell(it) if isinstance(it, str) else it
+def _quoted(value: Cell) -> str:
+    """A cell as a line of a table has it: in quotes if it has what separates cells, be it commas, semicolons or tabs."""
+    if value is None or isinstance(value, int):
+        return "" if value is None else str(value)
+    text = cell(shown_path(value) if isinstance(value, bytes) else value)
+    return '"' + text.replace('"', '""') + '"' if _SPECIAL.search(text) else text
