@@ -437,7 +437,7 @@ class Rights(WithPictures):
         self.assertEqual((done.returncode, done.stdout, done.stderr.decode().count(self.path("after", "closed"))), (4, b"", 1), done.stderr)
         os.chmod(self.path("after", "closed"), 0o755)
         done = self.as_nobody("changed", "before", "after")
-        self.assertEqual((done.returncode, done.stdout), (0, b"2 pictures compared: none changed.\n\n2 same\n"), done)
+        self.assertEqual((done.returncode, done.stdout.splitlines()[0]), (0, b"2 pictures compared: none changed."), done)
 
     def test_a_folder_that_nothing_can_be_written_to(self):
         os.makedirs(self.path("shut"))

@@ -2,10 +2,12 @@
 
 import json
 import os
+import shutil
 import sqlite3
 
 import pytest
 from exifnorm_pictures import xmp
+from exifnorm_pictures.catalogue.store import Catalogue
 from exifnorm_pictures.cli import main
 from exifnorm_pictures.model.found import UNREAD_TRAILER
 from exifnorm_pictures.refusals import causes
@@ -131,7 +133,7 @@ def test_a_mistyped_folder_makes_no_catalogue(asked, folder):
     asked("index", "q", "r", "--catalogue", "c", "--quiet", status=3)
     assert not (folder / "c").exists()
     assert asked("index", "q", "p", "--catalogue", "c", "--quiet", status=2)[-1] == "1 Unreadable, 1 accepted"
-    assert asked("index", "q", "--catalogue", "c", "--quiet", status=2)[-1] == "1 Unreadable"
+    asked("index", "q", "--catalogue", "c", "--quiet", status=3)
 
 
 def test_a_file_that_never_was_is_not_gone(asked):
@@ -170,3 +172,40 @@ def test_a_page_has_the_remedy_of_each_cause(asked, folder):
     page = (folder / "page").read_text()
     found = {json.loads(it)["cause"] for it in asked("report", "--catalogue", "c", "--json") if '"refused"' in it[:12]}
     assert len(found) > 1 and page.count("<b>Remedy.</b>") == len(found)
+
+
+def test_a_mistyped_folder_is_refused_also_by_a_catalogue_that_is_there(asked, folder):
+    asked("index", "p", "--catalogue", "c")
+    asked("index", "typo", "--catalogue", "c", status=3)
+    shutil.rmtree(folder / "p")
+    asked("index", "p", "--catalogue", "c", status=2)  # a folder of the catalogue, which may be an unmounted disk
+
+
+def removed(path):
+    path.unlink()
+
+
+def replaced(path):
+    path.rename(path.with_name("moved"))
+    path.write_bytes(b"somebody else's")
+
+
+def cut(path):
+    os.truncate(path, 4096)
+
+
+@pytest.mark.parametrize("harm", [removed, replaced, cut])
+def test_a_catalogue_that_is_gone_before_the_end(asked, folder, harm, monkeypatch):
+    """The status is about what is there at the end, and not about a file without a name."""
+    for name in "bcdefgh":
+        (folder / f"p/{name}.jpg").write_bytes(GOOD)
+    asked("index", "p", "--catalogue", "c")
+    whole = Catalogue.close
+
+    def close(catalogue):
+        whole(catalogue)
+        if catalogue.name == "c" and catalogue._made:
+            harm(folder / "c")
+
+    monkeypatch.setattr(Catalogue, "close", close)
+    asked("index", "p", "--again", "--catalogue", "c", status=4)

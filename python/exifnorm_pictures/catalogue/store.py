@@ -14,7 +14,7 @@ import sqlite3
 import sys
 import stat
 import time
-from typing import Any, Callable, Iterable, Iterator, List, NamedTuple, Optional, Sequence, Tuple, TypeVar, overload
+from typing import Any, Callable, Iterable, Iterator, List, NamedTuple, Optional, Sequence, Tuple, Type, TypeVar, overload
 
 from ..files import mounts, opening as files, signals
 from ..model.budgets import ROW_BYTES, STEPS
@@ -162,6 +162,15 @@ def _mark(name: str) -> Optional[Tuple[int, int]]:
     return (now.st_ino, now.st_ctime_ns) if now.st_size else None
 
 
+def _identity(name: str) -> Optional[Tuple[int, int]]:
+    """What identifies the file of a name; None if there is none."""
+    try:
+        status = os.stat(name)
+    except OSError:
+        return None
+    return status.st_dev, status.st_ino
+
+
 def _check_head(name: str, make: bool) -> None:
     """Raises `NoCatalogue` if the header isn't a catalogue's. It reads only the header and writes nothing, not even a journal."""
     if not name:
@@ -273,6 +282,7 @@ class Catalogue:
             try:
                 if make:
                     self._prepare()
+                    self._file = _identity(name)
                 else:
                     check_schema(self.base, name)
             except BaseException:
@@ -327,8 +337,21 @@ class Catalogue:
     def __enter__(self) -> "Catalogue":
         return self
 
-    def __exit__(self, *_: object) -> None:
+    def __exit__(self, kind: Optional[Type[BaseException]], *_: object) -> None:
         self.close()
+        if self._made and kind is None:
+            self._check_place()
+
+    def _check_place(self) -> None:
+        """Raises `NoCatalogue` if the name no longer leads to what was written. SQLite goes on writing to a file that was removed or replaced."""
+        now = _identity(self.name)
+        if now is None or now != self._file:
+            raise NoCatalogue(f"{self.name} was {'replaced' if now else 'removed'} while it was written, so this run is not in it")
+        with files.reading(self.name) as file:
+            head = file.read(100)
+            pages, size = int.from_bytes(head[28:32], "big"), int.from_bytes(head[16:18], "big")
+            if not head_is_ours(head) or os.fstat(file.fileno()).st_size < pages * (size if size > 1 else 65536):
+                raise NoCatalogue(f"{self.name} was cut while it was written, and is damaged")
 
     def close(self) -> None:
         """Closes the catalogue. All committed data are then in its one file, which can be read in a read-only folder."""

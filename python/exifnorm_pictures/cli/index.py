@@ -7,7 +7,7 @@ import os
 import shlex
 import shutil
 from collections import Counter
-from typing import Iterator, List
+from typing import Iterator, List, Sequence
 
 from ..catalogue.store import Catalogue, NoCatalogue, head_is_ours
 from ..extract import programs
@@ -44,7 +44,7 @@ class NoScheduler(WrongUse):
 
 
 class NothingThere(WrongUse):
-    """No name leads to a folder or a file, and there is no catalogue yet: a mistyped name makes none."""
+    """No name leads to a folder or a file, and no picture of the catalogue was found by one of them."""
 
 
 def run(arguments: argparse.Namespace) -> int:
@@ -55,7 +55,7 @@ def run(arguments: argparse.Namespace) -> int:
         raise NoCatalogue("a name is empty")
     if arguments.elsewhere and not arguments.scheduler:
         raise NoScheduler("--elsewhere is a path on the workers of --scheduler, which is missing")
-    if names and not os.path.lexists(arguments.catalogue) and not any(map(os.path.lexists, names)):
+    if not any(map(os.path.lexists, names)) and not _are_known(names, arguments.catalogue):
         raise NothingThere(f"there is no folder or file {', '.join(map(shown_path, names))}")
     with tempdir.room() as room, Catalogue(arguments.catalogue, make=True) as catalogue:
         if arguments.keep_old:
@@ -87,6 +87,15 @@ def run(arguments: argparse.Namespace) -> int:
     if any(counts[it] for it in NOT_READABLE) or any(os.path.exists(it) and not _may_be_read(it) for it in names):
         return UNKNOWN
     return SUCCESS
+
+
+def _are_known(names: Sequence[bytes], catalogue: str) -> bool:
+    """Whether a catalogue has a picture that a name leads to, or led to before a folder was removed or unmounted."""
+    if not os.path.lexists(catalogue):
+        return False
+    with Catalogue(catalogue) as known:
+        paths = [os.path.abspath(name) for name in names]
+        return any(known.has(path) or any(True for _ in known.below(path)) for path in paths)
 
 
 def _may_be_read(name: bytes) -> bool:
