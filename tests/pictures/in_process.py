@@ -10,16 +10,10 @@ import subprocess
 from studio import WithPictures
 
 from exifnorm_pictures.cli import main
-from exifnorm_pictures.extract import exiftool
 
 
 class InProcess(WithPictures):
     """A test with a folder of its own, which is F in what is printed."""
-
-    def setUp(self):
-        super().setUp()
-        exiftool.finish()  # an ExifTool that another test has started: a command begins its own
-        self.addCleanup(setattr, exiftool._Own, "room", None)  # which a command sets, and removes with all that is in it
 
     def printed(self, *words, status=0):
         """The lines that a command prints, and in `complaint` those on standard error; `@` is the folder."""

@@ -16,6 +16,7 @@ from made_blocks import MAKE, block, with_exif
 from studio import SMALL_JPEG, Studio, WithPictures, interpreter_with, needs, run, write
 
 from exifnorm_pictures.extract import programs
+from exifnorm_pictures.files import session
 from exifnorm_pictures.model.records import PictureRecord, Stamp
 from exifnorm_pictures.scan import cluster
 from exifnorm_pictures.scan.batches import How
@@ -233,10 +234,10 @@ class Tasks(unittest.TestCase):
         """The results for some files, each looked at as if it were a GIF."""
         with mock.patch.multiple(cluster, create=True, distributed=near, KilledWorker=Killed, CommClosedError=Closed), mock.patch.object(
             cluster.looking, "look", lambda it, whole: PictureRecord(it.path, it.root, it.stamp, "GIF" if whole else "JPEG")
-        ), mock.patch.object(cluster.programs, "set_limit") as limit:
+        ), session.Session(1.0) as now:
             looker = cluster.looker(FAR, elsewhere, [b"/"])
             result = list(looker(work, How(seconds=seconds, room="/tmp/room", whole=True)))
-        self.limits = limit.mock_calls
+        self.seconds = now.seconds
         return result
 
     def test_tasks_have_pictures_of_one_folder(self):
@@ -258,7 +259,7 @@ class Tasks(unittest.TestCase):
         )
         self.assertEqual(near.calls[-1], "closed")
         self.assertEqual(near.waits, [(number, 2.0, "FIRST_COMPLETED") for number in (5, 4, 3, 2, 1)])
-        self.assertEqual(self.limits, [mock.call(60.0)] * 5)
+        self.assertEqual(self.seconds, 60.0)
         # there are no such files here, so they have no marks there
         self.assertEqual(result, [PictureRecord(it.path, it.root, None, "GIF") for it in work])
         self.assertEqual((self.looked(near, []), len(near.calls)), ([], 7))

@@ -11,7 +11,7 @@ from exifnorm_pictures.catalogue import store
 from exifnorm_pictures.catalogue.store import Catalogue, NoCatalogue
 from exifnorm_pictures.cli import main
 from exifnorm_pictures.comparison import changed, pairs
-from exifnorm_pictures.extract import exiftool, extraction, readers
+from exifnorm_pictures.extract import extraction, readers
 from exifnorm_pictures.extract.formats import png
 from exifnorm_pictures.fields import packing
 from exifnorm_pictures.fields.listing import exact
@@ -34,8 +34,6 @@ def command(capsys, tmp_path, monkeypatch):
     """Runs exifnorm-pictures in this process, in a new folder with two pictures; returns what it prints."""
     monkeypatch.chdir(tmp_path)
     monkeypatch.delenv("EXIFNORM_DEBUG", raising=False)
-    exiftool.finish()  # an ExifTool that another test has started
-    monkeypatch.setattr(exiftool._Own, "room", None)
     (tmp_path / "p").mkdir()
     (tmp_path / "p/a.jpg").write_bytes(jpeg())
     (tmp_path / "p/b.png").write_bytes(made_png())

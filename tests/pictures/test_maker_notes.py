@@ -12,6 +12,7 @@ import hypothesis
 import hypothesis.strategies as st
 import pytest
 from exifnorm_pictures.cli import main
+from exifnorm_pictures.files import session
 from exifnorm_pictures.extract import exiftool, structure
 from exifnorm_pictures.extract.extraction import blocks_of
 from exifnorm_pictures.fields.listing import MAKER_NOTE, Field
@@ -166,13 +167,13 @@ def same(run):
 def asked(monkeypatch):
     """The files of each question to ExifTool about MakerNotes."""
     calls = []
-    ask = exiftool.Session.ask
+    ask = exiftool.Process.ask
 
     def watched(session, paths, words, options):
         calls.append([os.path.basename(os.fsdecode(it)) for it in paths])
         return ask(session, paths, words, options)
 
-    monkeypatch.setattr(exiftool.Session, "ask", watched)
+    monkeypatch.setattr(exiftool.Process, "ask", watched)
     return calls
 
 
@@ -208,13 +209,9 @@ def basis_by(found):
 @pytest.fixture
 def one_exiftool(folder, monkeypatch):
     """One ExifTool for all commands of a test: each would start its own."""
-    finish = exiftool.finish
-    exiftool.begin(str(folder / "room"))
-    with monkeypatch.context() as patched:
-        for it in ("begin", "finish"):
-            patched.setattr(exiftool, it, lambda *_: None)
+    with session.Session(room=str(folder / "room")) as one:
+        monkeypatch.setattr(exiftool, "current", lambda: one)
         yield
-    finish()
 
 
 @needs("exiftool")
@@ -400,14 +397,14 @@ def test_blocks_written_anew_without_exiftool(put, same, run, monkeypatch, folde
 def test_where_exiftool_fails(put, same, monkeypatch):
     """At one file: what is known of the others is said."""
     put(a=noted(), b=noted(moved=64), c=noted(moved=128))
-    ask = exiftool.Session.ask
+    ask = exiftool.Process.ask
 
     def failing(session, paths, words, options):
         if any(it.endswith(b"b.jpg") for it in paths):
             raise exiftool.Failed("it ended")
         return ask(session, paths, words, options)
 
-    monkeypatch.setattr(exiftool.Session, "ask", failing)
+    monkeypatch.setattr(exiftool.Process, "ask", failing)
     status, groups, unknown = same()
     assert (status, [names(it) for it in groups], unknown) == (2, [["a", "c"]], {"failed": 1})
 

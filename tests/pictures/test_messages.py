@@ -18,7 +18,7 @@ from studio import WithPictures, read, write
 from exifnorm_pictures.catalogue.store import VERSION, Catalogue, NoCatalogue
 from exifnorm_pictures.cli import index, main, names, objects, output, parser, report
 from exifnorm_pictures.extract import exiftool, extraction, programs
-from exifnorm_pictures.files import atomic, opening, signals
+from exifnorm_pictures.files import atomic, opening, session, signals
 from exifnorm_pictures.model import records
 from exifnorm_pictures.model.found import PROBLEMS, NotRead
 from exifnorm_pictures.model.records import Block, Damaged, Digests, PictureRecord, Stamp
@@ -318,7 +318,7 @@ class Messages(WithPictures):
         self.assertEqual(
             self.raised(programs.Failed, programs.start, [self.path("nothing")]), "nothing can't be started: no such file or directory"
         )
-        with mock.patch.object(programs, "_limit", 0.05):
+        with mock.patch.object(session.current(), "seconds", 0.05):
             self.assertEqual(
                 self.raised(programs.Failed, programs.run, [shutil.which("sleep"), "60"]), "sleep took longer than 0.05 seconds"
             )
@@ -364,11 +364,11 @@ class Messages(WithPictures):
             write(self.path("exiftool"), f"#!/bin/sh\nread line\n{script}\n".encode())
             os.chmod(self.path("exiftool"), 0o755)
             with mock.patch.object(programs, "needed", lambda _: self.path("exiftool")):
-                it = exiftool.Session(self.path("room"))
+                it = exiftool.Process(self.path("room"))
                 self.assertEqual(self.raised(programs.Failed, it.ask, [b"a"], [], ()), text)
                 it.close()
         with mock.patch.object(programs, "needed", lambda _: shutil.which("true")):
-            it = exiftool.Session(self.path("room"))
+            it = exiftool.Process(self.path("room"))
             it.process.wait()
             self.assertEqual(self.raised(programs.Failed, it.ask, [b"a"], ["x" * 100_000], ()), "ExifTool ended before it was asked")
             it.close()

@@ -26,6 +26,7 @@ from exifnorm_pictures.extract import exiftool, programs
 from exifnorm_pictures.extract.formats import png as png_
 from exifnorm_pictures.fields import labels, listing, names
 from exifnorm_pictures.fields.listing import Field
+from exifnorm_pictures.files import session
 from exifnorm_pictures.judge import judge
 from exifnorm_pictures.model import xmp_names as short_names
 from exifnorm_pictures.model.found import Broken, NotRead
@@ -206,7 +207,7 @@ class Extracted(WithPictures):
         self.assertEqual([(it["kind"], it["name"]) for it in found["blocks"]], [("xmp", "XMP"), ("xmp", "second XMP")])
 
     def test_an_output_without_end(self):
-        with mock.patch.object(programs, "OUTPUT", 100_000), mock.patch.object(programs, "_limit", 10.0):
+        with mock.patch.object(programs, "OUTPUT", 100_000), mock.patch.object(session.current(), "seconds", 10.0):
             with self.assertRaisesRegex(programs.Failed, "^yes wrote more than 100,000 bytes about one file$"):
                 programs.run([shutil.which("yes")])
         with mock.patch.object(programs, "OUTPUT", 100):
@@ -359,7 +360,7 @@ class Ended(unittest.TestCase):
             with mock.patch.dict(sys.modules), mock.patch.object(main.signals, "say", lines.append):
                 for it in modules:
                     del sys.modules[it]
-                self.assertEqual((main._failed_by(why), lines), (4, [f"exifnorm-pictures: {line}"]))
+                self.assertEqual((main._failed_by(why, False), lines), (4, [f"exifnorm-pictures: {line}"]))
 
 
 class Mended(WithPictures):
@@ -383,10 +384,10 @@ class Mended(WithPictures):
         asked = argparse.Namespace(json=False, files_from=None)
         for name, (found, status) in ends.items():
             with mock.patch.object(mend, "mend", lambda *_, found=found: found), contextlib.redirect_stdout(io.StringIO()):
-                self.assertEqual(mend_cli._mend_one(asked, b"a", b"b", ""), status, name)
+                self.assertEqual(mend_cli._mend_one(asked, b"a", b"b"), status, name)
         for why, status in ((mend.NotWritten("no"), 4), (programs.Failed("no"), 2)):
             with mock.patch.object(mend, "mend", mock.Mock(side_effect=why)), contextlib.redirect_stdout(io.StringIO()):
-                self.assertEqual(mend_cli._mend_one(asked, b"a", b"b", ""), status, why)
+                self.assertEqual(mend_cli._mend_one(asked, b"a", b"b"), status, why)
 
     def test_a_link_in_the_way(self):
         """Also one that leads nowhere is a file that is there."""

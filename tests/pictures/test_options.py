@@ -53,9 +53,9 @@ def archive(folder, called):
 
 @pytest.mark.parametrize("command", [name for name, *_ in parser._COMMANDS])
 def test_each_option_is_looked_at(command, archive, capsys):
-    """An option that no statement looks at would be accepted and have no effect. `main` itself looks at --debug and --xlsx."""
+    """An option that no statement looks at would be accepted and have no effect. `main` itself looks at --debug, --limit and --xlsx."""
     arguments = parser.parsers()[0].parse_args([command, *COMMANDS[command]], Recorded())
-    accepted = set(vars(arguments)) - {"read", "command", "version", "debug", "xlsx"}
+    accepted = set(vars(arguments)) - {"read", "command", "version", "debug", "limit", "xlsx"}
     arguments.read.clear()
     importlib.import_module(f"exifnorm_pictures.cli.{command}").run(arguments)
     assert accepted <= arguments.read, "an option of this command is never looked at"

@@ -4,6 +4,7 @@ import hashlib
 import io
 import os
 import unittest
+from types import SimpleNamespace
 from unittest import mock
 
 from made_files import app1, app13
@@ -84,7 +85,7 @@ class Files(WithPictures):
             self.asked.append((path, words))
             return answers.pop(0)
 
-        with mock.patch.multiple(exiftool, ask=ask, room=lambda: self.path("room")), mock.patch.multiple(
+        with mock.patch.multiple(exiftool, ask=ask, current=lambda: SimpleNamespace(folder=lambda: self.path("room"))), mock.patch.multiple(
             programs, is_there=lambda it: has_exiv2 and it == "exiv2", needed=lambda it: f"/bin/{it}", run=run or self.fail
         ):
             return exiftool.by_others(b"a.x", io.BytesIO(octets), whole, why)

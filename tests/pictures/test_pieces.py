@@ -17,6 +17,7 @@ from exifnorm_pictures import xmp
 from exifnorm_pictures.comparison import differing
 from exifnorm_pictures.extract import exiftool, programs
 from exifnorm_pictures.fields import listing, xmp_properties
+from exifnorm_pictures.files import session
 from exifnorm_pictures.model import records, texts, verdicts
 from exifnorm_pictures.model.found import Blocks, NotRead
 from exifnorm_pictures.model.records import PictureRecord, Stamp
@@ -435,7 +436,7 @@ class Sessions(WithPictures):
         with mock.patch.multiple(
             programs, start=start, needed=lambda it: it, read_until=lambda _, complete: self.complete(answers.pop(0), complete)
         ):
-            it = exiftool.Session(self.folder)
+            it = exiftool.Process(self.folder)
             self.assertEqual(it.ask([b"/a/b.jpg"], ("-EXIF:Exif", "-XMP"), exiftool._OPTIONS), [{"EXIF": "x"}])
             self.assertEqual(it.ask([b"/a/c"], (), exiftool._OPTIONS), [{}])
             self.assertEqual(it.ask([b"/a/ d.Jpg"], (), exiftool._OPTIONS), [{}])
@@ -457,7 +458,7 @@ class Sessions(WithPictures):
 
     def test_names_that_exiftool_could_misread(self):
         with mock.patch.multiple(programs, start=lambda *_, **__: None, needed=lambda it: it):
-            it = exiftool.Session(self.folder)
+            it = exiftool.Process(self.folder)
         for path in (b"/a/b.jpg", b"/A_z0-9./+,@%~()="):
             self.assertEqual((it._handed_over(path, 0), os.listdir(self.folder)), (path, []))
         for path, link in (
@@ -481,19 +482,18 @@ class Sessions(WithPictures):
 
     def test_one_exiftool_for_many_files(self):
         """It is started for the first, and again only after it ended or failed; then it is closed."""
-        own = {"session": None, "pid": os.getpid(), "room": self.folder}
-        with mock.patch.multiple(exiftool._Own, **own), mock.patch.object(exiftool, "Session") as made:
+        with session.Session(room=self.folder) as own, mock.patch.object(exiftool, "Process") as made:
             here, counts = made.return_value, lambda: (made.call_count, made.return_value.close.call_count)
             here.process.poll.return_value = None
             self.assertEqual([exiftool.ask(it, ()) for it in (b"a", b"b", b"c")], [here.ask.return_value[0]] * 3)
-            self.assertEqual((made.call_args, counts()), (mock.call(self.folder), (1, 0)))
+            self.assertEqual((made.call_args, counts()), (mock.call(own.folder()), (1, 0)))
             here.process.poll.return_value = 1
             exiftool.ask(b"d", ())
             self.assertEqual(counts(), (2, 1))
             here.process.poll.return_value, here.ask.side_effect = None, programs.Failed("it ended")
             self.assertRaises(programs.Failed, exiftool.ask, b"e", ())
-            self.assertEqual((counts(), exiftool._Own.session), ((2, 2), None))
-            exiftool.finish()
+            self.assertEqual((counts(), own.tool), ((2, 2), None))
+            own.close_tool()
             self.assertEqual(counts(), (2, 2))
 
     def test_how_a_program_is_started(self):

@@ -9,7 +9,7 @@ from made_blocks import BLOCKS
 from made_files import A, B, K, L, T, app1, app1_xmp, jpeg, png, png_xmp, with_record
 from studio import SMALL_JPEG, write
 
-from exifnorm_pictures.extract import programs
+from exifnorm_pictures.files import session
 from exifnorm_pictures.scan import progress
 
 REST = b"rest"  # after the end of a picture
@@ -174,6 +174,7 @@ class Commands(InProcess):
             ("report", "--catalogue", "@/c", "--html", "@/page.html"),
             ("export", "@/c", "@/tables"),
         ):
-            with mock.patch.object(programs, "set_limit") as found:
+            begun, begin = [], session.Session.begin
+            with mock.patch.object(session.Session, "begin", lambda it: begun.append(it) or begin(it)):
                 self.printed(*words, "--limit", "7.5")
-            self.assertEqual(set(map(str, found.mock_calls)), {str(mock.call(7.5))}, words)
+            self.assertEqual({it.seconds for it in begun}, {7.5}, words)

@@ -489,7 +489,7 @@ class Pictures(Promises):
         self.assertEqual(run(["exifnorm-pictures", "show"], self.folder).returncode, 3)
         for lost, step, status in ((["a value"], "rebuild", 1), ([], "none", 2)):
             with mock.patch.object(mend, "mend", return_value=mend.Mended(step, {}, lost)), contextlib.redirect_stdout(io.StringIO()):
-                self.assertEqual(mend_cli._mend_one(argparse.Namespace(json=False, files_from=None), b"a", b"b", ""), status)
+                self.assertEqual(mend_cli._mend_one(argparse.Namespace(json=False, files_from=None), b"a", b"b"), status)
 
     @needs("exiftool")
     def test_no_picture_is_modified(self):

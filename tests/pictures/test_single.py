@@ -262,7 +262,7 @@ class Lines(WithPictures):
     def printed(self, why, as_json):
         with mock.patch.object(mend, "mend", mock.Mock(side_effect=why)), contextlib.redirect_stdout(io.StringIO()) as lines:
             self.assertEqual(
-                mend_cli._mend_one(argparse.Namespace(json=as_json, files_from=None), b"a\xff", b"b\n", ""),
+                mend_cli._mend_one(argparse.Namespace(json=as_json, files_from=None), b"a\xff", b"b\n"),
                 4 if isinstance(why, mend.NotWritten) else 2,
             )
         return lines.getvalue()

@@ -8,6 +8,7 @@ import itertools
 import json
 import os
 import sys
+import tempfile
 from collections import Counter
 from typing import Callable, Iterable, Iterator, List
 
@@ -15,12 +16,12 @@ from ..catalogue.store import Catalogue, NoCatalogue
 from ..comparison import changed as changes, coded
 from ..comparison.summary import Summary
 from ..comparison.wording import NONE, line_of
-from ..extract import exiftool, programs
 from ..fields.choosing import Choice
 from ..fields.left_out import lines as lines_of_choice
 from ..fields.listing import MAKER_NOTE
 from ..fields.plain_names import group_name
-from ..files import signals, tempdir
+from ..files import signals
+from ..files.session import current
 from ..model.errors import WrongUse
 from ..model.texts import shown_path
 from ..scan.index import IndexOptions, index
@@ -49,11 +50,7 @@ def run(arguments: argparse.Namespace) -> int:
     notes = _Notes(arguments, pictures)
     with contextlib.ExitStack() as open_:
         _go_on_with_sidecars(arguments)
-        before, after = (open_.enter_context(_side(it, arguments, open_)) for it in (arguments.before, arguments.after))
-        room = open_.enter_context(tempdir.room())
-        programs.set_limit(arguments.limit)
-        exiftool.begin(room)
-        open_.callback(exiftool.finish)
+        before, after = (open_.enter_context(_side(it, arguments)) for it in (arguments.before, arguments.after))
         choice = choice_of(arguments)
         refuse_unknown(choice, itertools.chain(listings_of(before), listings_of(after)))
         found = changes.changed(before, after, counts, only, arguments.all, not arguments.no_exiftool, choice, pictures)
@@ -157,11 +154,11 @@ def _go_on_with_sidecars(arguments: argparse.Namespace) -> None:
                 arguments.sidecars = arguments.sidecars or it.has_sidecars()
 
 
-def _side(name: str, arguments: argparse.Namespace, open_: contextlib.ExitStack) -> Catalogue:
+def _side(name: str, arguments: argparse.Namespace) -> Catalogue:
     """A catalogue, or a new one of a folder."""
     if not os.path.isdir(name):
         return Catalogue(name)
-    room = open_.enter_context(tempdir.room())
+    room = tempfile.mkdtemp(dir=current().room)
     made = Catalogue(os.path.join(room, "catalogue"), make=True)
     try:
         closed: List[str] = []

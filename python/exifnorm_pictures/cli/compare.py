@@ -11,11 +11,9 @@ from typing import Iterator, List, Optional, Sequence
 from ..comparison import changed as changes, coded
 from ..comparison.two_pictures import Comparison, Row, compare, read, with_position
 from ..comparison.wording import NONE, tag_of
-from ..extract import exiftool, programs
 from ..fields.choosing import Choice
 from ..fields.left_out import lines
 from ..fields.typed import together
-from ..files import tempdir
 from ..model import verdicts
 from ..model.records import WORDS, PictureRecord
 from ..model.texts import Members, escaped, shown_path
@@ -33,16 +31,10 @@ from .tables import Table
 def run(arguments: argparse.Namespace) -> int:
     """Compares two pictures."""
     refuse_folders(arguments.before, arguments.after)
-    programs.set_limit(arguments.limit)
-    with tempdir.room() as room:
-        exiftool.begin(room)
-        try:
-            how = How(1, whole=arguments.whole, pixels=True, seconds=arguments.limit, room=room)
-            one, other = (read(os.fsencode(it), how) for it in (arguments.before, arguments.after))
-            choice = _choice(arguments, one, other)
-            found = compare(one, other, arguments.exact, not arguments.no_exiftool, choice)
-        finally:
-            exiftool.finish()
+    how = How(1, whole=arguments.whole, pixels=True, seconds=arguments.limit)
+    one, other = (read(os.fsencode(it), how) for it in (arguments.before, arguments.after))
+    choice = _choice(arguments, one, other)
+    found = compare(one, other, arguments.exact, not arguments.no_exiftool, choice)
     rows = found.rows if arguments.exact else with_position(found.rows, one, other)
     names = [os.fsencode(it) for it in (arguments.before, arguments.after)]
     choice.add_left_out(found.left_out)

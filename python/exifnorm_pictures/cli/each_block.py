@@ -5,9 +5,7 @@ from __future__ import annotations
 import argparse
 from typing import Callable, Iterator, List, Tuple
 
-from ..extract import exiftool, programs
 from ..extract.named import blocks_of
-from ..files import tempdir
 from ..judge.reading import Reading
 from ..model.found import FoundBlock, each_kind
 from ..model.records import WORDS, Block
@@ -29,13 +27,7 @@ def status_of(it: Reading) -> int:
 
 def each_picture(arguments: argparse.Namespace) -> Iterator[Reading]:
     """The pictures that are named. What is printed of one is written before the next name of standard input is read."""
-    programs.set_limit(arguments.limit)
-    with tempdir.room() as room:
-        exiftool.begin(room)
-        try:
-            yield from (Reading.of(it, blocks_of(it, arguments.whole, arguments.block)) for it in each_name(arguments, arguments.pictures))
-        finally:
-            exiftool.finish()
+    yield from (Reading.of(it, blocks_of(it, arguments.whole, arguments.block)) for it in each_name(arguments, arguments.pictures))
 
 
 def each_block(arguments: argparse.Namespace, describe: Describe, refused_too: bool = False) -> int:

@@ -13,8 +13,8 @@ import exifnorm
 from ..catalogue.store import Catalogue
 from ..export.rows import Export
 from ..export.tables import VERSION, Tables, head_is_ours, tables
-from ..extract import exiftool, programs
-from ..files import atomic, tempdir
+from ..files import atomic
+from ..files.session import current
 from ..model.texts import path_members, shown_path
 from .exit_codes import SUCCESS
 from .names import chosen_paths, say_unknown
@@ -25,17 +25,12 @@ from .output import print_line
 def run(arguments: argparse.Namespace) -> int:
     """Writes a catalogue as plain tables of SQLite."""
     chosen = chosen_paths(arguments)
-    programs.set_limit(arguments.limit)
-    with tempdir.room() as room, Catalogue(arguments.catalogue) as catalogue:
-        exiftool.begin(room)
-        try:
-            made = os.path.join(room, "export")
-            with tables(made) as written:
-                _add_about(written, catalogue)
-                work = Export(catalogue, written, None if chosen is None else catalogue.choose(chosen), not arguments.no_look)
-                work.all(arguments.quiet or not sys.stderr.isatty())
-        finally:
-            exiftool.finish()
+    with Catalogue(arguments.catalogue) as catalogue:
+        made = os.path.join(current().room, "export")
+        with tables(made) as written:
+            _add_about(written, catalogue)
+            work = Export(catalogue, written, None if chosen is None else catalogue.choose(chosen), not arguments.no_look)
+            work.all(arguments.quiet or not sys.stderr.isatty())
         _put(made, arguments)
         say_unknown(chosen or (), catalogue.has)
     counts = {name: written.counts.get(name, 0) for name in ("pictures", "fields", "captions", "conflicts", "groups")}

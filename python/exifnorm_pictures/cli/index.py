@@ -10,8 +10,8 @@ from collections import Counter
 from typing import Iterator, List, Sequence
 
 from ..catalogue.store import Catalogue, NoCatalogue, head_is_ours
-from ..extract import programs
-from ..files import atomic, signals, tempdir
+from ..files import atomic, signals
+from ..files.session import current
 from ..model.errors import WrongUse
 from ..model.texts import escaped, moved_line, shown_path
 from ..scan.excluded import Excluded
@@ -49,7 +49,6 @@ class NothingThere(WrongUse):
 
 def run(arguments: argparse.Namespace) -> int:
     """Looks at pictures and keeps the results."""
-    programs.set_limit(arguments.limit)  # the first process asks programs for their versions
     names = named(arguments, arguments.folders)
     if any(not it for it in names):
         raise NoCatalogue("a name is empty")
@@ -57,14 +56,14 @@ def run(arguments: argparse.Namespace) -> int:
         raise NoScheduler("--elsewhere is a path on the workers of --scheduler, which is missing")
     if not any(map(os.path.lexists, names)) and not _are_known(names, arguments.catalogue):
         raise NothingThere(f"there is no folder or file {', '.join(map(shown_path, names))}")
-    with tempdir.room() as room, Catalogue(arguments.catalogue, make=True) as catalogue:
+    with Catalogue(arguments.catalogue, make=True) as catalogue:
         if arguments.keep_old:
-            keep_old(catalogue, arguments.keep_old, room)
+            keep_old(catalogue, arguments.keep_old, current().room)
         _check_sidecars(arguments, catalogue)
         arguments.pixels = arguments.pixels or catalogue.has_digests()  # of the pictures that changed, too
         lines = objects.record_lines if arguments.json else None if arguments.quiet else record_lines
         excluded = Excluded(arguments.exclude)
-        how = how_of(arguments, room, lines)
+        how = how_of(arguments, current().room, lines)
         options = IndexOptions(names, arguments.again, arguments.quiet, how, print_line, excluded=excluded, lines=lines or record_lines)
         options.moved_line = None if arguments.json or arguments.quiet else moved_line
         if arguments.scheduler:

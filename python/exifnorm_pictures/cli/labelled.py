@@ -8,11 +8,10 @@ from typing import Dict, Iterator, List, Sequence
 
 from ..catalogue.store import Catalogue, head_is_ours
 from ..catalogue.texts import texts_of
-from ..extract import exiftool, programs
 from ..extract.named import blocks_of
 from ..fields.labels import LabelText
 from ..fields.packing import unpacked
-from ..files import opening, tempdir
+from ..files import opening
 from ..judge.reading import Reading
 from ..model import steps
 from ..model.found import Blocks, NotRead
@@ -26,19 +25,13 @@ from .objects import picture_object
 
 def pictures(arguments: argparse.Namespace) -> Iterator[Reading]:
     """The pictures that are named, and those of folders and catalogues that are named. Other files in these are passed over."""
-    programs.set_limit(arguments.limit)
-    with tempdir.room() as room:
-        exiftool.begin(room)
-        try:
-            for name in each_name(arguments, arguments.pictures):
-                if arguments.block or not is_of_many(name):
-                    yield _reading(arguments, name)
-                elif os.path.isdir(name):
-                    yield from _in_folder(arguments, name)
-                else:
-                    yield from _in_catalogue(name)
-        finally:
-            exiftool.finish()
+    for name in each_name(arguments, arguments.pictures):
+        if arguments.block or not is_of_many(name):
+            yield _reading(arguments, name)
+        elif os.path.isdir(name):
+            yield from _in_folder(arguments, name)
+        else:
+            yield from _in_catalogue(name)
 
 
 def is_of_many(name: bytes) -> bool:

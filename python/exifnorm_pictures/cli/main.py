@@ -14,7 +14,9 @@ from types import ModuleType
 from typing import Optional, Sequence
 
 from ..files import signals
+from ..files.session import Session
 from ..model import errors
+from ..model.budgets import PROGRAM_SECONDS
 from ..model.texts import described, reason, shown_path
 from .exit_codes import FAILURE, STOPPED, USAGE
 from .parser import parsed
@@ -44,19 +46,21 @@ def main(words: Optional[Sequence[str]] = None) -> int:
 
 
 def _run(words: Optional[Sequence[str]]) -> int:
-    command = ""
+    """Runs a command in a session: its temporary files and programs end with it."""
+    command, session = "", Session(PROGRAM_SECONDS, debug=False)
     try:
-        signals.set_debug(False)
         arguments = parsed(words)
-        signals.set_debug(arguments.debug)
+        session.debug = session.debug or arguments.debug
+        session.seconds = getattr(arguments, "limit", PROGRAM_SECONDS)
         # importing the modules of all commands would take longer than most commands do
         command = arguments.command
         module = importlib.import_module(f".{command}", __package__)
         gc.freeze()
         gc.set_threshold(COLLECTED)
-        if not getattr(arguments, "xlsx", None):
-            return int(module.run(arguments))
-        return _with_spreadsheet(module, arguments)
+        with session:
+            if not getattr(arguments, "xlsx", None):
+                return int(module.run(arguments))
+            return _with_spreadsheet(module, arguments)
     except KeyboardInterrupt:
         more = "; the same command goes on from there" if command == "index" else ""
         signals.say(f"exifnorm-pictures: stopped{more}")
@@ -64,7 +68,7 @@ def _run(words: Optional[Sequence[str]]) -> int:
     except MemoryError:
         return _failed("out of memory")
     except Exception as error:
-        return _failed_by(error)
+        return _failed_by(error, session.debug)
 
 
 def _with_spreadsheet(module: ModuleType, arguments: argparse.Namespace) -> int:
@@ -76,13 +80,14 @@ def _with_spreadsheet(module: ModuleType, arguments: argparse.Namespace) -> int:
         return int(module.run(arguments))
 
 
-def _failed_by(error: Exception) -> int:
+def _failed_by(error: Exception, debug: bool) -> int:
     if isinstance(error, errors.Failure):
         return _failed(str(error), USAGE if isinstance(error, errors.WrongUse) else FAILURE)
     if _is_expected(error):
         return _failed(str(error))
     if not isinstance(error, OSError):
-        signals.trace(error)
+        if debug:
+            signals.trace(error)
         return _failed(f"an internal error, please report it: {described(error)}")
     if error.filename is None:  # of standard output: a process that can't be started is `programs.Failed`
         return _output_failed(error)

@@ -6,8 +6,9 @@ import argparse
 import os
 from typing import Dict, Iterator, List, Tuple, Type
 
-from ..extract import exiftool, programs
-from ..files import atomic, tempdir
+from ..extract import programs
+from ..files import atomic
+from ..files.session import current
 from ..model import steps
 from ..model.budgets import TooMuch
 from ..model.texts import Members, path_members, shown_path
@@ -21,20 +22,14 @@ from .parser import refuse
 def run(arguments: argparse.Namespace) -> int:
     """Writes copies whose blocks are accepted."""
     worst = SUCCESS
-    programs.set_limit(arguments.limit)
-    with tempdir.room() as room:
-        exiftool.begin(room)
-        try:
-            for picture, out in _pairs(arguments):
-                worst = max(worst, _mend_one(arguments, picture, out, room))
-        finally:
-            exiftool.finish()
+    for picture, out in _pairs(arguments):
+        worst = max(worst, _mend_one(arguments, picture, out))
     return worst
 
 
-def _mend_one(arguments: argparse.Namespace, picture: bytes, out: bytes, room: str) -> int:
+def _mend_one(arguments: argparse.Namespace, picture: bytes, out: bytes) -> int:
     try:
-        found = mend.mend(picture, out, room, bool(arguments.files_from))
+        found = mend.mend(picture, out, current().room, bool(arguments.files_from))
     except (mend.NotWritten, programs.Failed, programs.Missing, TooMuch) as error:
         names: Dict[Type[Exception], str] = {mend.NotWritten: "NotWritten", TooMuch: "TooMuch", programs.TooSlow: "TooSlow"}
         names.update({programs.Missing: "NeedsExifTool", mend.NeedsExifTool: "NeedsExifTool"})

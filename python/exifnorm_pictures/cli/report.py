@@ -9,8 +9,7 @@ import os
 from typing import BinaryIO
 
 from ..catalogue.store import Catalogue
-from ..extract import exiftool, programs
-from ..files import atomic, tempdir
+from ..files import atomic
 from ..report import contents, page
 from .choice import choice_of, listings_of, refuse_unknown, say_unseen
 from .exit_codes import SUCCESS
@@ -26,13 +25,9 @@ def run(arguments: argparse.Namespace) -> int:
     with contextlib.ExitStack() as open_:
         catalogue = open_.enter_context(Catalogue(arguments.catalogue))
         old = open_.enter_context(Catalogue(arguments.since)) if arguments.since else None
-        room = open_.enter_context(tempdir.room())
         choice = choice_of(arguments)
         refuse_unknown(choice, (it for one in (catalogue, old) if one for it in listings_of(one)))
         about = contents.About(catalogue, old, chosen, not arguments.no_look, choice)
-        programs.set_limit(arguments.limit)
-        exiftool.begin(room)
-        open_.callback(exiftool.finish)
         if arguments.html:
             text = page.page(contents.gather(about), arguments.title)
             _write_page(arguments, text.encode("utf-8", "backslashreplace"))

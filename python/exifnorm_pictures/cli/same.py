@@ -12,10 +12,9 @@ from ..catalogue.store import Catalogue
 from ..comparison import groups
 from ..comparison.keeping import NOT_KNOWN, Keep, keeping
 from ..comparison.readings import Unknown, of_unknown
-from ..extract import exiftool
 from ..fields.choosing import Choice
 from ..fields.left_out import BY_LISTING, of_labels
-from ..files import signals, tempdir
+from ..files import signals
 from ..model import verdicts
 from ..model.errors import WrongUse
 from ..model.records import KINDS, KIND_OF, WORDS, Picture
@@ -34,8 +33,6 @@ def run(arguments: argparse.Namespace) -> int:
     kinds = KINDS if arguments.kind in ("all", PIXELS) else (KIND_OF[arguments.kind],)
     chosen = chosen_paths(arguments)
     with contextlib.ExitStack() as open_:
-        exiftool.begin(open_.enter_context(tempdir.room()))
-        open_.callback(exiftool.finish)
         catalogue = open_.enter_context(Catalogue(arguments.catalogue))
         only = None if chosen is None else catalogue.choose(chosen)
         has_keep = arguments.kind == "all" and not arguments.no_look

@@ -8,7 +8,8 @@ import os
 import shutil
 from typing import Iterator, Optional, Sequence, Union
 
-from ..files import atomic, tempdir
+from ..files import atomic
+from ..files.session import current as session
 from ..model.errors import Failure
 from ..model.texts import escaped, shown_path
 from .output import print_line
@@ -95,18 +96,17 @@ def written(name: Optional[str]) -> Iterator[None]:
         return
     if os.path.lexists(name):
         raise NoSpreadsheet(atomic.not_written(escaped(name), "it is there already, and may have somebody's work in it"))
-    with tempdir.room() as room:
-        made = os.path.join(room, "table.xlsx")
-        _open = Sheet(made)
+    made = os.path.join(session().room, "table.xlsx")
+    _open = Sheet(made)
+    try:
+        yield
+        _open.close()
+        rows = _open.rows
+    finally:
+        _open = None
+    with open(made, "rb") as whole:
         try:
-            yield
-            _open.close()
-            rows = _open.rows
-        finally:
-            _open = None
-        with open(made, "rb") as whole:
-            try:
-                atomic.replace(os.fsencode(name), lambda file: shutil.copyfileobj(whole, file), lambda _: False)
-            except atomic.NotReplaced as error:
-                raise atomic.NotReplaced(atomic.not_written(escaped(name), error)) from None
+            atomic.replace(os.fsencode(name), lambda file: shutil.copyfileobj(whole, file), lambda _: False)
+        except atomic.NotReplaced as error:
+            raise atomic.NotReplaced(atomic.not_written(escaped(name), error)) from None
     print_line(f"{escaped(name)}: {max(0, rows - 1):,} row{'s' * (rows != 2)}")

@@ -12,8 +12,8 @@ from typing import BinaryIO, Dict, Iterator, List, Sequence
 
 from ..catalogue.store import Catalogue, NoCatalogue
 from ..comparison import verified
-from ..extract import exiftool, programs
-from ..files import atomic, tempdir
+from ..files import atomic
+from ..files.session import current
 from ..model.errors import WrongUse
 from ..model.texts import escaped, path_members, shown_path
 from ..scan.batches import How
@@ -40,8 +40,7 @@ def run(arguments: argparse.Namespace) -> int:
         before = open_.enter_context(Catalogue(arguments.catalogue))
         given = bool(arguments.folders or arguments.files_from)
         folders = _folders(named(arguments, arguments.folders) if given else [], before)
-        programs.set_limit(arguments.limit)
-        now = open_.enter_context(_read_again(folders, arguments, before, open_.enter_context(tempdir.room())))
+        now = open_.enter_context(_read_again(folders, arguments, before, current().room))
         for it in verified.verified(before, now, folders):
             counts[it.state] += 1
             if it.state != verified.AS_IT_WAS or it.note:
@@ -73,7 +72,6 @@ def _folders(names: Sequence[bytes], catalogue: Catalogue) -> List[bytes]:
 
 def _read_again(folders: Sequence[bytes], arguments: argparse.Namespace, before: Catalogue, room: str) -> Catalogue:
     """A new catalogue of the files that are there now, with their digests."""
-    exiftool.begin(room)
     made = Catalogue(os.path.join(room, "catalogue"), make=True)
     try:
         closed: List[str] = []
@@ -84,8 +82,6 @@ def _read_again(folders: Sequence[bytes], arguments: argparse.Namespace, before:
     except BaseException:
         made.close()
         raise
-    finally:
-        exiftool.finish()
     return made
 
 

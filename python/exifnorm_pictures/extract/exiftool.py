@@ -7,7 +7,6 @@ another.
 
 from __future__ import annotations
 
-import atexit
 import base64
 import binascii
 import contextlib
@@ -17,9 +16,9 @@ import re
 import shutil
 import subprocess
 import threading
-from typing import Dict, List, Optional, Sequence
+from typing import Dict, List, Optional, Sequence, cast
 
-from ..files import tempdir
+from ..files.session import current
 from ..model.budgets import OUTPUT, WHOLE_FILE, budget_of
 from ..model.found import EXIF, EXIFTOOL, EXIV2, IPTC, PROBLEMS, UNREAD_TRAILER, XMP, Blocks, NotRead
 from . import programs
@@ -41,7 +40,7 @@ _PLAIN = re.compile(rb"/[A-Za-z0-9_./+,@%~()=-]*")
 _EXTENSION = re.compile(rb"\.[A-Za-z0-9]{1,8}\Z")
 
 
-class Session:
+class Process:
     """An ExifTool process in a folder of its own. After `Failed` it is over with this one."""
 
     def __init__(self, room: str) -> None:
@@ -108,33 +107,18 @@ def _members(output: bytes, names: Sequence[bytes]) -> List[Dict[str, str]]:
     return found
 
 
-class _Own:
-    """This process's session, and the folder in which it runs."""
-
-    session: Optional[Session] = None
-    room: Optional[str] = None
-    pid = 0
-    lock = threading.Lock()  # the threads of a cluster's worker take turns
-    rooms = contextlib.ExitStack()
+_TURNS = threading.Lock()  # the threads of a cluster's worker take turns
 
 
-def begin(room: str) -> None:
-    """Gives this process a folder for its links and for its ExifTool, which starts at the first call."""
-    finish()
-    _Own.pid = os.getpid()
-    _Own.room = os.path.join(room, str(_Own.pid))
-    os.makedirs(_Own.room, exist_ok=True)
-
-
-def room() -> str:
-    """This process's folder."""
-    if _Own.room is None or _Own.pid != os.getpid() or not os.path.isdir(_Own.room):
-        _Own.rooms = contextlib.ExitStack()
-        atexit.register(_Own.rooms.close)
-        atexit.register(finish)
-        begin(_Own.rooms.enter_context(tempdir.room()))
-    assert _Own.room is not None
-    return _Own.room
+def _process() -> Process:
+    """This session's ExifTool, which starts at the first call."""
+    now = current()
+    tool = cast(Optional[Process], now.tool)
+    if tool is not None and tool.process.poll() is not None:
+        now.close_tool()  # it ended between two questions
+    if now.tool is None:
+        now.tool = Process(now.folder())
+    return cast(Process, now.tool)
 
 
 def ask(path: bytes, words: Sequence[str]) -> Dict[str, str]:
@@ -144,24 +128,12 @@ def ask(path: bytes, words: Sequence[str]) -> Dict[str, str]:
 
 def ask_several(paths: Sequence[bytes], words: Sequence[str], options: Sequence[str] = _OPTIONS) -> List[Dict[str, str]]:
     """ExifTool's tags of some files, which are asked for in one call."""
-    with _Own.lock:
-        there = room()
-        if _Own.session is not None and _Own.session.process.poll() is not None:
-            finish()  # it ended between two questions
-        if _Own.session is None:
-            _Own.session = Session(there)
+    with _TURNS:
         try:
-            return _Own.session.ask(paths, words, options)
+            return _process().ask(paths, words, options)
         except BaseException:
-            finish()
+            current().close_tool()
             raise
-
-
-def finish() -> None:
-    """Ends this process's ExifTool, if one runs."""
-    session, _Own.session = _Own.session, None
-    if session is not None and _Own.pid == os.getpid():
-        session.close()
 
 
 def octets(value: str) -> bytes:
@@ -228,7 +200,7 @@ def _add_by_exiv2(blocks: Blocks, path: bytes) -> None:
     if not programs.is_there("exiv2"):
         blocks.problem, blocks.detail = "NeedsExiv2", PROBLEMS["NeedsExiv2"]
         return
-    folder = os.path.join(room(), "exiv2")
+    folder = os.path.join(current().folder(), "exiv2")
     shutil.rmtree(folder, ignore_errors=True)
     os.mkdir(folder)
     link = os.path.join(folder, f"picture.{blocks.type.lower()}")

@@ -10,6 +10,7 @@ from typing import Union
 from exifnorm import LibraryMissing
 
 from ..files import opening, signals
+from ..files.session import current
 from ..model.budgets import Budget, TooMuch
 from ..model.found import BROKEN, PROBLEMS, Blocks, Broken, LeftToOthers
 from ..model.texts import described
@@ -65,7 +66,8 @@ def _name(file: Union[File, Memory], path: bytes) -> bytes:
 
 def failed_here(error: Exception) -> Blocks:
     """The result for a file at which our own code failed, and no other program."""
-    signals.trace(error)
+    if current().debug:
+        signals.trace(error)
     return Blocks(problem="InternalError", detail=f"{PROBLEMS['InternalError']}: {described(error)}")
 
 

@@ -16,7 +16,8 @@ import time
 from typing import Callable, List, NamedTuple, Optional, Set
 
 from ..files import signals
-from ..model.budgets import OUTPUT, PROGRAM_SECONDS
+from ..files.session import current
+from ..model.budgets import OUTPUT
 from ..model.errors import Failure
 from ..model.texts import reason
 
@@ -49,20 +50,6 @@ class Done(NamedTuple):
 
     returncode: int
     stdout: bytes
-
-
-_limit = PROGRAM_SECONDS
-
-
-def set_limit(seconds: float) -> None:
-    """Sets how many seconds a program may take for one file, in this process."""
-    global _limit
-    _limit = seconds
-
-
-def limit() -> float:
-    """How many seconds a program may take for one file."""
-    return _limit
 
 
 def needed(program: str) -> str:
@@ -98,9 +85,9 @@ def run(words: List[str], folder: Optional[str] = None) -> Done:
     started = start(words, folder)
     try:
         output = read_until(started, lambda _: False)
-        return Done(started.wait(max(limit(), 1.0)), output)
+        return Done(started.wait(max(current().seconds, 1.0)), output)
     except subprocess.TimeoutExpired:
-        raise TooSlow(f"{_name(words)} took longer than {limit():g} seconds") from None
+        raise TooSlow(f"{_name(words)} took longer than {current().seconds:g} seconds") from None
     finally:
         end(started)
 
@@ -163,12 +150,12 @@ def end(started: "subprocess.Popen[bytes]") -> None:
 def read_until(started: "subprocess.Popen[bytes]", complete: Callable[[bytearray], bool]) -> bytes:
     """A program's output until it is complete or ends. Raises `Failed` at the limits."""
     assert started.stdout is not None
-    ends = time.monotonic() + limit()
+    ends = time.monotonic() + current().seconds
     output = bytearray()
     while not complete(output):
         left = ends - time.monotonic()
         if left <= 0 or not select.select([started.stdout], [], [], left)[0]:
-            raise TooSlow(f"{_name(started.args)} took longer than {limit():g} seconds")  # type: ignore[arg-type]
+            raise TooSlow(f"{_name(started.args)} took longer than {current().seconds:g} seconds")  # type: ignore[arg-type]
         piece = os.read(started.stdout.fileno(), _PIECE)
         if not piece:
             break

@@ -115,23 +115,13 @@ def end_children() -> None:
         it.kill()
 
 
-_debug = False
-
-
-def set_debug(wanted: bool) -> None:
-    """Whether errors of this package are printed with their tracebacks, also in processes that are started later."""
-    global _debug
-    _debug = wanted or os.environ.get("EXIFNORM_DEBUG") == "1"
-
-
 def trace(error: BaseException) -> None:
-    """Writes the traceback of an error of this package to standard error, if that was asked for."""
-    if _debug:
-        import traceback
+    """Writes the traceback of an error of this package to standard error."""
+    import traceback
 
-        for text in traceback.format_exception(type(error), error, error.__traceback__):
-            for line in text.rstrip("\n").split("\n"):
-                say(line)
+    for text in traceback.format_exception(type(error), error, error.__traceback__):
+        for line in text.rstrip("\n").split("\n"):
+            say(line)
 
 
 def say(text: str) -> None:

@@ -13,6 +13,7 @@ from dataclasses import replace
 from typing import Any, Dict, Iterator, List, Optional, Sequence
 
 from ..extract import programs
+from ..files.session import current
 from ..model.records import RACY, PictureRecord, Stamp
 from . import looking
 from .batches import How
@@ -32,7 +33,7 @@ POLL = 2.0  # seconds without a result after which the workers are counted
 
 def look_there(root: bytes, names: Sequence[bytes], how: How) -> List[PictureRecord]:
     """A worker's task: looks at files by their names relative to its own path of the folder."""
-    programs.set_limit(how.seconds)
+    current().seconds = how.seconds
     return [looking.look(FoundFile(os.path.join(root, name), root, _stamp(os.path.join(root, name))), how) for name in names]
 
 

@@ -8,8 +8,9 @@ from typing import Iterator, List, Optional, Sequence, Tuple
 
 from exifnorm import LibraryMissing
 
-from ..extract import exiftool, extraction, programs, sidecars
+from ..extract import extraction, programs, sidecars
 from ..extract.formats.streams import digest_of_file
+from ..files.session import Session
 from ..judge import judge
 from ..model.budgets import WHOLE_FILE, TooMuch
 from ..model.found import PROBLEMS, Blocks
@@ -146,10 +147,6 @@ def _is_racy(times: Sequence[int], began: int) -> bool:
 
 def in_this_process(work: Sequence[FoundFile], how: How) -> Iterator[PictureRecord]:
     """The results for these files, in their order."""
-    programs.set_limit(how.seconds)
-    exiftool.begin(how.room)
-    try:
+    with Session(how.seconds, room=how.room or None):
         for it in work:
             yield look(it, how)
-    finally:
-        exiftool.finish()

@@ -16,8 +16,9 @@ from concurrent.futures.process import BrokenProcessPool
 from multiprocessing import util
 from typing import Deque, Iterable, Iterator, List, NamedTuple, Sequence, Set
 
-from ..extract import exiftool, programs
+from ..extract import programs
 from ..files import signals
+from ..files.session import Session
 from ..model.records import PictureRecord
 from ..model.texts import reason
 from .batches import LONGEST_WAIT, Batch, How, Result, batch
@@ -88,9 +89,8 @@ def _begin(how: How, parent: int, mask: Set[int]) -> None:
     signal.signal(signal.SIGHUP, signal.SIG_DFL)
     signal.signal(signal.SIGTERM, signal.SIG_DFL)
     signal.pthread_sigmask(signal.SIG_SETMASK, mask)
-    programs.set_limit(how.seconds)
-    exiftool.begin(how.room)
-    util.Finalize(None, exiftool.finish, exitpriority=10)  # the processes of a pool don't run atexit
+    session = Session(how.seconds, room=how.room).begin()
+    util.Finalize(None, session.close, exitpriority=10)  # the processes of a pool don't run atexit
 
 
 def _by_processes(chunks: Iterator[Sequence[FoundFile]], how: How, files: Iterator[str], unfinished: List[Task]) -> Iterator[Batch]:
