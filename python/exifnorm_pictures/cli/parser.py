@@ -3,6 +3,7 @@
 from __future__ import annotations
 
 import argparse
+import itertools
 import sys
 from typing import IO, Callable, Dict, NoReturn, Optional, Sequence, Tuple
 
@@ -95,6 +96,9 @@ def parsed(words: Optional[Sequence[str]] = None) -> argparse.Namespace:
     """
     given = list(sys.argv[1:] if words is None else words)
     whole, commands = parsers()
+    for word in itertools.takewhile(lambda word: word != "--", given):
+        if word.startswith("--") and word.endswith("=--"):  # of which argparse makes an empty list
+            commands.get(given[0], whole).error(f"argument {word[:-3]}: expected a value, and not --")
     arguments, others = whole.parse_known_args(given)
     if not others:
         return arguments
