@@ -5,6 +5,7 @@
 #   make install PREFIX=/usr DESTDIR=..   program, man pages, header, libraries, exifnorm.pc, Python packages, completion, ..
 #   make uninstall PREFIX=/usr DESTDIR=.. removes what install wrote there, and nothing else
 #   make wheel                            a Python wheel with the library, in out/wheel
+#   make wasm                             the library as WebAssembly, in out/wasm
 #   make dist                             an archive of all that install writes, its sums and its components, in out/dist
 #   make release SIGN=KEY                 all packages, the archives and their sums, in out/release; signed if a key is given
 #   make clean                            removes what was built, except the proofs in out/proved
@@ -52,7 +53,7 @@ papers = LICENSE-APACHE LICENSE-MIT CHANGELOG.md $(addprefix docs/,CATALOGUE.md 
 # all that is installed, before it is copied to its folder
 stage = out/stage
 
-.PHONY: all program library check stage install uninstall wheel dist release clean help
+.PHONY: all program library check stage install uninstall wheel wasm dist release clean help
 .DELETE_ON_ERROR:
 
 all: program library
@@ -146,6 +147,10 @@ epoch = $$(date -d "$$(sed -n 's/^ -- .*>  //p' debian/changelog | head -n 1)" +
 wheel: library
 	rm -f out/wheel/*.whl
 	SOURCE_DATE_EPOCH=$(epoch) '$(PYTHON)' -m pip wheel --no-build-isolation --no-deps --disable-pip-version-check -w out/wheel ./python
+
+wasm: $(archive)
+	@python3 build/wasm.py out/wasm
+	@python3 build/guard.py out/wasm/exifnorm.wasm out/wasm/exifnorm64.wasm
 
 # Everything in one folder that can be unpacked anywhere.
 dist_name = exifnorm-$(VERSION)-$(shell uname -s | tr A-Z a-z)-$(shell uname -m)

@@ -6,18 +6,12 @@
 KIND is `guided` for libFuzzer with a counter for each branch of the library, `address` or `thread` for the same with a sanitizer, or `afl`
 for AFL++. TARGET.a is then the instrumented library. docs/FUZZING.md tells how to run a target.
 
-The toolchain builds only what is proved, from one module that it gives to clang and doesn't keep. So px_c is built again, over the proved
-libraries, with a toolchain folder whose clang also copies the module and its options. The archive that this makes must be that of
-`make library`, byte for byte. Then the module is the library's own code, and the toolchain's clang compiles it with the same options and
-those of the instrumentation. out/fuzz/ keeps the module, because building px_c takes about two minutes.
+The toolchain's clang compiles the library's own module, which build/module.py keeps, with the same options and those of the
+instrumentation.
 """
 
 from __future__ import annotations
 
-import filecmp
-import hashlib
-import os
-import shlex
 import shutil
 import subprocess
 import sys
@@ -27,18 +21,13 @@ from typing import NamedTuple
 
 sys.dont_write_bytecode = True
 
-import machine
 from compiler import Compiler
 from crates import Crates
-from prove import JOBS, NotBuilt, listen, say
+from module import CRATE, kept
+from prove import NotBuilt, listen, say
 
 TOP = Path(__file__).resolve().parent.parent
 TESTS = TOP / "tests" / "library"
-CRATE = "px_c"
-CLANG = """#!/bin/sh
-cp module.bc {folder}/module.bc && printf '%s\\n' "$@" >{folder}/options || exit 1
-exec {clang} "$@"
-"""
 ATTRIBUTE = '"probe-stack"='  # each function of the module has it
 COUNTERS = "-fsanitize-coverage=inline-8bit-counters,pc-table,trace-cmp"
 LAWS = ["fuzz.c", "fuzz/laws.c", "fuzz/heads.c", "fuzz/pictures.c", "fuzz/memory.c"]
@@ -67,58 +56,6 @@ KINDS = {
 
 def run(*words: str | Path, folder: Path) -> None:
     subprocess.run(words, cwd=folder, stdin=subprocess.DEVNULL, check=True)
-
-
-# ---- the module of the built library
-
-
-def copying_toolchain(toolchain: Path, folder: Path) -> Path:
-    """A folder like that of the toolchain, but its clang also copies what it is given into `folder`."""
-    copying = folder / "toolchain"
-    shutil.copytree(toolchain, copying, copy_function=os.symlink)
-    clang = copying / "bin" / "clang"
-    clang.unlink()
-    clang.write_text(CLANG.format(folder=shlex.quote(str(folder)), clang=shlex.quote(str(toolchain / "bin" / "clang"))), encoding="utf-8")
-    clang.chmod(0o755)
-    return copying
-
-
-def build(crates: Crates, archive: Path, folder: Path) -> None:
-    """Builds the library as `make library` does, and leaves its module and the options of clang in a folder."""
-    with open(folder / "log", "w", encoding="utf-8") as log:
-        compiler = Compiler(crates, archive.parent, log)
-        words = compiler.words(CRATE, folder / archive.name, min(JOBS, machine.processors()))
-        at = words.index("--toolchain") + 1
-        words[at] = str(copying_toolchain(Path(words[at]), folder))
-        try:
-            status = compiler.call(words, crates.folder(CRATE), log)
-        finally:
-            compiler.stop()
-    if status:
-        end = (folder / "log").read_text(encoding="utf-8", errors="replace")[-2000:]
-        raise NotBuilt(f"{end}\nexifnorm: the compiler ended with status {status}")
-    if not filecmp.cmp(folder / archive.name, archive, shallow=False):
-        raise NotBuilt(f"{archive} is not of the current sources: call `make library`")
-
-
-def kept(crates: Crates) -> Path:
-    """The folder with the module of the built library."""
-    archive = TOP / "out" / "proved" / crates.product(CRATE)
-    if not archive.exists():
-        raise NotBuilt(f"{archive} is missing: call `make library`")
-    folder = TOP / "out" / "fuzz" / hashlib.sha256(archive.read_bytes()).hexdigest()[:16]
-    if not folder.exists():
-        folder.parent.mkdir(exist_ok=True)
-        with tempfile.TemporaryDirectory(dir=folder.parent) as making:
-            say(f"building {CRATE} once more for its module, which takes about two minutes")
-            build(crates, archive, Path(making))
-            made = Path(making, "made")
-            made.mkdir()
-            for name in ("module.bc", "options"):
-                os.replace(Path(making, name), made / name)
-            if not folder.exists():  # nobody else has made it meanwhile
-                os.replace(made, folder)
-    return folder
 
 
 # ---- the instrumented library and the target

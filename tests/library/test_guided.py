@@ -1,5 +1,5 @@
 """Fuzzers over the library that is compiled once more with counters and sanitizers (docs/FUZZING.md): the kept blocks, a number of new
-ones, and libraries with a mistake. Building the first target takes about two minutes, unless out/fuzz/ has the library's module."""
+ones, and libraries with a mistake. Building the first target takes about two minutes, unless out/module/ has the library's module."""
 
 import re
 import subprocess
@@ -7,6 +7,7 @@ import zipfile
 from pathlib import Path
 
 import fuzz_target
+import module
 import pytest
 from crates import Crates
 from fuzz import write_files
@@ -196,13 +197,13 @@ def test_only_the_built_library_is_fuzzed(folder, monkeypatch, archive, status, 
     monkeypatch.setattr(OtherCompiler, "toolchain", folder / "toolchain", raising=False)
     monkeypatch.setattr(OtherCompiler, "archive", archive, raising=False)
     monkeypatch.setattr(OtherCompiler, "status", status, raising=False)
-    monkeypatch.setattr(fuzz_target, "Compiler", OtherCompiler)
+    monkeypatch.setattr(module, "Compiler", OtherCompiler)
     crates = Crates(folder, {"px_c": []}, {"px_c"})
     if why:
         with pytest.raises(NotBuilt, match=f"(?s){why}"):
-            fuzz_target.build(crates, folder / "libpx_c.a", folder / "making")
+            module.build(crates, folder / "libpx_c.a", folder / "making")
     else:
-        fuzz_target.build(crates, folder / "libpx_c.a", folder / "making")
+        module.build(crates, folder / "libpx_c.a", folder / "making")
 
 
 def test_a_library_that_is_not_built(folder, monkeypatch, capsys):

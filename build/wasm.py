@@ -1,0 +1,160 @@
+#!/usr/bin/env python3
+"""Makes the library as WebAssembly, of the module that the toolchain gives to its clang for the library of `make library`.
+
+  build/wasm.py FOLDER               writes FOLDER/exifnorm.wasm
+  build/wasm.py --unproved FOLDER    the same of the quick library without proofs, for tests; its version ends with -unproved
+
+exifnorm.wasm imports nothing, and exports the functions of exifnorm.h, `exifnorm_malloc`, `exifnorm_free` and `exifnorm_allocations` of
+build/heap.c, and its memory. A pointer or a length is an i64 of which 32 bits count. FOLDER/exifnorm64.wasm is the same module before
+binaryen lowers its addresses from 64 to 32 bits.
+
+Of the module these are changed: the target triple, the data layout, and attributes that WebAssembly has no use for. Then the
+toolchain's clang compiles and links it with heap.c, and binaryen's wasm-opt (Debian's binaryen) lowers and optimises it.
+"""
+
+from __future__ import annotations
+
+import re
+import shutil
+import subprocess
+import sys
+import tempfile
+from pathlib import Path
+from typing import Iterator
+
+sys.dont_write_bytecode = True
+
+import guard
+import module
+import quick
+from compiler import Compiler
+from crates import Crates
+from prove import NotBuilt, listen, say
+
+TOP = Path(__file__).resolve().parent.parent
+HEAP = TOP / "build" / "heap.c"
+TRIPLE = "wasm64-unknown-unknown"
+LAYOUT = "e-m:e-p:64:64-p10:8:8-p20:8:8-i64:64-i128:128-n32:64-S128-ni:1:10:20"  # clang's own for this triple
+ATTRIBUTES = re.compile(r' "(?:frame-pointer|probe-stack|stack-probe-size|target-cpu)"="[^"]*"')
+FLAGS = [f"--target={TRIPLE}", "-mbulk-memory", "--no-default-config", "-O2", "-c"]
+LIBRARY = ["-ffunction-sections", "-fdata-sections", "-mllvm", "-no-trap-after-noreturn", "-mllvm", "-trap-unreachable", "-x", "ir"]
+# Four times what the deepest call needs. It is below the data, so that an overflow is a trap.
+STACK = 65536
+LINKED = ["-mwasm64", "--no-entry", "--gc-sections", "--stack-first", "--fatal-warnings", "-z", f"stack-size={STACK}"]
+HOST = ["exifnorm_malloc", "exifnorm_free", "exifnorm_allocations"]
+FEATURES = [f"--enable-{name}" for name in ("memory64", "bulk-memory", "sign-ext", "mutable-globals", "nontrapping-float-to-int")]
+LOWER = [*FEATURES, "--memory64-lowering", "-O2", "--strip-debug", "--strip-producers"]
+TABLE, ELEMENTS = 4, 9  # the numbers of sections
+
+
+def run(*words: str | Path) -> None:
+    ran = subprocess.run(words, stdin=subprocess.DEVNULL, stderr=subprocess.PIPE, text=True, check=False)
+    if ran.returncode:
+        raise NotBuilt(f"{ran.stderr}exifnorm: {Path(words[0]).name} ended with status {ran.returncode}")
+
+
+def exports(top: Path) -> list[str]:
+    """The functions of exifnorm.h, and those for the host."""
+    return re.findall(r"\bexifnorm_\w+(?=;)", (top / "packaging" / "exifnorm.map").read_text(encoding="utf-8")) + HOST
+
+
+def for_wasm(text: str) -> str:
+    """The text of the module for WebAssembly with addresses of 64 bits, as the module has them: no offset in it changes."""
+    text, layouts = re.subn("(?m)^target datalayout = .*$", f'target datalayout = "{LAYOUT}"', text)
+    text, triples = re.subn("(?m)^target triple = .*$", f'target triple = "{TRIPLE}"', text)
+    if (layouts, triples) != (1, 1):
+        raise NotBuilt(f"the module has {layouts} data layouts and {triples} triples")
+    return ATTRIBUTES.sub("", text)
+
+
+def number(octets: bytes, at: int) -> tuple[int, int]:
+    """The number at an offset, in LEB128, and the offset behind it.
+
+    >>> number(bytes([0xE5, 0x8E, 0x26]), 0)
+    (624485, 3)
+    """
+    value = shift = 0
+    while True:
+        value |= (octets[at] & 127) << shift
+        at, shift = at + 1, shift + 7
+        if octets[at - 1] < 128:
+            return value, at
+
+
+def sections(octets: bytes) -> Iterator[tuple[int, bytes]]:
+    """The sections of a WebAssembly module, each with its number and with all its bytes."""
+    at = 8
+    while at < len(octets):
+        size, start = number(octets, at + 1)
+        yield octets[at], octets[at : start + size]
+        at = start + size
+
+
+def without_table(octets: bytes) -> bytes:
+    """The module without its table of functions, which no instruction uses. The linker writes one of 64 bits, which binaryen refuses."""
+    return octets[:8] + b"".join(section for kind, section in sections(octets) if kind not in (TABLE, ELEMENTS))
+
+
+def proved_module(crates: Crates, clang: Path, text: Path) -> None:
+    """Writes the text of the proved library's module."""
+    source = module.kept(crates) / "module.bc"
+    run(clang, "--no-default-config", "-Xclang", "-disable-llvm-passes", "-S", "-emit-llvm", "-x", "ir", source, "-o", text)
+
+
+def quick_module(crates: Crates, text: Path) -> None:
+    """Writes the text of the quick library's module, which is compiled if it is not of the current sources."""
+    library = quick.Quick(crates, "" if not shutil.which("rt") else subprocess.check_output(["rt", "version"], text=True).strip())
+    library.compile(quick.LIBRARY)
+    shutil.copyfile(library.folder / quick.MODULE, text)
+
+
+def build(text: Path, clang: Path, folder: Path) -> None:
+    """Compiles the module with a text, and leaves exifnorm64.wasm and exifnorm.wasm in a folder."""
+    text.write_text(for_wasm(text.read_text(encoding="utf-8")), encoding="utf-8")
+    library, heap, linker, linked = folder / "library.o", folder / "heap.o", folder / "wasm-ld", folder / "linked.wasm"
+    run(clang, *FLAGS, *LIBRARY, text, "-o", library)
+    run(clang, *FLAGS, "-std=c99", "-ffreestanding", "-Wall", "-Werror", HEAP, "-o", heap)
+    linker.symlink_to(clang)  # clang's file is the linker, too, under this name
+    run(linker, *LINKED, *(f"--export={name}" for name in exports(TOP)), library, heap, "-o", linked)
+    (folder / "exifnorm64.wasm").write_bytes(without_table(linked.read_bytes()))
+    run("wasm-opt", *LOWER, folder / "exifnorm64.wasm", "-o", folder / "exifnorm.wasm")
+
+
+def make(folder: Path, is_proved: bool = True) -> None:
+    """Writes exifnorm.wasm and exifnorm64.wasm into a folder, both or none. Raises `NotBuilt`."""
+    if not shutil.which("wasm-opt"):
+        raise NotBuilt("WebAssembly needs wasm-opt: `apt-get install binaryen`")
+    crates = Crates.read(TOP)
+    clang = Path(Compiler(crates, TOP, sys.stderr).kit) / "toolchain" / "bin" / "clang"
+    with tempfile.TemporaryDirectory() as name:
+        making = Path(name)
+        text = making / "module.ll"
+        if is_proved:
+            proved_module(crates, clang, text)
+        else:
+            quick_module(crates, text)
+        build(text, clang, making)
+        files = [making / "exifnorm64.wasm", making / "exifnorm.wasm"]
+        if {guard.MARK.encode() in file.read_bytes() for file in files} != {not is_proved}:
+            raise NotBuilt(f"the version in the module {'ends' if is_proved else 'does not end'} with {guard.MARK}")
+        folder.mkdir(parents=True, exist_ok=True)
+        for file in files:
+            shutil.move(file, folder / file.name)
+
+
+def main(words: list[str]) -> int:
+    is_proved = words[:1] != ["--unproved"]
+    folders = words if is_proved else words[1:]
+    if len(folders) != 1 or folders[0].startswith("-"):
+        sys.exit(__doc__)
+    try:
+        listen()
+        make(Path(folders[0]).resolve(), is_proved)
+    except (NotBuilt, quick.Failed, OSError, subprocess.SubprocessError) as why:
+        say(str(why))
+        return 1
+    return 0
+
+
+if __name__ == "__main__":
+    sys.exit(main(sys.argv[1:]))
