@@ -5,6 +5,11 @@ from pathlib import Path
 
 sys.path[0] = str(Path(__file__).resolve().parent.parent / "python")  # which was build/
 
+import signal
+
+if signal.getsignal(signal.SIGINT) == signal.default_int_handler:
+    signal.signal(signal.SIGINT, signal.SIG_DFL)  # while modules are imported, the keyboard ends the process without a traceback
+
 from exifnorm_pictures.cli.main import main
 
 if __name__ == "__main__":

@@ -26,6 +26,11 @@ packages = os.path.normpath(os.path.join(os.path.dirname(os.path.realpath(__file
 if packages not in sys.path:
     sys.path.insert(1, packages)
 
+import signal
+
+if signal.getsignal(signal.SIGINT) == signal.default_int_handler:
+    signal.signal(signal.SIGINT, signal.SIG_DFL)  # while modules are imported, the keyboard ends the process without a traceback
+
 from exifnorm_pictures.cli.main import main
 
 sys.exit(main())

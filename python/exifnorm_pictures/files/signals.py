@@ -57,7 +57,7 @@ def heed_signals() -> None:
     for it in SIGNALS:
         if signal.getsignal(it) == signal.SIG_DFL:
             signal.signal(it, _stop)
-    if signal.getsignal(signal.SIGINT) == signal.default_int_handler:
+    if signal.getsignal(signal.SIGINT) in (signal.default_int_handler, signal.SIG_DFL):
         signal.signal(signal.SIGINT, _interrupt)
 
 
