@@ -32,11 +32,12 @@ def _copied(block: Block) -> bytes:
         return view.tobytes() if view.nbytes < _TOO_LONG else bytes(_TOO_LONG)
 
 
-def _raise(failure: Failure, side: Optional[int] = None) -> NoReturn:
-    """Raises the exception for a status."""
+def _raise(failure: Failure, block: bytes, side: Optional[int] = None) -> NoReturn:
+    """Raises the exception for a status that a block has."""
     status, cause, place = failure
     if status in (Status.REFUSED, Status.SECOND_REFUSED):
-        raise Refused(library().cause_name(cause), place, side)
+        name = library().cause_name(cause)
+        raise Refused(name, place, side, name == "UnknownKind" and block.startswith(b"\xff\xd8\xff"))
     if status == Status.TOO_LONG:
         raise NormalTooLong
     if status == Status.NO_MEMORY:
@@ -71,9 +72,10 @@ def kind(block: Block) -> str:
     >>> kind(b"\\x1c\\x02\\x78\\x00\\x04Vase")
     'iim'
     """
-    number = library().check(block if type(block) is bytes else _copied(block))
+    octets = block if type(block) is bytes else _copied(block)
+    number = library().check(octets)
     if isinstance(number, tuple):
-        _raise(number)
+        _raise(number, octets)
     return _KINDS[number]
 
 
@@ -87,9 +89,10 @@ def normal(block: Block) -> bytes:
     >>> normal(b"\\x1c\\x02\\x78\\x80\\x04\\x00\\x00\\x00\\x04Vase\\x00")
     b'\\x1c\\x02x\\x00\\x04Vase'
     """
-    form = library().normalise(block if type(block) is bytes else _copied(block))
+    octets = block if type(block) is bytes else _copied(block)
+    form = library().normalise(octets)
     if isinstance(form, tuple):
-        _raise(form)
+        _raise(form, octets)
     return form
 
 
@@ -119,7 +122,8 @@ def same(first: Block, second: Block) -> bool:
     other = second if type(second) is bytes else _copied(second)
     number = library().compare(one, other)
     if isinstance(number, tuple):
-        _raise(number, 2 if number[0] == Status.SECOND_REFUSED else 1)
+        side = 2 if number[0] == Status.SECOND_REFUSED else 1
+        _raise(number, other if side == 2 else one, side)
     return number == 1
 
 
@@ -131,9 +135,10 @@ def show(block: Block) -> str:
     iim
     2:120 4: 56617365
     """
-    listing = library().show(block if type(block) is bytes else _copied(block))
+    octets = block if type(block) is bytes else _copied(block)
+    listing = library().show(octets)
     if isinstance(listing, tuple):
-        _raise(listing)
+        _raise(listing, octets)
     return listing.decode("ascii")
 
 
@@ -143,7 +148,8 @@ def captions_text(block: Block) -> str:
     >>> captions_text(b"\\x1c\\x02\\x78\\x00\\x04Vase").splitlines()
     ['iim', 'charset: not declared', 'caption: Vase']
     """
-    text = library().captions(block if type(block) is bytes else _copied(block))
+    octets = block if type(block) is bytes else _copied(block)
+    text = library().captions(octets)
     if isinstance(text, tuple):
-        _raise(text)
+        _raise(text, octets)
     return text.decode("ascii")

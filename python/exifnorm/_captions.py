@@ -17,15 +17,17 @@ _UTF8 = 129  # the number of the Exif type
 
 @dataclass(frozen=True)
 class Caption:
-    """A labelled text of a block."""
+    """A labelled text of a block.
+
+    - `label`: the label that the library prints, such as "title" or "keyword" of a record, and "artist" of an Exif block
+    - `data`: its bytes as they are in the block; a text of an Exif block usually ends in a zero byte
+    - `text`: the text, if its encoding is known and its bytes are valid: for a record that declares UTF-8, and for the Exif types ASCII
+      and UTF-8, without the zero byte at the end. Otherwise None; `exifnorm_pictures.read(..).captions` has a guess then
+    """
 
     label: str
-    """The label that the library prints, such as "title" or "keyword" of a record, and "artist" of an Exif block."""
     data: bytes
-    """Its bytes as they are in the block; a text of an Exif block usually ends in a zero byte."""
     text: Optional[str]
-    """The text, if its encoding is known and its bytes are valid: for a record that declares UTF-8, and for the Exif types ASCII
-    and UTF-8, without the zero byte at the end. Otherwise None."""
 
 
 def _decoded(data: bytes, encoding: str) -> Optional[str]:

@@ -2,10 +2,10 @@
 
 from __future__ import annotations
 
-from typing import TYPE_CHECKING, Optional, Sequence
+from typing import TYPE_CHECKING, Optional, Sequence, Tuple
 
 if TYPE_CHECKING:
-    from ._jpeg import JpegPart
+    from ._jpeg import JpegBlock, JpegPart
 
 LIMIT = 16_777_216
 """The greatest length in bytes of a block, and of a normal form."""
@@ -14,48 +14,89 @@ LIMIT = 16_777_216
 class Refused(ValueError):
     """A block breaks the rules and has no meaning: its first fault.
 
+    - `cause`: the name of the cause, such as "Overlap". docs/REFUSALS.md lists them
+    - `offset`: the byte offset of the fault from the block's first byte; the six bytes before an Exif block aren't counted. `place` is
+      its older name
+    - `side`: of two blocks, the number of the one that is refused, 1 or 2; otherwise None
+    - `sentence`: the cause for people
+    - `remedy`: what helps
+
     >>> import exifnorm
     >>> try:
     ...     exifnorm.kind(b"no block")
     ... except exifnorm.Refused as refusal:
-    ...     print(refusal.cause, refusal.place, refusal.side, refusal, sep=", ")
+    ...     print(refusal.cause, refusal.offset, refusal.side, refusal, sep=", ")
+    ...     print(refusal.sentence)
     UnknownKind, 0, None, UnknownKind at 0
+    The input is neither an Exif block nor an IPTC record.
     """
 
-    def __init__(self, cause: str, place: int, side: Optional[int] = None) -> None:
+    def __init__(self, cause: str, place: int, side: Optional[int] = None, is_jpeg: bool = False) -> None:
         super().__init__(cause, place, side)
         self.cause = cause
-        """The name of the cause, such as "Overlap". docs/FORMAT.md lists the causes."""
         self.place = place
-        """The byte offset from the block's first byte. The six bytes before an Exif block are not counted."""
         self.side = side
-        """For two blocks, the number of the one that is refused, 1 or 2; otherwise None."""
+        self._is_jpeg = is_jpeg  # whether the bytes are a JPEG, and no block
+
+    @property
+    def offset(self) -> int:
+        """The byte offset of the fault."""
+        return self.place
+
+    @property
+    def sentence(self) -> str:
+        """The cause for people, in a sentence."""
+        return _JPEG[0] if self._is_jpeg else self._words()[0]
+
+    @property
+    def remedy(self) -> str:
+        """What helps."""
+        return _JPEG[1] if self._is_jpeg else self._words()[1]
+
+    def _words(self) -> Tuple[str, str]:
+        from ._causes import WORDS  # which only a refusal needs
+
+        return WORDS.get(self.cause, (f"The block is refused: {self.cause}.", ""))
 
     def __str__(self) -> str:
         where = f"{self.cause} at {self.place}"
-        return where if self.side is None else f"{where} in block {self.side}"
+        if self.side is not None:
+            where += f" in block {self.side}"
+        return f"{where}: this is a JPEG, and jpeg_blocks returns its blocks" if self._is_jpeg else where
+
+
+_JPEG = ("The input is a whole JPEG, and no block.", "Give the blocks that `exifnorm.jpeg_blocks` returns for it.")
 
 
 class HeadRefused(Refused):
-    """The bytes are no head of a JPEG: the first fault, and the parts before it.
+    """The bytes are no head of a JPEG: the first fault, whose offset counts from the JPEG's first byte.
+
+    - `parts`: the parts before the fault. Each is whole
+    - `blocks`: the Exif and IPTC blocks that end before the fault, if `jpeg_blocks` raises this; otherwise none
 
     >>> import exifnorm
     >>> try:
     ...     exifnorm.jpeg_parts(bytes.fromhex("ffd8 fffe0004 4142 ffe1"))
     ... except exifnorm.HeadRefused as refusal:
     ...     print(refusal, [hex(it.marker) for it in refusal.parts])
-    HeadCut at 8 ['0xfe']
+    ...     print(refusal.sentence)
+    JpegCut at 8 ['0xfe']
+    The JPEG ends inside its head, before the first scan.
     """
 
-    def __init__(self, cause: str, place: int, parts: "Sequence[JpegPart]" = ()) -> None:
+    def __init__(self, cause: str, place: int, parts: "Sequence[JpegPart]" = (), blocks: "Sequence[JpegBlock]" = ()) -> None:
         super().__init__(cause, place)
-        self.args = cause, place, parts  # by which it is pickled
+        self.args = cause, place, parts, blocks  # by which it is pickled
         self.parts = parts
-        """The parts before the fault. Each is whole."""
+        self.blocks = blocks
 
 
 class PictureRefused(Refused):
     """Of two JPEGs that are compared, one has no head of a JPEG, or a block that breaks the rules: the first fault.
+
+    - `side`: the number of the JPEG, 1 or 2
+    - `kind`: the kind of the block, "exif" or "iim"; "" if the JPEG has no head. Then the offset counts from the JPEG's first byte
+    - `index`: the index of the block among those of its kind in the JPEG, from 0
 
     >>> import exifnorm
     >>> try:
@@ -69,9 +110,7 @@ class PictureRefused(Refused):
         super().__init__(cause, place, side)
         self.args = cause, place, side, kind, index  # by which it is pickled
         self.kind = kind
-        """The kind of the block, "exif" or "iim"; "" if the picture has no head. Then the offset counts from the picture's first byte."""
         self.index = index
-        """The index of the block among those of its kind in the picture, from 0."""
 
     def __str__(self) -> str:
         names = {"": "the head", "exif": f"block {self.index + 1} of Exif", "iim": f"block {self.index + 1} of IPTC"}
@@ -79,7 +118,7 @@ class PictureRefused(Refused):
 
 
 class TooMany(ValueError):
-    """There are more parts or resources than the call was allowed to return.
+    """There are more parts or resources than the call was allowed to return: `most`.
 
     >>> import exifnorm
     >>> exifnorm.jpeg_parts(bytes.fromhex("ffd8 ff01 ff01 ffd9"), most=2)
@@ -90,7 +129,6 @@ class TooMany(ValueError):
     def __init__(self, most: int) -> None:
         super().__init__(most)
         self.most = most
-        """The number that was allowed."""
 
     def __str__(self) -> str:
         return f"more than {self.most}"

@@ -18,18 +18,21 @@ Values = Union[bytes, Tuple[int, ...], Tuple[Ratio, ...], Tuple[bytes, ...]]
 class Field(NamedTuple):
     """A field of a directory, a DataSet, or a part of the thumbnail.
 
+    - `directory`: "main", "exif", "interop", "gps" or "thumb"; of a DataSet "record"
+    - `tag`: the tag. Of a DataSet it is 256 times the record number plus the DataSet number, so 2:120 has 0x0278. Of the thumbnail's JPEG
+      it is 0x0201 and of its strips 0x0111, the tags of their offsets in a block
+    - `type`: the type's name, such as "ASCII" or "RATIONAL"; "WHOLE" if SHORT and LONG mean the same; "DATASET", "JPEG" or "STRIPS"
+    - `values`: the bytes of BYTE, ASCII, SBYTE, UNDEFINED, UTF8, DATASET and JPEG. Of SHORT, LONG, WHOLE, SSHORT and SLONG a tuple of
+      numbers; of RATIONAL and SRATIONAL a tuple of `Ratio`; of FLOAT and DOUBLE a tuple of bit patterns, as numbers
+      (`struct.unpack(">f", pattern.to_bytes(4, "big"))` converts one); of STRIPS the bytes of each
+
+    `exifnorm_pictures.read` returns fields with names and with values of Python.
+
     >>> Field("main", 0x0112, "SHORT", (6,))
     Field(directory='main', tag=274, type='SHORT', values=(6,))
     """
 
     directory: str
-    """"main", "exif", "interop", "gps" or "thumb"; for a DataSet "record"."""
     tag: int
-    """The tag. For a DataSet it is 256 times the record number plus the DataSet number, so 2:120 has 0x0278. For the thumbnail's
-    JPEG it is 0x0201 and for its strips 0x0111, the tags of their offsets in a block."""
     type: str
-    """The type's name, such as "ASCII" or "RATIONAL"; "WHOLE" if SHORT and LONG mean the same; "DATASET", "JPEG" or "STRIPS"."""
     values: Values
-    """The bytes of BYTE, ASCII, SBYTE, UNDEFINED, UTF8, DATASET and JPEG. For SHORT, LONG, WHOLE, SSHORT and SLONG a tuple of
-    numbers; for RATIONAL and SRATIONAL a tuple of `Ratio`; for FLOAT and DOUBLE a tuple of bit patterns, as numbers
-    (`struct.unpack(">f", pattern.to_bytes(4, "big"))` converts one); for STRIPS the bytes of each."""

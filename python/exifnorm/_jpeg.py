@@ -13,39 +13,38 @@ KINDS = ("", "exif", "photoshop", "xmp", "extended xmp")  # of parts, by the lib
 BLOCK_KINDS = ("", "exif", "iim")  # the same of blocks
 Row = Tuple[int, int, int, int, int]
 _IPTC = 0x0404  # the number of the resource
-CAUSES: Dict[int, str] = {101: "NoStart", 102: "NoMarker", 103: "LengthForm", 104: "HeadCut", 105: "TooLong"}
+CAUSES: Dict[int, str] = {101: "JpegNoStart", 102: "JpegNoMarker", 103: "JpegLength", 104: "JpegCut", 105: "JpegTooLong"}
 
 
 class JpegPart(NamedTuple):
-    """A part of a JPEG's head: a marker, and where the data of its segment are."""
+    """A part of a JPEG's head: a marker, and where the data of its segment are.
+
+    - `marker`: the second byte of the marker, such as 0xE1 for APP1
+    - `kind`: "exif", "photoshop", "xmp" or "extended xmp", by the mark with which the data begin; "" for all others
+    - `begins`: whether a block begins here. Otherwise it continues the one in the part before
+    - `start`: the offset of the data behind that mark; of a marker without a segment, the offset behind it
+    - `size`: the number of these bytes
+    """
 
     marker: int
-    """The second byte of the marker, such as 0xE1 for APP1."""
     kind: str
-    """"exif", "photoshop", "xmp" or "extended xmp", by the mark with which the data begin; "" for all others."""
     begins: bool
-    """Whether a block begins here. Otherwise it continues the one in the part before."""
     start: int
-    """The offset of the data behind that mark; of a marker without a segment, the offset behind it."""
     size: int
-    """The number of these bytes."""
 
 
 class Resource(NamedTuple):
-    """One of Photoshop's image resources."""
+    """One of Photoshop's image resources: its `number`, the offset `start` of its data, and the `size` of these in bytes."""
 
     number: int
     start: int
-    """The offset of its data."""
     size: int
-    """The number of bytes of its data."""
 
 
 class JpegBlock(NamedTuple):
-    """A block of a JPEG."""
+    """A block of a JPEG: its `kind`, "exif" or "iim", which is IPTC, and its bytes `data`."""
 
     kind: str
-    """"exif" or "iim"."""
     data: bytes
 
 
@@ -87,7 +86,7 @@ def jpeg_parts(picture: Block, most: Optional[int] = None) -> List[JpegPart]:
     """The parts of a JPEG's head in their order. The last one is the header of the first scan, or the end of the picture.
 
     The bytes may be a whole file or only its first bytes: what follows the head isn't looked at. Raises HeadRefused, with the first fault
-    and the parts before it, if they aren't a head, and TooMany for more than `most` parts. If the cause is HeadCut, the bytes end before
+    and the parts before it, if they aren't a head, and TooMany for more than `most` parts. If the cause is JpegCut, the bytes end before
     the head does; more of the file change nothing in these parts.
 
     >>> for part in jpeg_parts(bytes.fromhex("ffd8 ffe1000c 457869660000 4d4d002a ffd9")):
@@ -136,8 +135,8 @@ def jpeg_blocks(picture: Block) -> List[JpegBlock]:
     0404 in segments APP13; such a resource without bytes is no block. Other programs may also have put Exif into resource 0422, which
     isn't returned. XMP isn't either: `jpeg_parts` shows where it is.
 
-    The bytes may be a whole file or only its first bytes. Raises HeadRefused, with the first fault, if they don't begin with the whole
-    head of a JPEG, and LibraryMissing.
+    The bytes may be a whole file or only its first bytes. Raises HeadRefused, with the first fault and the blocks that end before it, if they
+    don't begin with the whole head of a JPEG, and LibraryMissing.
 
     >>> import exifnorm
     >>> exif = b"Exif\\0\\0" + bytes.fromhex("4d4d002a00000008 0001 0112 0003 00000001 00060000 00000000")
@@ -147,6 +146,42 @@ def jpeg_blocks(picture: Block) -> List[JpegBlock]:
     exif [Field(directory='main', tag=274, type='SHORT', values=(6,))]
     """
     octets = _bytes_of(picture)
+    try:
+        return _blocks(octets)
+    except HeadRefused as why:
+        raise HeadRefused(why.cause, why.place, why.parts, _blocks_before(octets, why)) from None
+
+
+def _blocks_before(octets: bytes, why: HeadRefused) -> List[JpegBlock]:
+    """The blocks that end before the fault of a head: those of a JPEG that ends there."""
+    if not why.parts:
+        return []
+    last = why.parts[-1]
+    blocks = _blocks(octets[: last.start + last.size] + _END)
+    is_open = last.kind == "exif" and why.cause == CAUSES[104] and _may_continue(octets[why.place :])
+    return blocks[:-1] if is_open else blocks
+
+
+_END = b"\xff\xd9"
+
+
+def _may_continue(rest: bytes) -> bool:
+    """Whether the last bytes of a JPEG that is cut may be the beginning of a segment that continues the Exif before it.
+
+    >>> [_may_continue(it) for it in (b"", b"\\xff\\xe1\\0\\x20Exif\\0\\0", b"\\xff\\xe1\\0\\x20Exif\\0\\0MM\\0*", b"\\xff\\xed", b"\\xff\\0")]
+    [True, True, False, False, False]
+    """
+    marker = rest.lstrip(b"\xff")
+    if not marker:
+        return True
+    data = marker[3:]
+    return marker[0] == 0xE1 and _EXIF.startswith(data[: len(_EXIF)]) and data[len(_EXIF) :][:4] not in (b"II*\0", b"MM\0*")
+
+
+_EXIF = b"Exif\0\0"
+
+
+def _blocks(octets: bytes) -> List[JpegBlock]:
     found: List[JpegBlock] = []
     for kind, data in _whole_blocks(octets):
         if kind == "exif":

@@ -471,7 +471,7 @@ static PyObject *normal(PyObject *module, PyObject *arguments, PyObject *named)
     if (form == NULL || PyBytes_CheckExact(form)) {
         return form;
     }
-    raised = PyObject_CallMethod(module, "raise_failure", "(O)", form);
+    raised = PyObject_CallMethod(module, "raise_failure", "(OO)", form, block);
     Py_DECREF(form);
     return raised;
 }

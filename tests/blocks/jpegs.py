@@ -18,16 +18,16 @@ def segments(octets, start=0):
         while octets[at : at + 2] == b"\xff\xff":
             at += 1
         if octets[at : at + 1] not in (b"\xff", b"") or octets[at : at + 2] == b"\xff\0":
-            raise Fault("NoMarker", part, at)
+            raise Fault("JpegNoMarker", part, at)
         if at + 2 > len(octets):
-            raise Fault("HeadCut", part, at)
+            raise Fault("JpegCut", part, at)
         marker, end = octets[at + 1], at + 2
         if marker != TEM and not RST0 <= marker <= EOI:
             length = int.from_bytes(octets[at + 2 : at + 4], "big")
             if at + 4 > len(octets) or length > 1 and at + 2 + length > len(octets):
-                raise Fault("HeadCut", part, at)
+                raise Fault("JpegCut", part, at)
             if length < 2:
-                raise Fault("LengthForm", part, at)
+                raise Fault("JpegLength", part, at)
             end += length
         yield marker, at, end, octets[at + 4 : end]
         at = end
@@ -59,7 +59,7 @@ def parts(octets):
     """The parts of a head, each with its marker, its kind, whether a block begins there, and the offset and number of its bytes; and the cause
     and the offset of the fault, or None."""
     if octets[:2] != b"\xff\xd8":
-        return [], ("NoStart", 0)
+        return [], ("JpegNoStart", 0)
     found, last = [], ""
     try:
         for marker, _, end, data in segments(octets):

@@ -10,7 +10,7 @@ import pytest
 import jpegs
 
 DONE, REFUSED, TOO_LITTLE_ROOM = 0, 2, 5
-CAUSES = {101: "NoStart", 102: "NoMarker", 103: "LengthForm", 104: "HeadCut"}
+CAUSES = {101: "JpegNoStart", 102: "JpegNoMarker", 103: "JpegLength", 104: "JpegCut"}
 KINDS = ["", "exif", "photoshop", "xmp", "extended xmp"]
 PART, RESOURCE, FAULT = Struct("IIINN"), Struct("NNN"), Struct("IN")
 FILLER, ROOM, BEHIND = 0xA5, 4096, 2  # elements of an array, and elements behind those that a call is told of
@@ -77,27 +77,27 @@ def alone(marker, at):
 
 # What follows the start mark, each with its parts, and its fault or None.
 HEADS = {
-    "nothing": (b"", [], ("HeadCut", 2)),
+    "nothing": (b"", [], ("JpegCut", 2)),
     "the end": (END, [alone(0xD9, 4)], None),
     "the end, and more": (END + b"more", [alone(0xD9, 4)], None),
     "a scan": (segment(0xDA, b"scan") + b"data", [(0xDA, "", False, 6, 4)], None),
     "fill bytes": (b"\xff" * 5 + END, [alone(0xD9, 9)], None),
-    "fill bytes alone": (b"\xff\xff\xff", [], ("HeadCut", 2)),
-    "a last FF": (segment(0xFE, b"") + b"\xff", [(0xFE, "", False, 6, 0)], ("HeadCut", 6)),
-    "a last byte": (segment(0xFE, b"") + b"x", [(0xFE, "", False, 6, 0)], ("NoMarker", 6)),
-    "fill bytes before a fault": (END[:1] * 4 + b"\0", [], ("NoMarker", 2)),
-    "0 after FF": (b"\xff\0" + END, [], ("NoMarker", 2)),
+    "fill bytes alone": (b"\xff\xff\xff", [], ("JpegCut", 2)),
+    "a last FF": (segment(0xFE, b"") + b"\xff", [(0xFE, "", False, 6, 0)], ("JpegCut", 6)),
+    "a last byte": (segment(0xFE, b"") + b"x", [(0xFE, "", False, 6, 0)], ("JpegNoMarker", 6)),
+    "fill bytes before a fault": (END[:1] * 4 + b"\0", [], ("JpegNoMarker", 2)),
+    "0 after FF": (b"\xff\0" + END, [], ("JpegNoMarker", 2)),
     "markers that stand alone": (
         b"\xff\x01\xff\xd0\xff\xd7\xff\xd8" + END,
         [alone(it, at) for it, at in zip((1, 208, 215, 216, 217), (4, 6, 8, 10, 12))],
         None,
     ),
-    "a marker with a segment, cut": (b"\xff\xe1", [], ("HeadCut", 2)),
-    "a length, cut": (b"\xff\xe1\0", [], ("HeadCut", 2)),
-    "a length of 0": (b"\xff\xe1\0\0", [], ("LengthForm", 2)),
-    "a length of 1": (b"\xff\xe1\0\1" + END, [], ("LengthForm", 2)),
+    "a marker with a segment, cut": (b"\xff\xe1", [], ("JpegCut", 2)),
+    "a length, cut": (b"\xff\xe1\0", [], ("JpegCut", 2)),
+    "a length of 0": (b"\xff\xe1\0\0", [], ("JpegLength", 2)),
+    "a length of 1": (b"\xff\xe1\0\1" + END, [], ("JpegLength", 2)),
     "a length of 2": (b"\xff\xe1\0\2" + END, [(0xE1, "", False, 6, 0), alone(0xD9, 8)], None),
-    "data, cut": (b"\xff\xc0\0\5ab", [], ("HeadCut", 2)),
+    "data, cut": (b"\xff\xc0\0\5ab", [], ("JpegCut", 2)),
     "the longest segment": (segment(0xE5, bytes(65_533)) + END, [(0xE5, "", False, 6, 65_533), alone(0xD9, 65_541)], None),
     "Exif": (segment(0xE1, EXIF + BIG) + END, [(0xE1, "exif", True, 12, 4), alone(0xD9, 18)], None),
     "Exif without a header": (segment(0xE1, EXIF) + END, [(0xE1, "exif", True, 12, 0), alone(0xD9, 14)], None),
@@ -135,7 +135,7 @@ def test_heads(calls, following, parts, fault):
 
 @pytest.mark.parametrize("octets", [b"", b"\xff", b"\xd8\xff", b"\xff\xd9", b"\0\xff\xd8", b"\x89PNG\r\n\x1a\n"], ids=repr)
 def test_bytes_that_are_no_picture(calls, octets):
-    assert calls.parts(octets) == (REFUSED, [], 0, ("NoStart", 0))
+    assert calls.parts(octets) == (REFUSED, [], 0, ("JpegNoStart", 0))
 
 
 @pytest.mark.parametrize("name", HEADS)
@@ -187,7 +187,7 @@ def test_heads_that_are_changed(calls):
         parts, fault = jpegs.parts(octets)
         met[fault and fault[0]] += 1
         assert calls.parts(octets, room=len(parts)) == (REFUSED if fault else DONE, parts, len(parts), fault), octets.hex()
-    del met["NoStart"]  # the start mark is never changed
+    del met["JpegNoStart"]  # the start mark is never changed
     assert min(met.values()) > CHANGED // 100, f"a cause was hardly met: {met}"
 
 
@@ -237,7 +237,7 @@ def test_arrays_of_each_length(calls):
     """With as many elements as there are, or more, and with fewer, down to none, of which nothing is written."""
     head = START + segment(0xE1, EXIF + BIG) * 7 + END
     them = resource(0x0404, b"abc") * 7
-    for fault, octets in ((None, head), (("HeadCut", len(head) - 2), head[:-2]), (("NoMarker", len(head) - 2), head[:-2] + b"x")):
+    for fault, octets in ((None, head), (("JpegCut", len(head) - 2), head[:-2]), (("JpegNoMarker", len(head) - 2), head[:-2] + b"x")):
         count = 7 if fault else 8
         status, parts, _, found = calls.parts(octets)
         assert (status, len(parts), found) == (REFUSED if fault else DONE, count, fault)

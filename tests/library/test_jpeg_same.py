@@ -17,7 +17,7 @@ from reading import CAUSES, Fault, datasets, exif_block
 from small_blocks import CAPTION, LOOP, ONE, outcome
 
 DONE, REFUSED, NO_MEMORY, SECOND_REFUSED = 0, 2, 4, 6
-HEADS = {"NoStart": 101, "NoMarker": 102, "LengthForm": 103, "HeadCut": 104}
+HEADS = {"JpegNoStart": 101, "JpegNoMarker": 102, "JpegLength": 103, "JpegCut": 104}
 NUMBERS = {name: number for number, name in enumerate(CAUSES, 1)}
 KINDS = ["", "exif", "iim"]
 FAULT, FILLER, UNSET = Struct("IINN"), 0xA5, 0x5EED5EED
@@ -132,11 +132,11 @@ DIFFERENT = {
 }
 # Each with a picture that is whole: the fault's cause and offset, the kind of the block, and how many of its kind are before it.
 FAULTS = {
-    "no picture": (b"\x89PNG", ("NoStart", 0, "", 0)),
-    "no bytes": (b"", ("NoStart", 0, "", 0)),
-    "a cut head": (picture(exif(ONE), end=b"")[:-1], ("HeadCut", 2, "", 0)),
-    "another byte": (picture(COMMENT, end=b"x"), ("NoMarker", 2 + len(COMMENT), "", 0)),
-    "a short length": (picture(COMMENT, end=b"\xff\xe1\0\1"), ("LengthForm", 2 + len(COMMENT), "", 0)),
+    "no picture": (b"\x89PNG", ("JpegNoStart", 0, "", 0)),
+    "no bytes": (b"", ("JpegNoStart", 0, "", 0)),
+    "a cut head": (picture(exif(ONE), end=b"")[:-1], ("JpegCut", 2, "", 0)),
+    "another byte": (picture(COMMENT, end=b"x"), ("JpegNoMarker", 2 + len(COMMENT), "", 0)),
+    "a short length": (picture(COMMENT, end=b"\xff\xe1\0\1"), ("JpegLength", 2 + len(COMMENT), "", 0)),
     "Exif": (picture(exif(LOOP)), ("Loop", 22, "exif", 0)),
     "Exif without a byte": (picture(exif(b"")), ("UnknownKind", 0, "exif", 0)),
     "a second mark of Exif": (picture(exif(EXIF + ONE)), ("UnknownKind", 0, "exif", 0)),
@@ -146,7 +146,7 @@ FAULTS = {
     "IPTC": (picture(exif(ONE), iptc(CAPTION[:-1])), ("DataSetCut", 0, "iim", 0)),
     "the second IPTC": (picture(iptc(CAPTION), COMMENT, iptc(URN + URN[:-1])), ("DataSetCut", len(URN), "iim", 1)),
     "Exif before IPTC": (picture(iptc(CAPTION[:-1]), exif(LOOP)), ("Loop", 22, "exif", 0)),
-    "a head before its blocks": (picture(exif(LOOP), end=b"x"), ("NoMarker", 2 + len(exif(LOOP)), "", 0)),
+    "a head before its blocks": (picture(exif(LOOP), end=b"x"), ("JpegNoMarker", 2 + len(exif(LOOP)), "", 0)),
 }
 
 
@@ -170,8 +170,8 @@ def test_faults(see, broken, fault):
     see(broken, whole, (cause, place, 1, kind, index))
     see(whole, broken, (cause, place, 2, kind, index))
     see(broken, broken, (cause, place, 1, kind, index))
-    see(headless, broken, ("HeadCut", 2, 1, "", 0))
-    see(broken, headless, (cause, place, 1, kind, index) if not kind else ("HeadCut", 2, 2, "", 0))
+    see(headless, broken, ("JpegCut", 2, 1, "", 0))
+    see(broken, headless, (cause, place, 1, kind, index) if not kind else ("JpegCut", 2, 2, "", 0))
     see(refused, broken, (cause, place, 2, kind, index) if not kind else ("HeaderCut", 6, 1, "exif", 0))
 
 
@@ -292,7 +292,7 @@ def test_a_library_that_answers_otherwise(way, monkeypatch):
     monkeypatch.setattr(_library.library(), "jpeg_same", lambda *_: (6, 105, 0, 0, 0))
     with pytest.raises(PictureRefused) as raised:
         exifnorm.jpeg_same(picture(), picture())
-    assert str(raised.value) == "TooLong at 0 in the head, picture 2"
+    assert str(raised.value) == "JpegTooLong at 0 in the head, picture 2"
 
 
 def test_one_call_of_the_library(watch):

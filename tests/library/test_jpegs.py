@@ -78,7 +78,7 @@ def test_more_bytes_change_nothing(octets, more):
     """A head, and a fault that is no missing end, stay as they are; parts before a missing end stay, but the last may get more bytes FF."""
     parts, fault = found_in(octets)
     longer, other = found_in(octets + more)
-    if fault and fault[0] == "HeadCut":
+    if fault and fault[0] == "JpegCut":
         assert longer[: len(parts)] == parts
     else:
         assert (longer, other) == (parts, fault)
@@ -135,17 +135,17 @@ def test_blocks(pieces, blocks):
 @pytest.mark.parametrize(
     "octets, cause, place, before",
     [
-        (b"", "NoStart", 0, 0),
-        (b"\xff", "NoStart", 0, 0),
-        (b"\x89PNG", "NoStart", 0, 0),
-        (START, "HeadCut", 2, 0),
-        (START + COMMENT, "HeadCut", 2 + len(COMMENT), 1),
-        (START + exif(ONE)[:-1], "HeadCut", 2, 0),
-        (START + exif(ONE) + b"\xff\xe1", "HeadCut", 2 + len(exif(ONE)), 1),
-        (START + exif(ONE) + b"\xff\xff\xff", "HeadCut", 2 + len(exif(ONE)), 1),
-        (START + exif(ONE) + b"\xff\xe1\0\1", "LengthForm", 2 + len(exif(ONE)), 1),
-        (START + exif(ONE) + b"x", "NoMarker", 2 + len(exif(ONE)), 1),
-        (START + exif(ONE) + b"\xff\xff\0", "NoMarker", 2 + len(exif(ONE)), 1),
+        (b"", "JpegNoStart", 0, 0),
+        (b"\xff", "JpegNoStart", 0, 0),
+        (b"\x89PNG", "JpegNoStart", 0, 0),
+        (START, "JpegCut", 2, 0),
+        (START + COMMENT, "JpegCut", 2 + len(COMMENT), 1),
+        (START + exif(ONE)[:-1], "JpegCut", 2, 0),
+        (START + exif(ONE) + b"\xff\xe1", "JpegCut", 2 + len(exif(ONE)), 1),
+        (START + exif(ONE) + b"\xff\xff\xff", "JpegCut", 2 + len(exif(ONE)), 1),
+        (START + exif(ONE) + b"\xff\xe1\0\1", "JpegLength", 2 + len(exif(ONE)), 1),
+        (START + exif(ONE) + b"x", "JpegNoMarker", 2 + len(exif(ONE)), 1),
+        (START + exif(ONE) + b"\xff\xff\0", "JpegNoMarker", 2 + len(exif(ONE)), 1),
     ],
 )
 def test_heads_that_are_refused(octets, cause, place, before):
@@ -157,6 +157,49 @@ def test_heads_that_are_refused(octets, cause, place, before):
         assert str(why) == f"{cause} at {place}"
         again = pickle.loads(pickle.dumps(why))
         assert (again.args, again.cause, again.place, again.side, again.parts) == (why.args, cause, place, None, why.parts), "pickled"
+
+
+OPEN = exif(b"goes on")
+
+
+@pytest.mark.parametrize(
+    "octets, blocks",
+    [
+        (START + b"x", []),
+        (START + exif(ONE) + b"x", [("exif", ONE)]),
+        (START + exif(ONE), []),
+        (START + exif(ONE) + b"\xff\xe1\0\1", [("exif", ONE)]),
+        (START + exif(ONE) + b"\xff\xff\xed", [("exif", ONE)]),
+        (START + exif(ONE) + exif(LITTLE)[:-1], [("exif", ONE)]),
+        (START + exif(ONE) + OPEN[:-1], []),
+        (START + exif(ONE) + OPEN[:6], []),
+        (START + exif(ONE) + segment(0xE1, b"http:")[:-1], [("exif", ONE)]),
+        (START + exif(ONE) + OPEN + b"x", [("exif", ONE + b"goes on")]),
+        (START + exif(ONE) + COMMENT + exif(LITTLE), [("exif", ONE)]),
+        (START + photoshop(resource(0x0404, CAPTION)), [("iim", CAPTION)]),
+        (START + photoshop(resource(0x0404, CAPTION)[:-2]) + b"x", []),
+    ],
+)
+def test_blocks_before_a_fault(octets, blocks):
+    with pytest.raises(HeadRefused) as raised:
+        exifnorm.jpeg_blocks(octets)
+    assert list(raised.value.blocks) == blocks
+    assert pickle.loads(pickle.dumps(raised.value)).blocks == raised.value.blocks
+
+
+def blocks_of(octets):
+    try:
+        return exifnorm.jpeg_blocks(octets)
+    except HeadRefused as why:
+        return list(why.blocks)
+
+
+@given(st.lists(SEGMENTS, max_size=6), st.integers(0, 200))
+@settings(suppress_health_check=[HealthCheck.function_scoped_fixture])
+def test_blocks_of_a_cut_picture_are_the_first_of_the_whole_one(segments, at):
+    octets = START + b"".join(segments) + END
+    cut = blocks_of(octets[:at])
+    assert cut == blocks_of(octets)[: len(cut)]
 
 
 def test_numbers_of_parts_and_resources():

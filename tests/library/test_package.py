@@ -20,7 +20,7 @@ import pytest
 
 import exifnorm
 import made_by_tools
-from exifnorm import Caption, Field, _calls, _library, _listings
+from exifnorm import Caption, Field, _calls, _jpeg, _library, _listings
 from kinds import small_kinds
 from meanings import ASCII, LABELS, LIMIT, LONG, SHORT, Exif, Layout, Record, Value, laid
 from reading import said
@@ -57,6 +57,36 @@ def test_blocks_of_tools(made):
 @pytest.mark.parametrize("call", OF_BLOCK, ids=named)
 def test_refusals_of_tools(call):
     assert outcome(call, made_by_tools.PIEXIF_REFUSED) == ("Refused", *made_by_tools.PIEXIF_FAULT, None)
+
+
+@pytest.mark.parametrize("call", OF_BLOCK, ids=named)
+def test_a_jpeg_is_no_block(call):
+    """Whoever passes a whole picture learns which call takes the blocks out of it."""
+    for jpeg in (b"\xff\xd8\xff\xe0\0\x10JFIF", bytearray(b"\xff\xd8\xff\xd9")):
+        with pytest.raises(exifnorm.Refused, match="UnknownKind at 0.*jpeg_blocks") as raised:
+            call(jpeg)
+        again = pickle.loads(pickle.dumps(raised.value))
+        assert "JPEG" in again.sentence and "jpeg_blocks" in again.remedy and str(again) == str(raised.value)
+    with pytest.raises(exifnorm.Refused) as raised:
+        call(b"\xff\xd8")
+    assert str(raised.value).startswith("UnknownKind at 0") and "JPEG" not in str(raised.value)
+
+
+def test_each_cause_is_one_fault_and_a_sentence():
+    names = [_library.library().cause_name(number) for number in range(1, 20)]
+    names += _jpeg.CAUSES.values()
+    assert len(set(names)) == 24
+    sentences = [exifnorm.Refused(name, 0).sentence for name in names]
+    assert len(set(sentences)) == 24 and all(it.endswith(".") and not it.startswith("The block is refused") for it in sentences)
+    assert all(exifnorm.Refused(name, 0).remedy for name in names)
+    assert exifnorm.Refused("New", 3).sentence == "The block is refused: New."  # of a newer library
+    assert exifnorm.Refused("Overlap", 3).offset == exifnorm.Refused("Overlap", 3).place == 3
+
+
+@pytest.mark.parametrize("named_tuple", [exifnorm.Field, exifnorm.JpegBlock, exifnorm.JpegPart, exifnorm.Resource], ids=named)
+def test_help_describes_each_member(named_tuple):
+    for member in named_tuple._fields:
+        assert f"`{member}`" in named_tuple.__doc__, member
 
 
 @pytest.mark.parametrize("kind", [*small_kinds()], ids=lambda it: it.name)

@@ -14,7 +14,7 @@ EXIF_LIKE = re.compile(rb".{0,4}?Exif\0.", re.I | re.S)
 META = (b"Meta\0\0", b"META\0\0", b"Exif\0\0")
 NOT_COMPARED = ((0, b"JFIF\0"), (0, b"JFXX\0"), (2, b"ICC_PROFILE\0"), (11, b"JP"), (13, b"Adobe_CM"), (14, b"Adobe"))
 RESOURCES = {0x0404: IPTC, 0x0422: EXIF, 0x0424: XMP}
-FAULTS = {"NoMarker": "no marker", "LengthForm": "no segment", "HeadCut": "the file ends inside the segment"}
+FAULTS = {"JpegNoMarker": "no marker", "JpegLength": "no segment", "JpegCut": "the file ends inside the segment"}
 
 
 class Walk:
@@ -31,7 +31,7 @@ class Walk:
                 last = self.segment(marker, at, data, last)
         except Fault as why:
             cause, part, at = why.args
-            if (cause, part) != ("HeadCut", len(octets)):  # a file may end after a whole segment
+            if (cause, part) != ("JpegCut", len(octets)):  # a file may end after a whole segment
                 self.fault = f"{FAULTS[cause]} at {at}"
         self.put_together()
 

@@ -7,6 +7,7 @@ from dataclasses import dataclass
 from typing import Dict, Optional, Tuple
 
 from exifnorm import LIMIT
+from exifnorm._causes import OF_BLOCKS, OF_HEADS
 
 from .. import xmp
 
@@ -31,38 +32,37 @@ class Cause:
     """One cause: its meaning, programs that write it, results of other readers, and remedies."""
 
     name: str
-    sentence: str  # the fault in one sentence
     meaning: str
     diagram: str  # a picture of bytes; `!` is below the byte at the reported offset
     writers: Tuple[Tuple[str, str], ...]  # who wrote such blocks, and how many were met
     readers: str
-    remedy: str
     cost: str
     facts: Facts = Facts.ENTRY
 
+    @property
+    def sentence(self) -> str:
+        """The fault in one sentence."""
+        return OF_BLOCKS[self.name][0]
 
-_TOUCH = (
-    "`exifnorm-pictures mend`, which repairs the block and keeps the rest of the file. By hand let ExifTool add a field and remove it: it then"
-    " lays the block out again"
-)
-_OTHER = "Extract the block again; if the file itself is damaged, use another copy of the picture."
+    @property
+    def remedy(self) -> str:
+        """What helps."""
+        return OF_BLOCKS[self.name][1]
+
 
 _CAUSES = (
     Cause(
         "TooLong",
-        f"The block is longer than {LIMIT:,} bytes.",
         "A block in a JPEG has fewer than 65,536 bytes; other formats seldom have more than a megabyte. A longer block is"
         " usually a whole picture, or another file.",
         f"0 .................... {LIMIT - 1} | {LIMIT} ...\n                                   !",
         (),
         "Not tried: no JPEG can contain such a block.",
-        "Give the block and not the file that contains it. A real block of this length can't be normalised.",
         "None.",
         Facts.LENGTH,
     ),
     Cause(
         "UnknownKind",
-        "The input is neither an Exif block nor an IPTC record.",
         "An Exif block begins with `II*\\0` or `MM\\0*`, an IPTC record with the octet 1C. An empty block, a whole JPEG, XMP and"
         " Photoshop resources begin otherwise. So does a BigTIFF (`II+\\0` or `MM\\0+`), whose offsets have eight bytes; as"
         " a picture `exifnorm-pictures` reads it. A picture without metadata gives an empty block.",
@@ -70,39 +70,33 @@ _CAUSES = (
         (("pictures without metadata, extracted by a tool that gives an empty block with status 0", "many"),),
         "ExifTool: `Malformed APP1 EXIF segment`. exiv2: `This does not look like a TIFF image`. exif: `Corrupt data`. Pillow:"
         " no field. piexif: an exception.",
-        "A picture without metadata needs no remedy. " + _OTHER,
         "None.",
         Facts.BEGINNING,
     ),
     Cause(
         "HeaderCut",
-        "The block ends inside its first eight bytes.",
         "The header of an Exif block has eight bytes: the byte order, the number 42, and the offset of the main directory.",
         "4D 4D 00 2A 00 00 | the end; 8 bytes are required\n                  !",
         (),
         "ExifTool: `Malformed APP1 EXIF segment`. exiv2: `This does not look like a TIFF image`. exif prints nothing. Pillow 9.4"
         " can't open the whole picture. piexif: an exception. ExifTool extracts no block from such a picture, so `index` counts it"
         " among those without one.",
-        _OTHER + " ExifTool can remove the segment: `exiftool -Exif:all= picture.jpg`.",
         "The content of the segment is lost in any case.",
         Facts.LENGTH,
     ),
     Cause(
         "Loop",
-        "An offset leads to a directory that was already read: following the offsets would never end.",
         "The main directory, the Exif, Interoperability, GPS and thumbnail directories are read once each. Here a pointer leads"
         " back to one of them.",
         "[main directory] at 8 ... next offset: 8\n      ^                                 !\n      +---------------------------------+",
         (),
         "ExifTool: `IFD1 pointer references previous IFD0 directory`, and all other fields. exiv2 ignores the pointer with a"
         " message. exif and Pillow read the rest silently. piexif takes the fields a second time as those of the thumbnail.",
-        _TOUCH + " without the second pointer.",
         "None that was seen: the pointer had no meaning.",
         Facts.DIRECTORY,
     ),
     Cause(
         "DirectoryOutside",
-        "A directory is not completely inside the block.",
         "A directory is a number of entries, the entries of 12 bytes each, and four bytes for the offset of the next directory."
         " Usually only these last four bytes are missing, because a program that writes the directory at the end left them out.",
         "00 02 | entry 1 | entry 2 | .. .. .. ..\n                          ^ the block ends here,\n"
@@ -110,25 +104,21 @@ _CAUSES = (
         (("Canon S100, saved by jhead", "2"), ("piexif, any picture", "139 of 142, together with Overlap and Unsorted")),
         "ExifTool and exif read the fields silently, exiv2 with `IFD exceeds data buffer, cannot read next pointer`, Pillow with a"
         " warning. piexif: an exception, also for blocks that piexif wrote.",
-        "`exifnorm-pictures mend`; by hand, exiv2 adds a field and removes it (2 of 2); after piexif, ExifTool does the same (69 of 69).",
         "No printed value was lost.",
         Facts.DIRECTORY,
     ),
     Cause(
         "EmptyDirectory",
-        "A directory has no entry.",
         "TIFF 6.0 asks for at least one entry in a directory. Some phones always write a GPS pointer, even if they don't know"
         " the location.",
         "GPS pointer --> 00 00 | 00 00 00 00\n                !  no entries",
         (("Xiaomi phones (an empty GPS directory), Apple iPhone 7, Nikon E995, digiKam", "6 in all"),),
         "ExifTool, exiv2, exif, Pillow and piexif report nothing; exiv2, Pillow and piexif show the pointer as a number.",
-        _TOUCH + " without the empty directory (4 of 6). If that doesn't help, use the rebuild.",
         "None by the touch (4 of 4); a rebuild changed printed values.",
         Facts.DIRECTORY,
     ),
     Cause(
         "Overlap",
-        "Two parts of the block share bytes.",
         "TIFF 6.0 forbids two pointers to the same data. If two values share bytes, an edit of one changes the other, and nobody"
         " knows which of them was meant. Usually a count is too large. exiv2 also extends a MakerNote into the values after it.",
         "Model    -> M o d e l   1 _\nSoftware ->         l   1 _ P r o g\n                    ^^^^^^^ whose bytes are these?",
@@ -142,13 +132,11 @@ _CAUSES = (
             ("piexif, any picture", "139 of 142, together with Unsorted and DirectoryOutside"),
         ),
         "ExifTool, exiv2, exif, Pillow and piexif read both values and report nothing.",
-        _TOUCH + " with a copy for each value (7 of 8; all 12 of exiv2, all 69 of piexif).",
         "No printed value was lost. Both values are kept, each with its copy of the shared bytes.",
         Facts.RANGES,
     ),
     Cause(
         "Unsorted",
-        "The tags of a directory don't ascend.",
         "TIFF 6.0 requires ascending tags. Otherwise readers that use binary search miss fields.",
         "0110 Model | 010F Make | 0112 Orientation\n             !  below the one before it",
         (
@@ -156,134 +144,104 @@ _CAUSES = (
             ("piexif, any picture", "139 of 142, together with Overlap and DirectoryOutside"),
         ),
         "ExifTool, exiv2, exif, Pillow and piexif read all fields and report nothing.",
-        _TOUCH + " in order (8 of 10); the rebuild did the other two.",
         "None by the touch (8 of 8); the rebuild changed printed values.",
     ),
     Cause(
         "Doubled",
-        "A directory has a tag twice.",
         "A directory has one value for each tag. If it has a tag twice, readers differ in which value they use.",
         "0112 Orientation: 1 | 0112 Orientation: 6\n                      !  which is it?",
         (("QuickTime 6 and 7 (Orientation), Pentax Optio (UserComment)", "4 in all"),),
         "ExifTool and exiv2 print both, exif only the first, Pillow and piexif only the second.",
-        "`exifnorm-pictures mend`, which keeps the first of the two, or ExifTool's rebuild (4 of 4). Look at both values first, and decide which is meant:"
-        " `exiftool -a -G1 -s picture.jpg`.",
         "One of the two values, and what else a rebuild changes (4 of 4 lost some printed value).",
     ),
     Cause(
         "UnknownType",
-        "A field has an unknown type.",
         "The types are those of TIFF 6.0 and Exif 3.0. Type 13 (IFD) is for offsets that would have to be followed; other numbers"
         " occur in damaged blocks.",
         "01 10 | 00 0D | 00 00 00 01 | 00 00 00 08\n!       type 13",
         (),
         "ExifTool: `IFD format not handled`. exiv2, Pillow: a number. exif leaves the field out. piexif: an exception.",
-        _TOUCH + ", if it knows the field. Otherwise use the rebuild, which leaves the field out.",
         "The field, if it is left out.",
     ),
     Cause(
         "MisplacedOffset",
-        "A field has offsets of data outside the directory that aren't followed here.",
         "Offsets of strips (StripOffsets) and of tiles (TileOffsets) lead to the pixels of a TIFF picture, SubIFDs to further"
         " directories, such as the smaller copies of a pyramid. A normal form moves data, so these offsets would be wrong in it."
         " So a whole TIFF picture, with strips or with tiles, is no block; each of its pages without these entries is one.",
         "0111 StripOffsets: 8  in the main directory --> pixels?\n!",
         (("every TIFF and raw picture, tiled and pyramid TIFFs too, if the whole file is given as a block", "all"),),
         "ExifTool, exiv2, exif, Pillow and piexif show the offsets as numbers.",
-        "Give the picture itself to `exifnorm-pictures`, without `--block`. It takes each page and each SubIFD of a TIFF as a block of"
-        " its own and leaves these entries out, and takes the block of a raw picture through exiv2. In a JPEG such fields point"
-        " nowhere: the rebuild leaves them out.",
         "None for a TIFF: the offsets of its pixels are no metadata. For a raw picture exiv2 also leaves out other tags of its pixels.",
     ),
     Cause(
         "PointerForm",
-        "A pointer, or an offset or length of the thumbnail, is not a LONG with a count of 1.",
         "The standard defines one form of pointers. Others occur in damaged files and in those of few cameras.",
         "88 25 | 00 09 | 00 00 00 01 | 00 00 00 26\n!       type 9, SLONG; required is 4, LONG",
         (("Canon S5 IS (a GPS pointer as SLONG)", "1"),),
         "ExifTool, exiv2, exif and piexif follow the pointer and report nothing; Pillow shows a number.",
-        _TOUCH + " with a LONG (1 of 1).",
         "No printed value was lost.",
     ),
     Cause(
         "ValueOutside",
-        "A value passes the end of the block.",
         "The offset or the count of a field is wrong, or the block was cut. The value can't be known.",
         "0110 Model, 40 bytes at 50 --> M o d e l 0 | the block ends\n!                                            34 bytes are missing",
         (("Adobe Photoshop CC 2017", "1"),),
         "ExifTool leaves the field out with `Bad offset`. exiv2 makes it empty with a message. exif leaves it out. Pillow leaves"
         " out this and all later fields. piexif gives the bytes that are there.",
-        "`exifnorm-pictures mend`; by hand, exiv2, which leaves the field empty, or ExifTool's rebuild, which leaves it out (1 of 1). First look"
-        " for an earlier copy of the picture.",
         "The field; most of it is lost in any case.",
     ),
     Cause(
         "ThumbnailPair",
-        "The offset or the length of the thumbnail is missing, or the lists of strips differ in length.",
         "Two entries describe a thumbnail: where it begins and how long it is.",
         "0201 JPEGInterchangeFormat: 44   (no 0202: how long?)\n!",
         (),
         "ExifTool and exiv2 show the offset alone; exif, Pillow and piexif have no thumbnail. None reports anything.",
-        _TOUCH + " without the incomplete pair. Otherwise use the rebuild. `exiftool '-ThumbnailImage<=small.jpg'` writes a new"
-        " thumbnail.",
         "The thumbnail, which couldn't be read.",
     ),
     Cause(
         "ExtraDirectory",
-        "A further directory follows the thumbnail directory.",
         "Exif has two directories in a row. A normal form would lose the fields of a third.",
         "[main] -> [thumbnail] -> [a third one]\n                      !",
         (),
         "exiv2 shows the third directory's fields. ExifTool, exif, Pillow and piexif read two and report nothing.",
-        "`exifnorm-pictures mend`. Look at the fields of the third directory first: `exiv2 -pa picture.jpg` shows it as Image2.",
         "The fields of the third directory, if a tool leaves it out.",
         Facts.NEXT,
     ),
     Cause(
         "ThumbnailOutside",
-        "The thumbnail passes the end of the block.",
         "The picture was cut, or the thumbnail was removed without its two entries.",
         "0201: at 56, 0202: 4000 bytes --> FF D8 FF D9 | the block ends\n!",
         (("Adobe Photoshop CS and CS4", "2"),),
         "ExifTool and piexif give the bytes that are there as a thumbnail. exiv2 ignores it with a message, Pillow without one. exif:"
         " `Corrupt data`, no field at all.",
-        "`exifnorm-pictures mend`, which drops or cuts the thumbnail, or ExifTool's rebuild (2 of 2). `exiftool '-ThumbnailImage<=small.jpg'`"
-        " writes a new thumbnail.",
         "The thumbnail; in 1 of 2 another printed value.",
     ),
     Cause(
         "NoMarker",
-        "There is no octet 1C where a DataSet must begin.",
         "An IPTC record is a sequence of DataSets, each of which begins with 1C. Other octets between two of them, or more than"
         " three zeros after the last, show that a length is wrong or that something else was appended.",
         "1C 02 19 00 03 o n e | 3F | 1C 02 19 00 03 t w o\n                       !",
         (("none of 91 IPTC records from cameras or editors; those found were made to break readers", "0"),),
         "ExifTool reads up to there and prints `Bad IPTC data tag`; exiv2 continues at the next 1C and reports nothing. exif,"
         " Pillow and piexif don't read IPTC records of JPEG pictures.",
-        "`exifnorm-pictures mend`: ExifTool or exiv2 writes the record again. ExifTool drops what follows the offset,"
-        " exiv2 keeps it: compare both.",
         "With ExifTool, what follows the offset.",
         Facts.DATA_SET,
     ),
     Cause(
         "LengthForm",
-        "The length of an extended DataSet has no octets, or more than four.",
         "A DataSet of more than 32,767 octets has the number of octets of its length. Four are enough for every accepted" " block.",
         "1C 02 19 80 05 | 00 00 00 00 03 | o n e\n!          five octets of length",
         (("none of 91 IPTC records from cameras or editors; those found were made to break readers", "0"),),
         "ExifTool reads the DataSet. exiv2: `Failed to decode IPTC metadata`, no DataSet at all.",
-        "`exifnorm-pictures mend`: ExifTool writes the record again.",
         "None, if ExifTool reads the DataSet.",
         Facts.DATA_SET,
     ),
     Cause(
         "DataSetCut",
-        "A DataSet passes the end of the block.",
         "A length is wrong, or the record was cut.",
         "1C 02 19 00 09 | o n e | the block ends\n!        nine octets required",
         (("none of 91 IPTC records from cameras or editors; those found were made to break readers", "0"),),
         "ExifTool leaves the DataSet out and reports nothing; exiv2 leaves it out with `has invalid size`.",
-        "`exifnorm-pictures mend`: the record is written again without the DataSet.",
         "The DataSet; a part of it is lost in any case.",
         Facts.DATA_SET,
     ),
@@ -332,8 +290,8 @@ def words_of(cause: str) -> Optional[Tuple[str, str]]:
     >>> words_of("NeedsRdflib")[1][:23], words_of("Unsorted")[0]
     ('Install python3-rdflib ', "The tags of a directory don't ascend.")
     """
-    if cause in CAUSES:
-        return CAUSES[cause].sentence, CAUSES[cause].remedy
+    if cause in OF_BLOCKS:
+        return OF_BLOCKS[cause]
     if cause in XMP_REMEDIES:
         return xmp.CAUSES[cause], XMP_REMEDIES[cause]
     return OTHER_REMEDIES.get(cause)
@@ -440,7 +398,18 @@ def _ended(text: str) -> str:
 
 def page() -> str:
     """The whole of docs/REFUSALS.md."""
-    return _wrapped(_INTRODUCTION) + "\n\n" + _tools_table() + "\n" + "\n".join(section(it) for it in _CAUSES)
+    return _wrapped(_INTRODUCTION) + "\n\n" + _tools_table() + "\n" + "\n".join(section(it) for it in _CAUSES) + "\n" + _heads()
+
+
+def _heads() -> str:
+    """The section on the head of a JPEG."""
+    lines = ["## The head of a JPEG", "", _filled(_OF_HEADS), "", "| Cause | Meaning | Remedy |", "|---|---|---|"]
+    return "\n".join([*lines, *(f"| {name} | {sentence} | {remedy} |" for name, (sentence, remedy) in OF_HEADS.items())]) + "\n"
+
+
+_OF_HEADS = """The head of a JPEG is all before its first scan, and its metadata are there (ITU-T T.81, B.1.1 and B.2). `exifnorm.jpeg_blocks`,
+`jpeg_parts`, `jpeg_same` and the calls of the C library for JPEGs refuse a head that is damaged, with its first fault and the byte offset
+from the picture's first byte. `exifnorm-pictures` reads the blocks before the fault, and says that the picture was not wholly read."""
 
 
 def _wrapped(text: str) -> str:

@@ -55,7 +55,7 @@ def read_head(stream: Stream, start: int, budget: Budget) -> Head:
     octets = _read(stream, start, HEAD)
     while True:
         parts, cause, place = _parts(octets, budget)
-        more = _read(stream, start + len(octets), len(octets)) if cause == "HeadCut" else b""
+        more = _read(stream, start + len(octets), len(octets)) if cause == "JpegCut" else b""
         if not more:
             break
         if len(octets) > budget.left[SEGMENT_BYTES]:
@@ -64,13 +64,13 @@ def read_head(stream: Stream, start: int, budget: Budget) -> Head:
     end = sum(parts[-1][3:]) if parts else 2
     budget.spend(SEGMENTS, len(parts))
     budget.spend(SEGMENT_BYTES, end)
-    if not cause or (cause == "HeadCut" and place == len(octets)):
+    if not cause or (cause == "JpegCut" and place == len(octets)):
         return Head(octets, parts, start + end)
     marker = start + max(len(octets) - len(octets[place:].lstrip(b"\xff")) - 1, place)  # after bytes FF that fill
     return Head(octets, parts, start + end, f"{_FAULTS[cause]} at {marker}")
 
 
-_FAULTS = {"HeadCut": "the file ends inside the segment", "NoMarker": "no marker", "LengthForm": "no segment", "NoStart": "no JPEG"}
+_FAULTS = {"JpegCut": "the file ends inside the segment", "JpegNoMarker": "no marker", "JpegLength": "no segment", "JpegNoStart": "no JPEG"}
 
 
 def _parts(octets: bytes, budget: Budget) -> Tuple[List[Row], str, int]:

@@ -1,0 +1,109 @@
+"""Each cause of a refusal in a sentence for people, and what helps."""
+
+from __future__ import annotations
+
+from typing import Dict, Tuple
+
+from ._errors import LIMIT
+
+_TOUCH = (
+    "`exifnorm-pictures mend`, which repairs the block and keeps the rest of the file. By hand let ExifTool add a field and remove it: it then"
+    " lays the block out again"
+)
+_OTHER = "Extract the block again; if the file itself is damaged, use another copy of the picture."
+_COPY = "Use another copy of the picture: a program has cut or overwritten this file."
+
+OF_BLOCKS: Dict[str, Tuple[str, str]] = {
+    "TooLong": (
+        f"The block is longer than {LIMIT:,} bytes.",
+        "Give the block and not the file that contains it. A real block of this length can't be normalised.",
+    ),
+    "UnknownKind": ("The input is neither an Exif block nor an IPTC record.", "A picture without metadata needs no remedy. " + _OTHER),
+    "HeaderCut": (
+        "The block ends inside its first eight bytes.",
+        _OTHER + " ExifTool can remove the segment: `exiftool -Exif:all= picture.jpg`.",
+    ),
+    "Loop": (
+        "An offset leads to a directory that was already read: following the offsets would never end.",
+        _TOUCH + " without the second pointer.",
+    ),
+    "DirectoryOutside": (
+        "A directory is not completely inside the block.",
+        "`exifnorm-pictures mend`; by hand, exiv2 adds a field and removes it (2 of 2); after piexif, ExifTool does the "
+        "same (69 of 69).",
+    ),
+    "EmptyDirectory": (
+        "A directory has no entry.",
+        _TOUCH + " without the empty directory (4 of 6). If that doesn't help, use the rebuild.",
+    ),
+    "Overlap": ("Two parts of the block share bytes.", _TOUCH + " with a copy for each value (7 of 8; all 12 of exiv2, all 69 of piexif)."),
+    "Unsorted": ("The tags of a directory don't ascend.", _TOUCH + " in order (8 of 10); the rebuild did the other two."),
+    "Doubled": (
+        "A directory has a tag twice.",
+        "`exifnorm-pictures mend`, which keeps the first of the two, or ExifTool's rebuild (4 of 4). Look at both values "
+        "first, and decide which is meant: `exiftool -a -G1 -s picture.jpg`.",
+    ),
+    "UnknownType": (
+        "A field has an unknown type.",
+        _TOUCH + ", if it knows the field. Otherwise use the rebuild, which leaves the field out.",
+    ),
+    "MisplacedOffset": (
+        "A field has offsets of data outside the directory that aren't followed here.",
+        "Give the picture itself to `exifnorm-pictures`, without `--block`. It takes each page and each SubIFD of a TIFF "
+        "as a block of its own and leaves these entries out, and takes the block of a raw picture through exiv2. In a JPEG "
+        "such fields point nowhere: the rebuild leaves them out.",
+    ),
+    "PointerForm": (
+        "A pointer, or an offset or length of the thumbnail, is not a LONG with a count of 1.",
+        _TOUCH + " with a LONG (1 of 1).",
+    ),
+    "ValueOutside": (
+        "A value passes the end of the block.",
+        "`exifnorm-pictures mend`; by hand, exiv2, which leaves the field empty, or ExifTool's rebuild, which leaves it "
+        "out (1 of 1). First look for an earlier copy of the picture.",
+    ),
+    "ThumbnailPair": (
+        "The offset or the length of the thumbnail is missing, or the lists of strips differ in length.",
+        _TOUCH + " without the incomplete pair. Otherwise use the rebuild. `exiftool '-ThumbnailImage<=small.jpg'` writes a new thumbnail.",
+    ),
+    "ExtraDirectory": (
+        "A further directory follows the thumbnail directory.",
+        "`exifnorm-pictures mend`. Look at the fields of the third directory first: `exiv2 -pa picture.jpg` shows it as Image2.",
+    ),
+    "ThumbnailOutside": (
+        "The thumbnail passes the end of the block.",
+        "`exifnorm-pictures mend`, which drops or cuts the thumbnail, or ExifTool's rebuild (2 of 2). `exiftool "
+        "'-ThumbnailImage<=small.jpg'` writes a new thumbnail.",
+    ),
+    "NoMarker": (
+        "There is no octet 1C where a DataSet must begin.",
+        "`exifnorm-pictures mend`: ExifTool or exiv2 writes the record again. ExifTool drops what follows the offset, "
+        "exiv2 keeps it: compare both.",
+    ),
+    "LengthForm": (
+        "The length of an extended DataSet has no octets, or more than four.",
+        "`exifnorm-pictures mend`: ExifTool writes the record again.",
+    ),
+    "DataSetCut": ("A DataSet passes the end of the block.", "`exifnorm-pictures mend`: the record is written again without the DataSet."),
+}
+"""The causes of a block's refusal, in the order of docs/FORMAT.md."""
+
+OF_HEADS: Dict[str, Tuple[str, str]] = {
+    "JpegNoStart": (
+        "The bytes don't begin as a JPEG does, with FF D8.",
+        "Give the bytes of a JPEG from their beginning. Other formats are read by `exifnorm_pictures`.",
+    ),
+    "JpegNoMarker": ("The head of the JPEG is damaged: there is no marker where a segment must begin.", _COPY),
+    "JpegLength": ("The head of the JPEG is damaged: a segment's length is less than 2.", _COPY),
+    "JpegCut": (
+        "The JPEG ends inside its head, before the first scan.",
+        "Give more of the file. If there is no more, the picture isn't whole: use another copy.",
+    ),
+    "JpegTooLong": (
+        "The blocks of the JPEG that are in several pieces are too long together.",
+        "No camera writes so much: the file was made to take memory. Don't compare it.",
+    ),
+}
+"""The causes of a JPEG's refusal, of which a part before the first scan is damaged or missing."""
+
+WORDS = {**OF_BLOCKS, **OF_HEADS}
