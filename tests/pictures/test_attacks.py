@@ -167,6 +167,19 @@ class TestCurrentFolder:
         (folder / "bin" / "script").write_text("import sys\nfrom exifnorm_pictures.cli.main import main\nsys.exit(main())\n")
         self.see_that_it_runs([sys.executable, "bin/script"], folder, os.pathsep.join((python, path)))
 
+    @pytest.mark.parametrize("path", (":{}", ".:{}", "{}:", "bin:{}"))
+    def test_programs(self, folder, path):
+        """A program in the current folder isn't ExifTool, whatever PATH is."""
+        for program in (folder / "exiftool", folder / "bin" / "exiftool"):
+            program.write_text("#!/bin/sh\n: >taken\n")
+            program.chmod(0o755)
+        write(folder / "a.xcf", b"gimp xcf file")  # a format without a reader here
+        environment = {**Studio.environment(), "PATH": path.format("/usr/sbin")}
+        done = subprocess.run(
+            [sys.executable, "-m", "exifnorm_pictures", "show", "a.xcf"], cwd=folder, capture_output=True, env=environment
+        )
+        assert done.returncode == 2 and not (folder / "taken").exists(), done
+
     def see_that_it_runs(self, command, folder, path):
         done = subprocess.run(
             [*command, "same", "--catalogue", "nothing"], cwd=folder, capture_output=True, env={**Studio.environment(), "PYTHONPATH": path}

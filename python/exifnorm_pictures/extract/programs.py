@@ -54,15 +54,20 @@ class Done(NamedTuple):
 
 def needed(program: str) -> str:
     """The path of a program. Raises `Missing` if it isn't installed."""
-    found = shutil.which(program)
-    if found is None:
+    path = _path_of(program)
+    if path is None:
         raise Missing(program)
-    return found
+    return path
 
 
 def is_there(program: str) -> bool:
     """Whether a program is installed."""
-    return shutil.which(program) is not None
+    return _path_of(program) is not None
+
+
+def _path_of(program: str) -> Optional[str]:
+    """Where PATH has a program. Its empty and relative parts are passed over: they may lead to a stranger's folder."""
+    return shutil.which(program, path=os.pathsep.join(filter(os.path.isabs, os.get_exec_path())))
 
 
 def exiftool(*words: str) -> List[str]:
