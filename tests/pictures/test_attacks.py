@@ -15,8 +15,9 @@ from pathlib import Path
 
 import pytest
 from attacks import FILES
+from made_blocks import BLOCKS, with_exif
 from made_files import app1, app1_xmp, exif, jpeg, packed_zeros, title
-from studio import TOP, Studio, write
+from studio import SMALL_JPEG, TOP, Studio, write
 
 SECONDS, MEMORY = 50, 256 << 20  # none takes a tenth of this time; one that goes through its data again and again takes far more
 GUARD = 120, 3 << 30  # what ends a process, so that a fault harms nothing else
@@ -173,12 +174,12 @@ class TestCurrentFolder:
         for program in (folder / "exiftool", folder / "bin" / "exiftool"):
             program.write_text("#!/bin/sh\n: >taken\n")
             program.chmod(0o755)
-        write(folder / "a.xcf", b"gimp xcf file")  # a format without a reader here
+        write(folder / "a.jpg", with_exif(SMALL_JPEG, BLOCKS["UnknownKind"]))
         environment = {**Studio.environment(), "PATH": path.format("/usr/sbin")}
         done = subprocess.run(
-            [sys.executable, "-m", "exifnorm_pictures", "show", "a.xcf"], cwd=folder, capture_output=True, env=environment
+            [sys.executable, "-m", "exifnorm_pictures", "mend", "a.jpg", "b.jpg"], cwd=folder, capture_output=True, env=environment
         )
-        assert done.returncode == 2 and not (folder / "taken").exists(), done
+        assert b"isn't installed" in done.stdout and not (folder / "taken").exists(), done
 
     def see_that_it_runs(self, command, folder, path):
         done = subprocess.run(
