@@ -16,13 +16,14 @@ from .comparison.conflicts import chosen, conflicts
 from .extract import extraction, programs
 from .extract.formats.streams import File, Memory
 from .fields import labels, listing, plain_values, typed
+from .fields.block_fields import fields_of
 from .fields.plain_names import exact_key, group_name
 from .files import opening
 from .judge.judge import judge_all
 from .judge.reading import Reading
 from .model.budgets import Budget, TooMuch
 from .model.found import NAMES, PROBLEMS, Blocks
-from .model.records import WORDS, Block as Judged, PictureRecord, Stamp, is_marked_as
+from .model.records import WORDS, Block as Judged, Picture as Record, Stamp, is_marked_as
 from .model.texts import described
 from .model.verdicts import ACCEPTED, SAME
 
@@ -251,7 +252,7 @@ class Block:
     def fields(self) -> Tuple[Field, ...]:
         """Its fields, which are made when they are first asked for; of a refused block those after a repair in memory, if one is known."""
         if self._fields is None:
-            self._fields = tuple(Field(it, self.name) for it in self._judged.fields)
+            self._fields = tuple(Field(it, self.name) for it in fields_of(self._judged))
         return self._fields
 
     @property
@@ -288,7 +289,7 @@ class Picture:
         self._name, self._reading, self._path, self._stamp = name, reading, path, stamp
         self._blocks: Optional[Tuple[Block, ...]] = None
         self._names: Optional[Dict[str, List[Field]]] = None
-        self._made: Optional[PictureRecord] = None
+        self._made: Optional[Record] = None
 
     @property
     def name(self) -> str:
@@ -333,18 +334,16 @@ class Picture:
     def key(self) -> Optional[str]:
         """A text that two pictures share exactly if their Exif, IPTC and XMP mean the same. None if there is no metadata, a block is refused or a
         part was not read, so that two such pictures never seem to be equal."""
-        meanings = self._record().picture().meanings
+        meanings = self._record().meanings
         if not self.is_whole or None in meanings or not any(meanings):
             return None
         return "+".join(it or "-" for it in meanings)
 
-    def _record(self) -> PictureRecord:
+    def _record(self) -> Record:
         """The picture as the commands have it."""
         if self._made is None:
             reading = self._reading
-            self._made = PictureRecord.of(
-                os.path.abspath(self._path) if self._path else b"", b"", self._stamp, reading.read, reading.blocks
-            )
+            self._made = Record.found(os.path.abspath(self._path) if self._path else b"", b"", self._stamp, reading.read, reading.blocks)
         return self._made
 
     def find(self, name: str) -> Tuple[Field, ...]:

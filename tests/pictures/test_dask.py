@@ -17,7 +17,7 @@ from studio import SMALL_JPEG, Studio, WithPictures, interpreter_with, needs, ru
 
 from exifnorm_pictures.extract import programs
 from exifnorm_pictures.files import session
-from exifnorm_pictures.model.records import PictureRecord, Stamp
+from exifnorm_pictures.model.records import Picture, Stamp
 from exifnorm_pictures.scan import cluster
 from exifnorm_pictures.scan.batches import How
 from exifnorm_pictures.scan.walk import FoundFile
@@ -222,7 +222,7 @@ def found(name, root=b"/p", size=1):
 
 
 def entry(it, **more):
-    return PictureRecord(it.path, it.root, it.stamp, **more)
+    return Picture.of(it.path, it.root, it.stamp, **more)
 
 
 class Tasks(unittest.TestCase):
@@ -233,7 +233,7 @@ class Tasks(unittest.TestCase):
     def looked(self, near, work, elsewhere=None, seconds=60.0):
         """The results for some files, each looked at as if it were a GIF."""
         with mock.patch.multiple(cluster, create=True, distributed=near, KilledWorker=Killed, CommClosedError=Closed), mock.patch.object(
-            cluster.looking, "look", lambda it, whole: PictureRecord(it.path, it.root, it.stamp, "GIF" if whole else "JPEG")
+            cluster.looking, "look", lambda it, whole: Picture.of(it.path, it.root, it.stamp, "GIF" if whole else "JPEG")
         ), session.Session(1.0) as now:
             looker = cluster.looker(FAR, elsewhere, [b"/"])
             result = list(looker(work, How(seconds=seconds, room="/tmp/room", whole=True)))
@@ -261,7 +261,7 @@ class Tasks(unittest.TestCase):
         self.assertEqual(near.waits, [(number, 2.0, "FIRST_COMPLETED") for number in (5, 4, 3, 2, 1)])
         self.assertEqual(self.seconds, 60.0)
         # there are no such files here, so they have no marks there
-        self.assertEqual(result, [PictureRecord(it.path, it.root, None, "GIF") for it in work])
+        self.assertEqual(result, [Picture.of(it.path, it.root, None, "GIF") for it in work])
         self.assertEqual((self.looked(near, []), len(near.calls)), ([], 7))
 
     def test_the_same_folder_at_another_path(self):
@@ -274,22 +274,22 @@ class Tasks(unittest.TestCase):
             result,
             [
                 entry(found(b"a", size=4), type="GIF"),
-                PictureRecord(b"/p/b", b"/p", None, "GIF"),
-                PictureRecord(b"/p/a", b"/p", None, "GIF"),
+                Picture.of(b"/p/b", b"/p", None, "GIF"),
+                Picture.of(b"/p/a", b"/p", None, "GIF"),
             ],
         )
 
     def test_results_of_workers(self):
         work = [found(b"a"), found(b"b"), found(b"c")]
         outcome = [
-            PictureRecord(b"/there/a", b"/there", None, problem="Vanished", detail="gone"),
-            PictureRecord(b"/there/b", b"/there", Stamp(1, 9, 9, 9), "PNG"),
-            PictureRecord(b"/there/c", b"/there", Stamp(2, 2, 3, 4), problem="NoPicture", detail="no"),
+            Picture.of(b"/there/a", b"/there", None, problem="Vanished", detail="gone"),
+            Picture.of(b"/there/b", b"/there", Stamp(1, 9, 9, 9), "PNG"),
+            Picture.of(b"/there/c", b"/there", Stamp(2, 2, 3, 4), problem="NoPicture", detail="no"),
         ]
-        missing = PictureRecord(b"/p/a", b"/p", None, problem="Unreadable", detail="the worker has no such file: '/there/a'")
+        missing = Picture.of(b"/p/a", b"/p", None, problem="Unreadable", detail="the worker has no such file: '/there/a'")
         self.assertEqual(
             self.looked(Near([outcome]), work),
-            [missing, entry(work[1], type="PNG"), PictureRecord(b"/p/c", b"/p", None, problem="NoPicture", detail="no")],
+            [missing, entry(work[1], type="PNG"), Picture.of(b"/p/c", b"/p", None, problem="NoPicture", detail="no")],
         )
         why = "the worker failed: ValueError: no package"
         self.assertEqual(self.looked(Near([ValueError("no package")]), work), [entry(it, problem="ToolFailed", detail=why) for it in work])

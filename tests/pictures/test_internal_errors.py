@@ -18,7 +18,7 @@ from exifnorm_pictures.fields.listing import exact
 from exifnorm_pictures.judge import judge
 from exifnorm_pictures.model import records
 from exifnorm_pictures.model.found import Blocks, NotRead
-from exifnorm_pictures.model.records import Block, Damaged, PictureRecord, Stamp
+from exifnorm_pictures.model.records import Block, Damaged, Picture, Stamp
 from made_files import jpeg, png as made_png
 from studio import run
 
@@ -52,7 +52,7 @@ def of_pictures(name, *paths):
     parts = (NotRead("a part", "1" * 64),)
     made.put(
         made.begin_run("2000-01-01T00:00:00Z"),
-        [PictureRecord(it, b"/", Stamp(1, 2, 3, 4), "JPEG", blocks=(block,), not_read=parts) for it in paths],
+        [Picture.of(it, b"/", Stamp(1, 2, 3, 4), "JPEG", blocks=(block,), unread=parts) for it in paths],
     )
     return made
 
@@ -60,7 +60,7 @@ def of_pictures(name, *paths):
 @pytest.mark.parametrize(
     "words, module, name",
     [
-        (["index", "p", "--catalogue", "c", "--quiet", "--jobs", "1"], PictureRecord, "picture"),
+        (["index", "p", "--catalogue", "c", "--quiet", "--jobs", "1"], store, "put_rows"),
         (["same", "--catalogue", "c"], store, "_check_head"),
         (["changed", "c", "c"], pairs.Pairs, "_pair_of_row"),
         (["changed", "c", "c"], pairs.Pairs, "_pair"),
@@ -184,9 +184,9 @@ def test_fields_of_a_picture_have_a_limit(monkeypatch):
     blocks = Blocks()
     for number in range(5):
         blocks.add("iim", b"\x1c\2\x78\0\x64" + bytes(range(32, 132)), f"page {number}")
-    (one,) = {it.kept for it in judge.judge_all(blocks, packs=True)}
+    (one,) = {it.packed for it in judge.judge_all(blocks, packs=True)}
     monkeypatch.setattr(judge, "KEPT_BYTES", 2 * len(one))
-    kept = [packing.unpacked(it.kept) for it in judge.judge_all(blocks, packs=True)]
+    kept = [packing.unpacked(it.packed) for it in judge.judge_all(blocks, packs=True)]
     assert [it[0].where for it in kept] == ["iptc", "iptc", "", "", ""]
     assert exact(kept[-1][0]).startswith("too many to be kept; sha256:") and kept[-1] == kept[-2]
 

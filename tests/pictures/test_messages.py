@@ -21,7 +21,7 @@ from exifnorm_pictures.extract import exiftool, extraction, programs
 from exifnorm_pictures.files import atomic, opening, session, signals
 from exifnorm_pictures.model import records
 from exifnorm_pictures.model.found import PROBLEMS, NotRead
-from exifnorm_pictures.model.records import Block, Damaged, Digests, PictureRecord, Stamp
+from exifnorm_pictures.model.records import Block, Damaged, Picture, Stamp
 from exifnorm_pictures.scan import looking, progress, walk, workers
 from exifnorm_pictures.scan.batches import How
 from exifnorm_pictures.scan.walk import FoundFile
@@ -375,8 +375,8 @@ class Messages(WithPictures):
 
     def test_of_files(self):
         found = FoundFile(b"/a", b"/", Stamp(1, 2, 3, 4))
-        at, rest = PictureRecord(b"/a", b"/", None), {"digests": Digests(None, None, None, None, None, "", "", "", "", None, "")}
-        marked = at._replace(stamp=found.stamp)
+        at, rest = Picture(path=b"/a", root=b"/"), {}
+        marked = at.stamped(found.stamp)
         for why, expected in (
             (programs.Failed("exiv2 failed"), marked._replace(problem="ToolFailed", detail="exiv2 failed", extractor="own", **rest)),
             (OSError(13, "Permission denied"), at._replace(problem="Unreadable", detail="permission denied")),
@@ -470,9 +470,9 @@ class OfPictures(unittest.TestCase):
                 ["Unreadable: why"],
                 {"problem": "Unreadable", "detail": "why", "blocks": [], "not_read": []},
             ),
-            ({"not_read": parts}, [], {"blocks": [], "not_read": ["a trailer", "a chunk"]}),
+            ({"unread": parts}, [], {"blocks": [], "not_read": ["a trailer", "a chunk"]}),
             (
-                {"blocks": (at_0, good, packet), "not_read": parts[:1]},
+                {"blocks": (at_0, good, packet), "unread": parts[:1]},
                 ["Exif: refused: Overlap at 0", "XMP: unreadable: NoRDF"],
                 {
                     "blocks": [
@@ -495,7 +495,7 @@ class OfPictures(unittest.TestCase):
                 },
             ),
         ):
-            it = PictureRecord(b"/a\n\xff", b"/", type="JPEG")._replace(**more)
+            it = Picture.of(b"/a\n\xff", b"/", type="JPEG", **more)
             self.assertEqual(output.record_lines(it), [f"/a\\n\\xff: {line}" for line in printed])
             shape = {
                 "schema": "exifnorm-pictures/index/1",
@@ -510,6 +510,6 @@ class OfPictures(unittest.TestCase):
 
     def test_a_folder_that_cannot_be_read(self):
         """It is in no folder of a catalogue; a file that can't be read has its own row."""
-        it = PictureRecord(b"/a\n/b", b"", problem="Unreadable", detail="permission denied")
+        it = Picture.of(b"/a\n/b", b"", problem="Unreadable", detail="permission denied")
         self.assertEqual(output.closed_folder(it), ["the folder /a\\n/b can't be read: permission denied"])
         self.assertEqual(output.closed_folder(it._replace(root=b"/a")), [])

@@ -8,7 +8,7 @@ from unittest import mock
 
 from exifnorm_pictures.comparison.conflicts import Conflict
 from exifnorm_pictures.fields.labels import LabelText
-from exifnorm_pictures.model.records import PictureRecord
+from exifnorm_pictures.model.records import Picture
 from exifnorm_pictures.report import contents, page as report
 from exifnorm_pictures.report.contradictions import Contradictions
 from exifnorm_pictures.report.style import STYLE
@@ -31,7 +31,7 @@ def small_pictures(paths):
 
 
 def problem(name, word, detail=""):
-    return PictureRecord(name, b"/p", problem=word, detail=detail).picture(1)
+    return Picture.of(name, b"/p", problem=word, detail=detail)._replace(id=1)
 
 
 def different(label, detail="", **texts):

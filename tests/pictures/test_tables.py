@@ -23,7 +23,7 @@ from exifnorm_pictures.fields import normal_form
 from exifnorm_pictures.fields.listing import Field, numbers_text
 from exifnorm_pictures.fields.packing import packed
 from exifnorm_pictures.model.found import EXIF, IPTC, NAMES, XMP, NotRead
-from exifnorm_pictures.model.records import Block, Digests, PictureRecord, Stamp
+from exifnorm_pictures.model.records import PICTURES, Block, Picture, Stamp
 from exifnorm_pictures.report import contents
 from exifnorm_pictures.scan import looking
 
@@ -40,12 +40,12 @@ def block_of(kind, text):
     fields = packed([Field("main", "010f", "ASCII", len(text), text.encode())]).octets
     if text.startswith("!"):
         return Block(kind, NAMES[kind], "somewhere", "own", "refused", None, text[1:], 7, 100, digest(text))
-    return Block(kind, NAMES[kind], "somewhere", "own", "accepted", digest(text), None, None, 100, digest(text), kept=fields)
+    return Block(kind, NAMES[kind], "somewhere", "own", "accepted", digest(text), None, None, 100, digest(text), packed=fields)
 
 
 def written_since(it):
     """A picture to which somebody wrote: of the same file nothing is in doubt."""
-    return it._replace(stamp=it.stamp and it.stamp._replace(changed=it.stamp.changed + 1))
+    return it.stamped(it.stamp and it.stamp._replace(changed=it.stamp.changed + 1))
 
 
 def picture(name, blocks=BASE, parts=(), number=0, problem=None, root="/a", file=""):
@@ -54,7 +54,7 @@ def picture(name, blocks=BASE, parts=(), number=0, problem=None, root="/a", file
         raise ValueError(root)
     path = os.fsencode(f"{root.rstrip('/')}/{name}")
     number = number or int(digest(name)[:8], 16)
-    return PictureRecord(
+    return Picture.of(
         path,
         os.fsencode(root),
         Stamp(number, number, number, number),
@@ -64,9 +64,13 @@ def picture(name, blocks=BASE, parts=(), number=0, problem=None, root="/a", file
         "why" if problem else "",
         tuple(block_of(kind, text) for kind, text in ({} if problem else blocks).items()),
         tuple(parts),
-        None,
-        file,
+        file=file,
     )
+
+
+def with_blocks(it, blocks):
+    """A picture in the same file with other blocks, and without a problem."""
+    return Picture.of(it.path, it.root, it.stamp, it.type, it.extractor, None, it.detail, tuple(blocks), it.unread, file=it.file)
 
 
 class Tables(WithPictures):
@@ -78,7 +82,7 @@ class Tables(WithPictures):
         made.put(run, [it for it in pictures if it.problem not in ("Vanished", "Moved")])
         for it in pictures:
             if it.problem in ("Vanished", "Moved"):
-                made.put(run, [it._replace(problem=None, blocks=tuple(block_of(*one) for one in BASE.items()))])
+                made.put(run, [with_blocks(it, (block_of(*one) for one in BASE.items()))])
                 made.base.execute("UPDATE pictures SET problem = ? WHERE path = ?", (it.problem, it.path))
         return made
 
@@ -151,7 +155,7 @@ class Tables(WithPictures):
         ]
         after = [
             picture("new/file", {EXIF: "other"}, number=1),
-            picture("new/meaning", {EXIF: "2"}, number=2)._replace(stamp=Stamp(2, 9, 9, 9)),
+            picture("new/meaning", {EXIF: "2"}, number=2).stamped(Stamp(2, 9, 9, 9)),
             picture("new/bare", bare, number=33),
             picture("z/twin2", {EXIF: "4"}, number=4),
             picture("z/other", {EXIF: "4"}, number=4),
@@ -167,15 +171,15 @@ class Tables(WithPictures):
         self.assertEqual(counts, {"same": 1, "moved": 4, "missing after": 3, "missing before": 3})
 
     def test_the_same_file_comes_before_the_same_meaning(self):
-        before = [picture("a/p", {EXIF: "1"}, number=1), picture("b/p", {EXIF: "1"}, number=1)._replace(stamp=Stamp(1, 2, 2, 2))]
-        after = [picture("c/p", {EXIF: "1"}, number=1)._replace(stamp=Stamp(1, 2, 2, 2)), picture("d/p", {EXIF: "1"}, number=1)]
+        before = [picture("a/p", {EXIF: "1"}, number=1), picture("b/p", {EXIF: "1"}, number=1).stamped(Stamp(1, 2, 2, 2))]
+        after = [picture("c/p", {EXIF: "1"}, number=1).stamped(Stamp(1, 2, 2, 2)), picture("d/p", {EXIF: "1"}, number=1)]
         self.assertEqual(self.compared(before, after)[0], {"a/p": "d/p", "b/p": "c/p"})
-        after = [picture("a/q", {EXIF: "1"}, number=1), picture("c/p", {EXIF: "1"})._replace(stamp=Stamp(1, 7, 7, 7))]
+        after = [picture("a/q", {EXIF: "1"}, number=1), picture("c/p", {EXIF: "1"}).stamped(Stamp(1, 7, 7, 7))]
         self.assertEqual(self.compared(before[:1], after)[0], {"a/p": "a/q", "c/p": "missing before"})
 
     def test_the_same_name_comes_before_another_of_the_same_meaning(self):
-        before = [picture(name, {EXIF: "1"})._replace(stamp=Stamp(1, number, 0, number)) for number, name in enumerate(("a/p", "b/q"))]
-        after = [picture(name, {EXIF: "1"})._replace(stamp=Stamp(1, number, 0, number)) for number, name in ((7, "c/q"), (8, "d/p"))]
+        before = [picture(name, {EXIF: "1"}).stamped(Stamp(1, number, 0, number)) for number, name in enumerate(("a/p", "b/q"))]
+        after = [picture(name, {EXIF: "1"}).stamped(Stamp(1, number, 0, number)) for number, name in ((7, "c/q"), (8, "d/p"))]
         self.assertEqual(self.compared(before, after)[0], {"a/p": "d/p", "b/q": "c/q"})
 
     def test_chosen_pictures(self):
@@ -280,7 +284,7 @@ class Tables(WithPictures):
 
     def test_bytes_that_differ_in_one_kind(self):
         other = [it._replace(octets="0" * 64) if it.kind == IPTC else it for it in picture("a").blocks]
-        made = self.catalogue("c", picture("a")._replace(blocks=tuple(other)), picture("b"))
+        made = self.catalogue("c", with_blocks(picture("a"), other), picture("b"))
         self.assertEqual([it.sentence() for it in groups.groups(made, look=False)], ["Exif, IPTC and XMP are the same"])
         self.assertEqual([it.same_bytes for it in groups.groups(made, (EXIF,), look=False)], [True])
 
@@ -312,7 +316,7 @@ class Tables(WithPictures):
 
 def with_fields(kind, name, text, fields, by="own"):
     """An accepted block with these fields, by this program."""
-    return block_of(kind, text)._replace(name=name, extractor=by, kept=packed(fields).octets)
+    return block_of(kind, text)._replace(name=name, extractor=by, packed=packed(fields).octets)
 
 
 def make(text):
@@ -334,8 +338,8 @@ class Details(WithPictures):
         number = len(os.listdir(self.folder))
         sides = []
         for name, blocks in (("before", before), ("after", after)):
-            it = blocks if isinstance(blocks, PictureRecord) else picture("p", number=1)._replace(blocks=tuple(blocks))
-            by = "own" if isinstance(blocks, PictureRecord) or all(one.extractor == "own" for one in it.blocks) else "exiftool"
+            it = blocks if isinstance(blocks, Picture) else with_blocks(picture("p", number=1), blocks)
+            by = "own" if isinstance(blocks, Picture) or all(one.extractor == "own" for one in it.blocks) else "exiftool"
             sides.append(self.catalogue(f"{name}{number}", (it if name == "before" else written_since(it))._replace(extractor=by)))
         (found,) = changed.changed(*sides, Counter(), every=True)
         return (
@@ -522,11 +526,12 @@ class File(WithPictures):
 
     def test_each_column(self):
         """A picture is written, and read again, with each value under its own name."""
-        compared = {it: it for it in Digests._fields}
+        names = PICTURES.names[PICTURES.names.index("exif") : PICTURES.names.index("file")]
+        compared = {it: it for it in names}
         marks = {"size": 1, "modified": 2, "changed": 3, "inode": 4, "device": 5}
         about = {"path": b"/a/b", "root": b"/a", "type": "JPEG", "extractor": "own", "problem": "TooSlow", "detail": "why"}
         more = {"file": "file", "coded_picture": "coded", "beside": "icc", "damage": "cut", "sha256": "whole", "sidecars": "beside"}
-        record = PictureRecord(**about, **more, stamp=Stamp(**marks), digests=Digests(**compared))
+        record = Picture.of(**about, **more, stamp=Stamp(**marks))._replace(**compared)
         with Catalogue(self.path("c"), make=True) as made:
             run = made.begin_run("2000-01-01T00:00:00Z")
             made.put(run, [record])
@@ -535,7 +540,7 @@ class File(WithPictures):
             made.base.row_factory = None
             (picture,) = made.pictures()
         self.assertEqual(row, {"id": 1, **about, **marks, **compared, **more, "run": run})
-        self.assertEqual(picture._asdict(), {name: value for name, value in row.items() if name != "run"})
+        self.assertEqual(picture, record._replace(id=1))
 
     def settings(self, made):
         names = ("application_id", "user_version", "foreign_keys", "journal_mode", "synchronous", "cache_size", "busy_timeout")

@@ -22,7 +22,7 @@ from exifnorm_pictures.files import signals
 from exifnorm_pictures.judge import judge
 from exifnorm_pictures.model import found as found_
 from exifnorm_pictures.model.found import EXIF, PROBLEMS, NotRead
-from exifnorm_pictures.model.records import Block, Damaged, PictureRecord, Stamp, block_of_row
+from exifnorm_pictures.model.records import Block, Damaged, Picture, Stamp, block_of_row
 from exifnorm_pictures.scan import batches, index
 
 # The columns of each table that are read, and a value of another type in SQL for each type of a column, as SQLite keeps it there.
@@ -38,7 +38,7 @@ class RowsOfCatalogues(WithPictures):
         block = Block(EXIF, "Exif", "somewhere", "own", "refused", None, "Overlap", 34, 100, "0" * 64)
         made.put(
             made.begin_run("2000-01-01T00:00:00Z"),
-            [PictureRecord(it, b"/", Stamp(1, 2, 3, 4), "JPEG", blocks=(block,), not_read=(NotRead("a part", "1" * 64),)) for it in names],
+            [Picture.of(it, b"/", Stamp(1, 2, 3, 4), "JPEG", blocks=(block,), unread=(NotRead("a part", "1" * 64),)) for it in names],
         )
         return made
 

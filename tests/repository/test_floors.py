@@ -4,7 +4,6 @@ import ast
 from pathlib import Path
 
 FOLDER = Path(__file__).resolve().parents[2] / "python/exifnorm_pictures"
-KNOWN = {"model/records.py: from ..fields.listing import Field"}  # the type of what a block's fields are, for mypy alone
 FLOORS = "model files xmp fields extract judge refusals catalogue scan comparison report export cli".split()  # the lowest one first
 
 
@@ -19,8 +18,6 @@ def test_no_module_imports_from_a_floor_above() -> None:
                     to = [*base, *(getattr(node, "module", "") or "").split("."), *name.name.split(".")]
                     to = [word for word in to if word]
                     is_above = to[0] == FOLDER.name and FLOORS.index(to[1]) > FLOORS.index(package[1])
-                    if f"{path.relative_to(FOLDER)}: {ast.unparse(node)}" in KNOWN:
-                        continue
                     if is_above or (to[0] == "argparse" and package[1] != "cli"):
                         wrong.append(f"{path.relative_to(FOLDER)}, line {node.lineno}: {ast.unparse(node)}")
     assert not wrong, "imports from a floor above:\n" + "\n".join(sorted(wrong))

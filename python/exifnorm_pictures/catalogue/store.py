@@ -18,9 +18,10 @@ from typing import Any, Callable, Iterable, Iterator, List, NamedTuple, Optional
 
 from ..files import mounts, opening as files, signals
 from ..model.budgets import ROW_BYTES, STEPS
+from ..model.columns import Damaged
 from ..model.errors import Failure
 from ..model.found import NotRead
-from ..model.records import Block, Damaged, Picture, PictureRecord, Stamp, block_of_row, has, not_read_of_row, picture_of_row
+from ..model.records import BLOCKS, PICTURES, Block, Picture, Stamp, block_of_row, has, not_read_of_row, picture_of_row
 
 APPLICATION = 0x45584E50  # 'EXNP', which distinguishes a catalogue from other SQLite files
 VERSION = 6
@@ -28,7 +29,7 @@ CACHE = 32_000  # kB of a catalogue that is written to: digests go into its inde
 PATIENCE = 200  # milliseconds that closing waits for other programs; while they read, the write-ahead log stays
 WAIT = 10  # seconds for other processes that set the journal's mode
 
-_TABLES = """
+_TABLES = f"""
 CREATE TABLE runs (
     id INTEGER PRIMARY KEY,
     started TEXT NOT NULL,          -- UTC
@@ -38,57 +39,8 @@ CREATE TABLE runs (
     exiv2 TEXT,
     sidecars INTEGER NOT NULL       -- 1: XMP files beside pictures are blocks of them
 );
-CREATE TABLE pictures (
-    id INTEGER PRIMARY KEY,
-    path BLOB NOT NULL UNIQUE,      -- absolute, as the file system has it
-    root BLOB NOT NULL,             -- the folder that was indexed
-    size INTEGER,                   -- bytes
-    modified INTEGER,               -- nanoseconds since 1970, in 64 bits
-    changed INTEGER,                -- the same of the last change of the file's status (ctime)
-    inode INTEGER,
-    device INTEGER,                 -- the file system, which identifies a file together with the inode
-    type TEXT NOT NULL,             -- the format: JPEG, PNG .., or ExifTool's word
-    extractor TEXT NOT NULL,        -- which program extracted the blocks: own, exiftool
-    problem TEXT,                   -- why there are no blocks: Vanished, Moved, Unreadable, NoPicture, ToolFailed ..
-    detail TEXT NOT NULL,
-    exif TEXT,                      -- SHA-256 of what all blocks of a kind mean; empty: no such block; NULL: refused or not known
-    iptc TEXT,
-    xmp TEXT,
-    not_read TEXT,                  -- SHA-256 of what was not read; empty: all was read; NULL: it can't be compared
-    other_not_read TEXT,            -- the same without the bytes that only a MakerNote can reach
-    other_exif TEXT NOT NULL,       -- BLAKE2b of the fields of Exif without the MakerNotes, after repairs too; empty: there is none
-    exif_octets TEXT NOT NULL,      -- SHA-256 of the blocks of a kind as they are in the file; empty if there is none
-    iptc_octets TEXT NOT NULL,
-    xmp_octets TEXT NOT NULL,
-    exif_repaired TEXT,             -- SHA-256 of what the Exif blocks mean after repairs that lose nothing, if one is refused
-    maker_notes TEXT NOT NULL,      -- where the MakerNotes begin, which decides what they mean; empty if there is none
-    file TEXT NOT NULL,             -- SHA-256 of the whole file, if nothing else of it can be compared; else empty
-    coded_picture TEXT,             -- BLAKE2b of the coded picture; empty: not known of this file; NULL: not requested
-    beside TEXT NOT NULL,           -- BLAKE2b of its colour profiles and comments; empty: there is none, or not known
-    damage TEXT NOT NULL,           -- what is damaged in the coded picture; empty: nothing, or not known
-    sha256 TEXT,                    -- SHA-256 of the whole file; empty: it can't be read; NULL: not requested
-    sidecars TEXT NOT NULL,         -- names, sizes, times and inodes of its XMP sidecars; empty if there is none
-    run INTEGER NOT NULL REFERENCES runs(id)
-);
-CREATE TABLE blocks (
-    picture INTEGER NOT NULL REFERENCES pictures(id) ON DELETE CASCADE,
-    number INTEGER NOT NULL,        -- the order in the file
-    kind TEXT NOT NULL,             -- exif, iptc, xmp
-    name TEXT NOT NULL,             -- Exif, IPTC, XMP; of further blocks a name of their own
-    source TEXT NOT NULL,           -- its position in the file
-    extractor TEXT NOT NULL,        -- own, exiftool, exiv2
-    status TEXT NOT NULL,           -- accepted, refused, unreadable, too long, failed
-    digest TEXT,                    -- SHA-256 of the normal form, or of the statements of XMP; only of an accepted block
-    cause TEXT,                     -- of a block that isn't accepted: docs/FORMAT.md, section 5, or a cause of XMP
-    place INTEGER,
-    length INTEGER NOT NULL,        -- bytes of the block
-    octets TEXT NOT NULL,           -- SHA-256 of the block as it is in the file
-    repair TEXT,                    -- of a refused block: the steps after which it is accepted, JSON: cause, what was done, what is lost
-    repaired TEXT,                  -- SHA-256 of what it means after them
-    note INTEGER,                   -- where its MakerNote begins: in the block, or in a TIFF, whose block is laid out anew, in the file
-    fields BLOB,                    -- its fields: JSON, compressed by zlib if it is long; of a refused block, those after repair
-    PRIMARY KEY (picture, number)
-) WITHOUT ROWID;
+{PICTURES.table("pictures")}
+{BLOCKS.table("blocks", " WITHOUT ROWID")}
 CREATE TABLE not_read (
     picture INTEGER NOT NULL REFERENCES pictures(id) ON DELETE CASCADE,
     number INTEGER NOT NULL,
@@ -105,22 +57,23 @@ CREATE INDEX pictures_by_coded_picture ON pictures (coded_picture) WHERE coded_p
 CREATE INDEX pictures_by_other_exif ON pictures (other_exif) WHERE other_exif != '';
 """
 
-PICTURE_COLUMNS, _BUT_ID = ", ".join(Picture._fields), ", ".join(Picture._fields[1:])
-BLOCK_COLUMNS = ", ".join(("number", *Block._fields[:-2]))
+PICTURE_COLUMNS, _BUT_ID = PICTURES.listed, PICTURES.listed.partition(", ")[2]
+BLOCK_COLUMNS = BLOCKS.listed
+_WIDTH = len(PICTURES.names)
 # A row that replaces another of the same path takes the other's blocks and parts with it, by ON DELETE CASCADE.
-_PUT_PICTURE = f"INSERT OR REPLACE INTO pictures ({PICTURE_COLUMNS}, run) VALUES (?{', ?' * len(Picture._fields)})"
-_PUT_BLOCK = f"INSERT INTO blocks (picture, {BLOCK_COLUMNS}, fields) VALUES (?{', ?' * (BLOCK_COLUMNS.count(',') + 2)})"
+_PUT_PICTURE = f"INSERT OR REPLACE INTO pictures ({PICTURE_COLUMNS}, run) VALUES (?{', ?' * _WIDTH})"
+_PUT_BLOCK = f"INSERT INTO blocks (picture, number, {BLOCK_COLUMNS}) VALUES (?, ?{', ?' * len(BLOCKS.names)})"
 _ADD_ROWS = (
     "DELETE FROM main.pictures WHERE path IN (SELECT path FROM {other}.pictures)",
     f"INSERT INTO main.pictures ({PICTURE_COLUMNS}, run) SELECT id + :pictures, {_BUT_ID}, run + :runs FROM {{other}}.pictures",
-    f"INSERT INTO main.blocks (picture, {BLOCK_COLUMNS}, fields) SELECT picture + :pictures, {BLOCK_COLUMNS}, fields FROM {{other}}.blocks",
+    f"INSERT INTO main.blocks (picture, number, {BLOCK_COLUMNS}) SELECT picture + :pictures, number, {BLOCK_COLUMNS} FROM {{other}}.blocks",
     "INSERT INTO main.not_read SELECT picture + :pictures, number, what, digest FROM {other}.not_read",
     "INSERT INTO main.maker_notes SELECT picture + :pictures, readings FROM {other}.maker_notes",
 )
 # The same tables without keys, for rows that are only written and read once
 _ROWS = (
     f"CREATE TABLE pictures ({PICTURE_COLUMNS}, run)",
-    f"CREATE TABLE blocks (picture, {BLOCK_COLUMNS}, fields)",
+    f"CREATE TABLE blocks (picture, number, {BLOCK_COLUMNS})",
     "CREATE TABLE not_read (picture, number, what, digest)",
     "CREATE TABLE maker_notes (picture, readings)",
 )
@@ -399,7 +352,7 @@ class Catalogue:
                     self.base.execute("ROLLBACK")
                 raise
 
-    def put(self, run: int, entries: Iterable[PictureRecord], files: Sequence[str] = ()) -> None:
+    def put(self, run: int, entries: Iterable[Picture], files: Sequence[str] = ()) -> None:
         """Keeps some pictures, and those of `files`, which `make_rows` began, in one transaction; the last one with a path counts."""
         with contextlib.ExitStack() as attached:
             names = [attached.enter_context(self.attached(name, f"batch{number}")) for number, name in enumerate(files)]
@@ -433,7 +386,7 @@ class Catalogue:
         """The greatest number of a row."""
         return int(self.base.execute(f"SELECT ifnull(max(id), 0) FROM main.{table}").fetchone()[0])
 
-    def _is_kept(self, run: int, it: PictureRecord) -> bool:
+    def _is_kept(self, run: int, it: Picture) -> bool:
         """Whether a picture that can't be read now was known before. Its earlier results are kept."""
         if it.problem in KEPT_BEFORE:
             words = (it.problem, it.detail, run, it.path)
@@ -501,10 +454,10 @@ class Catalogue:
         query = "SELECT what, digest FROM not_read WHERE picture = ? ORDER BY number"
         return list(self.rows(query, (picture.id,), not_read_of_row))
 
-    def blocks_of(self, picture: Picture) -> List[Tuple[Block, bytes]]:
-        """The blocks of a picture, each with its packed fields; empty if they aren't kept."""
-        query = f"SELECT {BLOCK_COLUMNS}, fields FROM blocks WHERE picture = ? ORDER BY number"
-        return list(self.rows(query, (picture.id,), _block_with_fields))
+    def blocks_of(self, picture: Picture) -> List[Block]:
+        """The blocks of a picture."""
+        query = f"SELECT {BLOCK_COLUMNS} FROM blocks WHERE picture = ? ORDER BY number"
+        return list(self.rows(query, (picture.id,), block_of_row))
 
     def choose(self, paths: Iterable[bytes]) -> str:
         """A temporary table of paths; its name."""
@@ -562,20 +515,14 @@ def make_rows(base: sqlite3.Connection) -> None:
         base.execute(it)
 
 
-def put_rows(base: sqlite3.Connection, run: int, first: int, entries: Iterable[PictureRecord]) -> None:
+def put_rows(base: sqlite3.Connection, run: int, first: int, entries: Iterable[Picture]) -> None:
     """Adds rows for some pictures, which get the numbers from `first` on."""
     numbered = list(enumerate(entries, first))
-    base.executemany(_PUT_PICTURE, [(*it.picture(number), run) for number, it in numbered])
+    base.executemany(_PUT_PICTURE, [(number, *it[1:_WIDTH], run) for number, it in numbered])
     base.executemany(_PUT_BLOCK, [(number, at, *block.row()) for number, it in numbered for at, block in enumerate(it.blocks)])
     base.executemany("INSERT INTO maker_notes VALUES (?, ?)", [(number, it.notes) for number, it in numbered if it.notes])
-    parts = [(number, at, part.what, part.digest) for number, it in numbered for at, part in enumerate(it.not_read)]
+    parts = [(number, at, part.what, part.digest) for number, it in numbered for at, part in enumerate(it.unread)]
     base.executemany("INSERT INTO not_read VALUES (?, ?, ?, ?)", parts)
-
-
-def _block_with_fields(row: Tuple[Any, ...]) -> Tuple[Block, bytes]:
-    packed = b"" if row[-1] is None else row[-1]
-    has(bytes, packed)
-    return block_of_row(row[:-1]), packed
 
 
 def root_of_row(row: Tuple[bytes]) -> bytes:

@@ -11,11 +11,12 @@ from typing import Iterator, List, Optional, Sequence
 from ..comparison import changed as changes, coded
 from ..comparison.two_pictures import Comparison, Row, compare, read, with_position
 from ..comparison.wording import NONE, tag_of
+from ..fields.block_fields import fields_of
 from ..fields.choosing import Choice
 from ..fields.left_out import lines
 from ..fields.typed import together
 from ..model import verdicts
-from ..model.records import WORDS, PictureRecord
+from ..model.records import WORDS, Picture
 from ..model.texts import Members, escaped, shown_path
 from ..scan.batches import How
 from .changed import status_of
@@ -49,11 +50,11 @@ def run(arguments: argparse.Namespace) -> int:
     return _status(found)
 
 
-def _choice(arguments: argparse.Namespace, *records: PictureRecord) -> Choice:
+def _choice(arguments: argparse.Namespace, *records: Picture) -> Choice:
     """The fields that count. Raises `UnknownField` for a name that is no field's, and that neither picture has."""
     choice = choice_of(arguments)
     for block in (block for record in records for block in record.blocks) if choice else ():
-        choice.see(block.fields, other_name(block.name))
+        choice.see(fields_of(block), other_name(block.name))
     refuse_unknown(choice, ())
     return choice
 
@@ -200,7 +201,7 @@ def _print_table(found: Comparison, rows: Sequence[Row], names: Sequence[bytes])
 def _members(found: Comparison, rows: Sequence[Row], names: Sequence[bytes]) -> Members:
     pictures = []
     for name, it in zip(names, found.records):
-        unread = [part.what for part in it.not_read]
+        unread = [part.what for part in it.unread]
         about = {"type": it.type or None, "not_read": unread, "damage": it.damage or None}
         pictures.append({**picture_object(name, it.problem, it.detail), **about})
     whole: Members = {"pictures": pictures, "result": found.result, "identical_files": found.is_identical}

@@ -5,6 +5,7 @@ from __future__ import annotations
 import argparse
 from typing import List
 
+from ..fields.block_fields import fields_of
 from ..model import steps
 from ..model.found import EXIF, XMP, FoundBlock
 from ..model.records import Block
@@ -32,7 +33,7 @@ def _repair(it: Block) -> List[str]:
     """The repair in memory of a refused Exif block, and what it loses."""
     if not it.repair:
         return ["  Repair in memory: none is known"] if it.status == REFUSED and it.kind == EXIF else []
-    fields = len(it.fields)
+    fields = len(fields_of(it))
     lines = [f"  Repair in memory: {steps.words(it.steps)}; then {fields} fields are read, see show"]
     lost = steps.loses(it.steps)
     return lines + [f"  That repair loses {' and '.join(lost)}: by it, nothing is called the same"] * bool(lost)

@@ -10,7 +10,7 @@ from ..catalogue.store import Catalogue, head_is_ours
 from ..catalogue.texts import texts_of
 from ..extract.named import blocks_of
 from ..fields.labels import LabelText
-from ..fields.packing import unpacked
+from ..fields.block_fields import fields_of
 from ..files import opening
 from ..judge.reading import Reading
 from ..model import steps
@@ -52,7 +52,7 @@ def _in_catalogue(name: bytes) -> Iterator[Reading]:
             if it.problem in ("NoPicture", *NOT_THERE):
                 continue
             with catalogue.guarded():
-                blocks = [(block, unpacked(kept) if kept else []) for block, kept in catalogue.blocks_of(it)]
+                blocks = [(block, fields_of(block)) for block in catalogue.blocks_of(it)]
             found = texts_of(blocks)
             parts = catalogue.not_read_of(it) + [
                 NotRead(f"the {word}, which is too long for the catalogue", "") for word in sorted(found.missing)

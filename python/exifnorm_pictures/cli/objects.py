@@ -5,7 +5,7 @@ from __future__ import annotations
 import json
 from typing import List, Optional
 
-from ..model.records import WORDS, Block, PictureRecord
+from ..model.records import WORDS, Block, Picture
 from ..model.texts import Members, path_members
 
 # The version of a command's objects. It grows if a key is renamed or removed, or gets another meaning; a new key alone doesn't count.
@@ -40,8 +40,8 @@ def block_object(it: Block) -> Members:
     }
 
 
-def record_lines(it: PictureRecord) -> List[str]:
+def record_lines(it: Picture) -> List[str]:
     """The line for a picture that `index` looked at."""
     about = {**picture_object(it.path, it.problem, it.detail), "type": it.type or None}
-    unread = [one.what for one in it.not_read]
+    unread = [one.what for one in it.unread]
     return [line_of("index", "picture", {**about, "blocks": [block_object(one) for one in it.blocks], "not_read": unread})]

@@ -7,7 +7,7 @@ import re
 from typing import TYPE_CHECKING, List, Sequence
 
 from ..model.found import damage
-from ..model.records import WORDS, Block, PictureRecord
+from ..model.records import WORDS, Block, Picture
 from ..model.steps import loses, words
 from ..model.texts import Members, safe, shown_path
 from ..model.verdicts import ACCEPTED
@@ -34,23 +34,23 @@ def output(arguments: argparse.Namespace, lines: Sequence[str], members: Members
 DAMAGED = {"File is empty": "the file is empty", "Entire file is binary zeros": "the file has only zeros"}
 
 
-def record_lines(it: PictureRecord) -> List[str]:
+def record_lines(it: Picture) -> List[str]:
     """Lines for a picture with a problem: the problem, the refusal of a block, or what is left of a damaged file. None if the
     problem was there at the last run, which the counts say."""
-    if it.is_known or (it.problem is None and not it.not_read and all(one.status == ACCEPTED for one in it.blocks)):
+    if it.is_known or (it.problem is None and not it.unread and all(one.status == ACCEPTED for one in it.blocks)):
         return []
     name = shown_path(it.path)
     lines = []
     if it.problem and it.problem != "NoPicture":
         lines.append(f"{name}: {it.problem}: {it.detail}")
     lines += [f"{name}: {one.name}: {refused_line(one)}" for one in it.blocks if one.status != ACCEPTED]
-    lines += [f"{name}: not wholly read: {what}" for what in damage(one.what for one in it.not_read)]
+    lines += [f"{name}: not wholly read: {what}" for what in damage(one.what for one in it.unread)]
     if it.problem == "NoPicture" and it.detail in DAMAGED:
         lines.append(f"{name}: NoPicture: {DAMAGED[it.detail]}")
     return lines
 
 
-def closed_folder(it: PictureRecord) -> List[str]:
+def closed_folder(it: Picture) -> List[str]:
     """A line for a folder that can't be read, which has no row in a catalogue and so no folder above it."""
     return [] if it.root else [f"the folder {shown_path(it.path)} can't be read: {it.detail}"]
 

@@ -5,6 +5,7 @@ from __future__ import annotations
 import argparse
 from typing import Iterator, List
 
+from ..fields.block_fields import fields_of
 from ..fields.listing import Field, exact, readable
 from ..fields.plain_names import exact_key, group_name
 from ..fields.plain_values import plain
@@ -43,7 +44,7 @@ def run(arguments: argparse.Namespace) -> int:
 def _described(it: Block, is_exact: bool) -> Described:
     """The lines of a block."""
     by = f", extracted by {PROGRAMS[it.extractor]}" if it.extractor in PROGRAMS else ""
-    lines = list(readable(it.fields, it.name + by)) if is_exact else [f"{it.name}{by}:", *_plain_lines(it.fields)]
+    lines = list(readable(fields_of(it), it.name + by)) if is_exact else [f"{it.name}{by}:", *_plain_lines(fields_of(it))]
     return (lines if it.status == ACCEPTED else [*_repaired(it), *lines[1:]]), {}
 
 
@@ -71,7 +72,7 @@ def _print_rows(table: Table, it: Reading) -> None:
         note = "read after repair in memory" if block.repair else None
         if block.status != ACCEPTED:
             table.row(it.name, block.name, *_NO_FIELD, block.line + (f"; repaired in memory: {steps.words(block.steps)}" if note else ""))
-        for one in block.fields:
+        for one in fields_of(block):
             name = (group_name(one.where, one.key), exact_key(one.where, one.key))
             values = (*name, one.type, one.elements, plain(one), exact(one))
             table.row(it.name, block.name, *values, note)
@@ -102,7 +103,7 @@ def _members(it: Reading) -> Members:
 
 def _block_members(it: Block) -> Members:
     repair = [step._asdict() for step in it.steps]
-    return {"extractor": it.extractor, "repair": repair, "fields": list(map(_field_members, it.fields))}
+    return {"extractor": it.extractor, "repair": repair, "fields": list(map(_field_members, fields_of(it)))}
 
 
 def _field_members(it: Field) -> Members:

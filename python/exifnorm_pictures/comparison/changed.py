@@ -9,7 +9,7 @@ import heapq
 import sqlite3
 from collections import Counter
 from dataclasses import dataclass, field
-from typing import TYPE_CHECKING, Dict, Iterable, Iterator, List, Optional, Set, Tuple
+from typing import TYPE_CHECKING, Dict, Iterable, Iterator, List, Optional, Sequence, Set, Tuple
 
 from ..catalogue.store import Catalogue
 from ..fields.choosing import EVERYTHING, Choice
@@ -230,7 +230,7 @@ def _judge_maker_notes(it: Compared, one: Picture, other: Picture, pairs: Sides,
         return parts
     from ..judge import maker_notes  # which is seldom needed
 
-    found = maker_notes.compared(pairs.catalogues[BEFORE], one, pairs.catalogues[AFTER], other) if ask else None
+    found = maker_notes.compared(pairs, one, other) if ask else None
     if found is None:
         gone = [word for word, picture in (("earlier", one), ("later", other)) if ask and not maker_notes.is_there(picture)]
         if gone:
@@ -300,7 +300,7 @@ def _extracted(blocks: Iterable[Block]) -> str:
     return "".join(f"; extracted by {PROGRAMS[it]}" for it in PROGRAMS if it in used)
 
 
-def _add_details(it: Compared, blocks: List[List[Block]], pairs: Sides, parts: List[str], choice: Choice) -> None:
+def _add_details(it: Compared, blocks: List[Sequence[Block]], pairs: Sides, parts: List[str], choice: Choice) -> None:
     """Adds the fields that differ, and the causes of refusals."""
     left = _Left(choice)
     only_notes = True

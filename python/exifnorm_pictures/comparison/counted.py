@@ -12,7 +12,7 @@ from ..fields.listing import MAKER_NOTE, Field, exact
 from ..fields.packing import unpacked
 from ..model import steps
 from ..model.found import EXIF, NAMES
-from ..model.records import KINDS, WORDS, Picture, has, kind_of
+from ..model.records import KINDS, PICTURES, WORDS, has, kind_of
 from ..model.verdicts import ACCEPTED, joined
 from .differing import equal_form
 
@@ -69,7 +69,7 @@ def _columns(choice: Choice) -> str:
     made.update({f"{it}_octets": f"CASE WHEN remaining.{it} = '' THEN '' ELSE {it}_octets END" for it in WORDS.values()})
     if choice.leaves_out_maker_notes:
         made.update(maker_notes="''", not_read="other_not_read")
-    return ", ".join(f"{made.get(it, f'pictures.{it}')} AS {it}" for it in Picture._fields)
+    return ", ".join(f"{made.get(it, f'pictures.{it}')} AS {it}" for it in PICTURES.names)
 
 
 def _write(catalogue: Catalogue, rows: List[Tuple[object, ...]]) -> None:

@@ -216,12 +216,12 @@ class Fewest:
 def _fields_of(catalogue: Catalogue, group: Group, choice: Choice) -> Optional[int]:
     """The number of fields that count of the first picture, by its blocks; None if they aren't known."""
     count = 0
-    for block, packed in [] if group.members[0].file else catalogue.blocks_of(group.members[0]):
+    for block in [] if group.members[0].file else catalogue.blocks_of(group.members[0]):
         if block.kind not in group.kinds:
             continue
-        if not packed:
+        if not block.packed:
             return None
-        count += len(choice.of(unpacked(packed), "" if block.name in NAMES.values() else block.name))
+        count += len(choice.of(unpacked(block.packed), "" if block.name in NAMES.values() else block.name))
     return None if group.members[0].file else count
 
 

@@ -11,16 +11,17 @@ from typing import Callable, Iterator, List, NamedTuple, Optional, Set, Tuple, T
 
 from ..catalogue.store import BLOCK_COLUMNS, PICTURE_COLUMNS, Catalogue, NoCatalogue, address, check_schema, connect, unlike
 from ..fields.listing import Field
-from ..fields.packing import unpacked
+from ..fields.block_fields import fields_of
 from ..files import signals
+from ..model.columns import Damaged
 from ..model.found import NotRead
-from ..model.records import NOT_THERE, Block, Damaged, Picture, block_of_row, not_read_of_row, picture_of_row
+from ..model.records import NOT_THERE, PICTURES, Block, Picture, block_of_row, not_read_of_row, picture_of_row
 from ..scan.moved import content_key
 from . import coded
 
 BEFORE, AFTER = 0, 1  # the two sides
 _BASES, _ALIASES = ("before", "after"), ("old", "new")
-_WIDTH = len(Picture._fields)
+_WIDTH = len(PICTURES.names)
 
 # What is written goes to a temporary database, which is deleted with its connection: all pictures of an archive may have moved.
 _TABLES = """
@@ -163,7 +164,7 @@ class Pairs:
 
     def differing(self, every: bool = False) -> Iterator[Pair]:
         """The pictures before that aren't known to be the same, or all of them, in the order of their paths."""
-        columns = ", ".join(f"{alias}.{it}" for alias in _ALIASES for it in Picture._fields)
+        columns = ", ".join(f"{alias}.{it}" for alias in _ALIASES for it in PICTURES.names)
         query = (
             f"SELECT {columns}, place.path, moved.new, moved.is_edited FROM before.pictures AS old"
             f" LEFT JOIN after.pictures AS new ON new.path = {self._other_path(BEFORE)} AND {_is_there('new')}"
@@ -208,14 +209,17 @@ class Pairs:
         return Counter(dict(self._rows(f"SELECT {result}, count(*) {pictures} GROUP BY 1", lambda row: (str(row[0]), int(row[1])))))
 
     def blocks(self, side: int, picture: Picture) -> List[Block]:
-        """A picture's blocks, each with its packed fields."""
-        query = f"SELECT {BLOCK_COLUMNS}, fields FROM {_BASES[side]}.blocks WHERE picture = ? ORDER BY number"
-        return self._of(side, query, picture, lambda row: block_of_row(row[:-1])._replace(kept=row[-1]))
+        """A picture's blocks."""
+        query = f"SELECT {BLOCK_COLUMNS} FROM {_BASES[side]}.blocks WHERE picture = ? ORDER BY number"
+        return self._of(side, query, picture, block_of_row)
 
     def fields(self, side: int, block: Optional[Block]) -> List[Field]:
         """The fields of a block; none if they aren't kept, or if there is no block."""
-        packed = block.kept if block else None
-        return self._made(side, unpacked, packed) if packed else []
+        return self._made(side, fields_of, block) if block else []
+
+    def maker_notes(self, side: int, picture: Picture, made: Callable[[bytes], Made]) -> Optional[Made]:
+        """The result of `made` for what ExifTool read of a picture's MakerNotes, if it was asked."""
+        return self.catalogues[side].maker_notes(picture, made)
 
     def not_read(self, side: int, picture: Picture) -> List[NotRead]:
         """The parts of a picture that were not read."""

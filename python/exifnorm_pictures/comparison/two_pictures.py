@@ -6,15 +6,16 @@ import contextlib
 import filecmp
 import os
 from dataclasses import dataclass, field
-from typing import Callable, Dict, List, NamedTuple, Optional, Sequence, Tuple
+from typing import Dict, List, NamedTuple, Optional, Sequence, Tuple
 
+from ..fields.block_fields import fields_of
 from ..fields.choosing import EVERYTHING, Choice
 from ..fields.listing import MAKER_NOTE, Field
 from ..fields.plain_names import group_name
 from ..fields.plain_values import POSITION, plain, position
-from ..judge.sides import Made
-from ..model.found import NAMES, PROBLEMS, NotRead
-from ..model.records import KINDS, Block, Picture, PictureRecord, Stamp
+from ..judge.sides import Fresh
+from ..model.found import NAMES, PROBLEMS
+from ..model.records import KINDS, Picture, Stamp
 from ..model.verdicts import ABSENT, SAME
 from ..scan.batches import How
 from ..scan.looking import look
@@ -22,38 +23,6 @@ from ..scan.walk import FoundFile
 from .changed import DAMAGED, OTHER_PICTURE_ALONE, Compared, compared
 from .differing import Difference, exact
 from .pairs import Pair
-
-
-class _KeepsNothing(NamedTuple):
-    """In place of a catalogue: no reading of a MakerNote is kept."""
-
-    def maker_notes(self, picture: Picture, made: Callable[[bytes], Made]) -> Optional[Made]:
-        """None is kept."""
-        del picture, made
-        return None
-
-
-@dataclass
-class TwoFiles:
-    """Two files that were read just now, in place of two catalogues."""
-
-    records: Tuple[PictureRecord, PictureRecord]
-    catalogues: Tuple[_KeepsNothing, _KeepsNothing] = (_KeepsNothing(), _KeepsNothing())
-
-    def blocks(self, side: int, picture: Picture) -> List[Block]:
-        """A picture's blocks."""
-        del picture
-        return list(self.records[side].blocks)
-
-    def fields(self, side: int, block: Optional[Block]) -> List[Field]:
-        """The fields of a block."""
-        del side
-        return block.fields if block else []
-
-    def not_read(self, side: int, picture: Picture) -> List[NotRead]:
-        """The parts of a picture that were not read."""
-        del picture
-        return list(self.records[side].not_read)
 
 
 class Row(NamedTuple):
@@ -75,7 +44,7 @@ class Row(NamedTuple):
 class Comparison:
     """Two pictures, what `changed` finds, and the rows of a table."""
 
-    records: Tuple[PictureRecord, PictureRecord]
+    records: Tuple[Picture, Picture]
     found: Compared
     is_identical: bool
     rows: List[Row] = field(default_factory=list)
@@ -98,22 +67,22 @@ class Comparison:
         return (
             not is_other
             and all(it.result == ABSENT for it in self.found.verdicts)
-            and not any(it.problem or it.not_read for it in self.records)
+            and not any(it.problem or it.unread for it in self.records)
         )
 
 
-def read(name: bytes, how: How) -> PictureRecord:
+def read(name: bytes, how: How) -> Picture:
     """Reads a picture, as `index` does."""
     path = os.path.abspath(name)
     stamp = None
     with contextlib.suppress(OSError):
         stamp = Stamp.of(os.stat(path))
     if stamp is None and not os.path.lexists(path):
-        return PictureRecord(path, b"", problem="NoFile", detail=PROBLEMS["NoFile"])
+        return Picture.of(path, b"", problem="NoFile", detail=PROBLEMS["NoFile"])
     return look(FoundFile(path, os.path.dirname(path), stamp), how, packs=False)
 
 
-def compare(one: PictureRecord, other: PictureRecord, each: bool, ask: bool, choice: Choice = EVERYTHING) -> Comparison:
+def compare(one: Picture, other: Picture, each: bool, ask: bool, choice: Choice = EVERYTHING) -> Comparison:
     """Compares two pictures that were read, by the fields that count. `ask` asks ExifTool for the values of MakerNotes; `each` has a row for
     each that differs."""
     found = compared_records(one, other, ask, choice)
@@ -125,9 +94,9 @@ def compare(one: PictureRecord, other: PictureRecord, each: bool, ask: bool, cho
     return result
 
 
-def compared_records(one: PictureRecord, other: PictureRecord, ask: bool, choice: Choice = EVERYTHING) -> Compared:
+def compared_records(one: Picture, other: Picture, ask: bool, choice: Choice = EVERYTHING) -> Compared:
     """What `changed` finds of two pictures that were read."""
-    return compared(Pair(os.path.basename(one.path), one.picture(), other.picture(), None), TwoFiles((one, other)), ask, choice)
+    return compared(Pair(os.path.basename(one.path), one, other, None), Fresh(), ask, choice)
 
 
 def is_identical(one: bytes, other: bytes) -> bool:
@@ -167,7 +136,7 @@ def _row(it: Difference) -> Row:
     return Row(it.name, (values[0], values[1]), (both[0], both[1]), (it,), it.note)
 
 
-def with_position(rows: List[Row], one: PictureRecord, other: PictureRecord) -> List[Row]:
+def with_position(rows: List[Row], one: Picture, other: Picture) -> List[Row]:
     """The rows with the four fields of a position as one, in degrees, if both positions are known."""
     ours = [
         it
@@ -184,13 +153,13 @@ def with_position(rows: List[Row], one: PictureRecord, other: PictureRecord) -> 
     return [*(it for it in rows[:at] if it not in ours), row, *(it for it in rows[at:] if it not in ours)]
 
 
-def _gps(it: PictureRecord) -> Dict[str, Field]:
-    return {one.key: one for block in it.blocks if block.name == NAMES[KINDS[0]] for one in block.fields if one.where == "gps"}
+def _gps(it: Picture) -> Dict[str, Field]:
+    return {one.key: one for block in it.blocks if block.name == NAMES[KINDS[0]] for one in fields_of(block) if one.where == "gps"}
 
 
-def _has_position(it: PictureRecord) -> bool:
+def _has_position(it: Picture) -> bool:
     return any(key in POSITION for key in _gps(it))
 
 
-def _position(it: PictureRecord) -> Optional[str]:
+def _position(it: Picture) -> Optional[str]:
     return position(_gps(it))

@@ -13,7 +13,7 @@ from ..comparison.groups import Fewest, groups
 from ..comparison.keeping import Keep, keeping
 from ..fields.labels import LabelText
 from ..fields.listing import Field, exact
-from ..fields.packing import unpacked
+from ..fields.block_fields import fields_of
 from ..fields.plain_names import exact_key, group_name
 from ..fields.plain_values import plain
 from ..fields.typed import typed
@@ -49,7 +49,7 @@ class Export:
     def _picture(self, it: Picture) -> None:
         self.tables.add("pictures", [_picture_row(it)])
         with self.catalogue.guarded():
-            blocks = [(block, unpacked(kept) if kept else []) for block, kept in self.catalogue.blocks_of(it)]
+            blocks = [(block, fields_of(block)) for block in self.catalogue.blocks_of(it)]
         for number, (block, fields) in enumerate(blocks):
             self.tables.add("blocks", [_block_row(it, number, block)])
             self.tables.add("fields", ((it.id, number, at, *_field_row(one)) for at, one in enumerate(fields)))

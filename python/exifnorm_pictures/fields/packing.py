@@ -20,7 +20,7 @@ from typing import Any, Callable, List, NamedTuple, Optional, Sequence
 from exifnorm import Ratio
 
 from ..model.budgets import FIELD_BYTES
-from ..model.records import Damaged
+from ..model.columns import Damaged
 from ..xmp.values import Array, Literal, Long, Resource, Structure, XmpValue
 from .listing import LONGEST_BYTES, MAKER_NOTE, OCTETS, Field, Value, digest_of, kept_value, plain_text
 

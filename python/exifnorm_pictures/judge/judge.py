@@ -9,7 +9,7 @@ import exifnorm
 
 from .. import xmp
 from ..extract import structure
-from ..fields.made import Fields
+from ..fields.block_fields import Fields
 from ..fields.packing import left_out, packed
 from ..model import steps
 from ..model.budgets import KEPT_BYTES
@@ -42,9 +42,9 @@ def judge(kind: str, block: bytes, packs: bool = False, at: FoundBlock = _BY_ITS
 def _with_fields(it: Block, fields: Fields, packs: bool) -> Block:
     """A block with its fields."""
     if not packs:
-        return it._replace(kept=fields)
-    made = packed(fields.all())
-    return it._replace(kept=made.octets, but_note=made.but_note)
+        return it._replace(made=fields)
+    kept = packed(fields.all())
+    return it._replace(packed=kept.octets, but_note=kept.but_note)
 
 
 def _repaired(it: Block, block: bytes, packs: bool) -> Block:
@@ -94,7 +94,7 @@ def judge_all(blocks: Blocks, packs: bool = False) -> List[Block]:
             continue
         block = known.get((it.kind, it.data)) if many else None
         if block is not None:
-            kept += len(block.kept) if isinstance(block.kept, bytes) else 0
+            kept += len(block.packed or b"")
             note = block.note if it.note is None else it.note
             found.append(_within(block._replace(name=it.name, source=it.where, extractor=it.extractor, note=note), kept))
             continue
@@ -107,14 +107,14 @@ def judge_all(blocks: Blocks, packs: bool = False) -> List[Block]:
         if many:  # pages of a TIFF can share a value
             blocks.budget.check_time()
             known[it.kind, it.data] = block
-        kept += len(block.kept) if isinstance(block.kept, bytes) else 0
+        kept += len(block.packed or b"")
         found.append(_within(block, kept))
     return found + extended.not_named() if extended else found
 
 
 def _within(it: Block, kept: int) -> Block:
     """A block without its packed fields, if so many bytes are kept of a picture: its pages may share one long text."""
-    return it if kept <= KEPT_BYTES or not isinstance(it.kept, bytes) else it._replace(kept=left_out(it.kept))
+    return it if kept <= KEPT_BYTES or it.packed is None else it._replace(packed=left_out(it.packed))
 
 
 class _Extended:

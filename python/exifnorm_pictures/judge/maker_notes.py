@@ -13,8 +13,9 @@ from typing import Dict, Iterator, List, NamedTuple, Optional, Sequence, Tuple
 
 from ..extract import exiftool, programs
 from ..model.budgets import FIELD_BYTES
-from ..model.records import Damaged, Picture, Stamp, has, is_marked_as
-from .sides import KeepsNotes
+from ..model.columns import Damaged
+from ..model.records import Picture, Stamp, has, is_marked_as
+from .sides import Sides
 
 Values = Dict[str, str]
 
@@ -145,11 +146,11 @@ class Compared(NamedTuple):
     is_new: bool = False
 
 
-def compared(before: KeepsNotes, one: Picture, after: KeepsNotes, other: Picture) -> Optional[Compared]:
+def compared(sides: Sides, one: Picture, other: Picture) -> Optional[Compared]:
     """Two pictures compared; None if a reading isn't known: a file has changed since, or there is no ExifTool."""
     known: Dict[int, Reading] = {}
-    for number, (catalogue, it) in enumerate(((before, one), (after, other))):
-        kept = catalogue.maker_notes(it, unpacked)
+    for number, it in enumerate((one, other)):
+        kept = sides.maker_notes(number, it, unpacked)
         if kept is not None:
             known[number] = kept
         elif not is_there(it):

@@ -6,6 +6,7 @@ from dataclasses import dataclass, field
 from typing import List, Optional
 
 from ..extract.extraction import too_much
+from ..fields.block_fields import fields_of
 from ..fields.labels import STANDARDS, LabelText, camera_of, of_block, with_own
 from ..model.budgets import TooMuch
 from ..model.found import EXIF, NAMES, Blocks, FoundBlock, damage
@@ -58,9 +59,9 @@ class Reading:
             found = [
                 it._replace(block="" if block.name == NAMES[block.kind] else block.name)
                 for block in self.blocks
-                for it in of_block(block.fields)
+                for it in of_block(fields_of(block))
             ]
-            cameras = (camera_of(block.fields) for block in self.blocks if block.kind == EXIF)
+            cameras = (camera_of(fields_of(block)) for block in self.blocks if block.kind == EXIF)
             camera = next(filter(any, cameras), ("", ""))
             self._texts = with_own(sorted(found, key=lambda it: STANDARDS.index(it.standard)), *camera)
         return self._texts

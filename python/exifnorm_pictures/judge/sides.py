@@ -2,9 +2,10 @@
 
 from __future__ import annotations
 
-from typing import Callable, List, Optional, Protocol, Tuple, TypeVar
+from typing import Callable, List, Optional, Protocol, Sequence, TypeVar
 
 from ..fields.listing import Field
+from ..fields.block_fields import fields_of
 from ..model.found import NotRead
 from ..model.records import Block, Picture
 
@@ -12,22 +13,10 @@ from ..model.records import Block, Picture
 Made = TypeVar("Made")
 
 
-class KeepsNotes(Protocol):
-    """What may keep ExifTool's readings of MakerNotes."""
-
-    def maker_notes(self, picture: Picture, made: Callable[[bytes], Made]) -> Optional[Made]:
-        """The result of `made` for the readings of a picture; None if they aren't kept."""
-        ...
-
-
 class Sides(Protocol):
     """The pictures of two sides, numbered 0 and 1."""
 
-    @property
-    def catalogues(self) -> Tuple[KeepsNotes, KeepsNotes]:
-        ...
-
-    def blocks(self, side: int, picture: Picture) -> List[Block]:
+    def blocks(self, side: int, picture: Picture) -> Sequence[Block]:
         """A picture's blocks."""
         ...
 
@@ -35,6 +24,30 @@ class Sides(Protocol):
         """The fields of a block; none if they aren't kept, or if there is no block."""
         ...
 
-    def not_read(self, side: int, picture: Picture) -> List[NotRead]:
+    def not_read(self, side: int, picture: Picture) -> Sequence[NotRead]:
         """The parts of a picture that were not read."""
         ...
+
+    def maker_notes(self, side: int, picture: Picture, made: Callable[[bytes], Made]) -> Optional[Made]:
+        """The result of `made` for ExifTool's readings of its MakerNotes; None if they aren't kept."""
+        ...
+
+
+class Fresh:
+    """Pictures that were looked at just now, and so have all that there is of them."""
+
+    def blocks(self, _: int, picture: Picture) -> Sequence[Block]:
+        """A picture's blocks."""
+        return picture.blocks
+
+    def fields(self, _: int, block: Optional[Block]) -> List[Field]:
+        """The fields of a block; none if there is no block."""
+        return fields_of(block) if block else []
+
+    def not_read(self, _: int, picture: Picture) -> Sequence[NotRead]:
+        """The parts of a picture that were not read."""
+        return picture.unread
+
+    def maker_notes(self, _: int, picture: Picture, made: Callable[[bytes], Made]) -> Optional[Made]:
+        """The result of `made` for its readings, if ExifTool was asked."""
+        return made(picture.notes) if picture.notes else None

@@ -1,33 +1,17 @@
-"""The records of a catalogue: a picture with its unread parts and the file system's marks that show an edit, and its judged blocks."""
+"""The records of a catalogue: a picture with its unread parts and the file system's marks that show an edit, and its judged blocks.
 
-from __future__ import annotations
+Each definition is also that of its table: what a field says of its column is written to the file's schema.
+"""
 
 import hashlib
 import itertools
 import os
-from typing import (
-    TYPE_CHECKING,
-    Any,
-    Dict,
-    Iterable,
-    List,
-    NamedTuple,
-    Optional,
-    Protocol,
-    Sequence,
-    Set,
-    Tuple,
-    Union,
-    get_args,
-    get_type_hints,
-)
+from typing import Annotated, Any, Dict, Iterable, List, NamedTuple, Optional, Sequence, Set, Tuple
 
+from .columns import Columns, Damaged, Is, check
 from .found import EXIF, EXIFTOOL, IPTC, PROGRAMS, XMP, Blocks, NotRead
 from .steps import Step, loses, unpacked
 from .verdicts import ABSENT, ACCEPTED, REACHED, REFUSED, UNREADABLE, Side, joined, side_of
-
-if TYPE_CHECKING:
-    from ..fields.listing import Field
 
 KINDS = (EXIF, IPTC, XMP)
 WORDS = {EXIF: "exif", IPTC: "iptc", XMP: "xmp"}  # the names for people and in the catalogue: archivists know IPTC, the engine IIM
@@ -38,46 +22,38 @@ AS_BEFORE = " as before"
 NOT_THERE = ("Vanished", "Moved", "LinkToNothing", "NotAFile")  # the problems of names that lead to no file, so nothing is compared
 
 
-class Damaged(Exception):
-    """A catalogue has a value that nothing here writes: it is damaged. Only what reads the values of a catalogue raises this."""
-
-
-class HasFields(Protocol):
-    """The fields of a block that was judged just now: see `fields.made.Fields`."""
-
-    def all(self) -> "List[Field]":
-        """The fields, in the order of a listing."""
-        ...
-
-
 class Block(NamedTuple):
-    """A block: its name, its position in the file, its reader, and the result of judging it. The fields are columns of the table `blocks`, but
-    for the last two: `kept` is its column `fields`."""
+    """A block: its name, its position in the file, its reader, and the result of judging it. `fields.block_fields` has its fields."""
 
-    kind: str
-    name: str  # which block of the picture it is: `Exif`, `second Exif`, `page 2`
-    source: str  # its position in the file
-    extractor: str
-    status: str
-    digest: Optional[str]  # SHA-256 of its meaning, if it is accepted
-    cause: Optional[str]  # why it isn't accepted
-    place: Optional[int]
-    length: int
-    octets: str  # SHA-256 of its bytes, which distinguishes a copied block from one that was written again
-    repair: Optional[str] = None  # the steps after which a refused block is accepted, in the form of `steps.packed`
-    repaired: Optional[str] = None  # SHA-256 of its meaning after them
-    note: Optional[int] = None  # where its MakerNote begins
-    kept: Union[bytes, HasFields, None] = None  # its fields, packed for a catalogue or not; of a refused block, those after repair
+    kind: Annotated[str, "exif, iptc, xmp"]  # in a catalogue a word of WORDS
+    name: Annotated[str, "Exif, IPTC, XMP; of further blocks a name of their own"]  # `second Exif`, `page 2`
+    source: Annotated[str, "its position in the file"]
+    extractor: Annotated[str, "own, exiftool, exiv2"]
+    status: Annotated[str, "accepted, refused, unreadable, too long, failed"]
+    digest: Annotated[Optional[str], "SHA-256 of the normal form, or of the statements of XMP; only of an accepted block"]
+    cause: Annotated[Optional[str], "of a block that isn't accepted: docs/FORMAT.md, section 5, or a cause of XMP"]
+    place: Annotated[Optional[int], ""]
+    length: Annotated[int, "bytes of the block"]
+    octets: Annotated[
+        str, "SHA-256 of the block as it is in the file"
+    ]  # which distinguishes a copied block from one that was written again
+    repair: Annotated[
+        Optional[str], "of a refused block: the steps after which it is accepted, JSON: cause, what was done, what is lost"
+    ] = None
+    repaired: Annotated[Optional[str], "SHA-256 of what it means after them"] = None
+    note: Annotated[
+        Optional[int], "where its MakerNote begins: in the block, or in a TIFF, whose block is laid out anew, in the file"
+    ] = None
+    packed: Annotated[
+        Optional[bytes], Is("its fields: JSON, compressed by zlib if it is long; of a refused block, those after repair", name="fields")
+    ] = None
+    # What a catalogue doesn't have
     but_note: Optional[str] = None  # a digest of its fields without the MakerNote, if it has one; of a refused block, of those after repair
+    made: Optional[object] = None  # in place of packed fields those of a block that was judged just now: `fields.block_fields.Fields`
 
     def row(self) -> Tuple[Any, ...]:
-        """The block as a row of the catalogue, with its fields."""
-        return (WORDS[self.kind], *self[1:-1])
-
-    @property
-    def fields(self) -> "List[Field]":
-        """The fields of a block that was judged just now; none of one that a catalogue has."""
-        return self.kept.all() if self.kept is not None and not isinstance(self.kept, bytes) else []
+        """The block as a row of the catalogue."""
+        return (WORDS[self.kind], *self[1:_BLOCK_WIDTH])
 
     @property
     def steps(self) -> Tuple[Step, ...]:
@@ -139,71 +115,93 @@ def is_as_before(one: Stamp, other: Stamp) -> bool:
     return one[:4] == other[:4]
 
 
-def is_same_file(one: Picture, other: Picture) -> bool:
-    """Whether nothing was written to a file and its sidecars between two looks: size, times and inode are the same. Not if it may have been
-    edited again without a mark, and not if it has rotted, so that something of it has another digest."""
-    if one.path and one == other:  # of one look; bytes have no path
-        return True
-    has_marks = None not in one.marks and one.changed != RACY
-    digests = zip((one.sha256, one.file, one.not_read, *one.octets), (other.sha256, other.file, other.not_read, *other.octets))
-    has_rotted = any(mine and its and mine != its for mine, its in digests)
-    return has_marks and one.marks == other.marks and one.sidecars == other.sidecars and not has_rotted
-
-
 def is_marked_as(now: Stamp, marks: Sequence[Optional[int]]) -> bool:
     """Whether a file is the one that was looked at, by its size, times and inode; the ctime of a fresh file isn't known."""
     return tuple(now[:4]) == tuple(marks) if marks[2] != RACY else (now[0], now[1], now[3]) == (marks[0], marks[1], marks[3])
 
 
-class Digests(NamedTuple):
-    """What is compared of a picture: columns of a catalogue, by their names."""
-
-    exif: Optional[str]
-    iptc: Optional[str]
-    xmp: Optional[str]
-    not_read: Optional[str]
-    other_not_read: Optional[str]
-    other_exif: str
-    exif_octets: str
-    iptc_octets: str
-    xmp_octets: str
-    exif_repaired: Optional[str]
-    maker_notes: str
-
-
 class Picture(NamedTuple):
-    """A picture as the catalogue keeps it. The fields are the columns of the table `pictures`, which are written and read in this order;
-    `store.py` says what each one is."""
+    """A picture and what is known of it: after it was looked at, or as a catalogue keeps it."""
 
-    id: int
-    path: bytes
-    root: bytes
-    size: Optional[int]
-    modified: Optional[int]
-    changed: Optional[int]
-    inode: Optional[int]
-    device: Optional[int]
-    type: str
-    extractor: str
-    problem: Optional[str]
-    detail: str
-    exif: Optional[str]
-    iptc: Optional[str]
-    xmp: Optional[str]
-    not_read: Optional[str]
-    other_not_read: Optional[str]
-    other_exif: str
-    exif_octets: str
-    iptc_octets: str
-    xmp_octets: str
-    exif_repaired: Optional[str]
-    maker_notes: str
-    file: str
-    coded_picture: Optional[str]
-    beside: str
-    damage: str
-    sha256: Optional[str]
-    sidecars: str
+    id: Annotated[int, Is(sql="INTEGER PRIMARY KEY")] = 0  # its number in a catalogue
+    path: Annotated[bytes, Is("absolute, as the file system has it", "BLOB NOT NULL UNIQUE")] = b""
+    root: Annotated[bytes, "the folder that was indexed"] = b""
+    size: Annotated[Optional[int], "bytes"] = None
+    modified: Annotated[Optional[int], "nanoseconds since 1970, in 64 bits"] = None
+    changed: Annotated[Optional[int], "the same of the last change of the file's status (ctime)"] = None
+    inode: Annotated[Optional[int], ""] = None
+    device: Annotated[Optional[int], "the file system, which identifies a file together with the inode"] = None
+    type: Annotated[str, "the format: JPEG, PNG .., or ExifTool's word"] = ""
+    extractor: Annotated[str, "which program extracted the blocks: own, exiftool"] = ""
+    problem: Annotated[Optional[str], "why there are no blocks: Vanished, Moved, Unreadable, NoPicture, ToolFailed .."] = None
+    detail: Annotated[str, ""] = ""
+    exif: Annotated[Optional[str], "SHA-256 of what all blocks of a kind mean; empty: no such block; NULL: refused or not known"] = None
+    iptc: Annotated[Optional[str], ""] = None
+    xmp: Annotated[Optional[str], ""] = None
+    not_read: Annotated[Optional[str], "SHA-256 of what was not read; empty: all was read; NULL: it can't be compared"] = None
+    other_not_read: Annotated[Optional[str], "the same without the bytes that only a MakerNote can reach"] = None
+    other_exif: Annotated[str, "BLAKE2b of the fields of Exif without the MakerNotes, after repairs too; empty: there is none"] = ""
+    exif_octets: Annotated[str, "SHA-256 of the blocks of a kind as they are in the file; empty if there is none"] = ""
+    iptc_octets: Annotated[str, ""] = ""
+    xmp_octets: Annotated[str, ""] = ""
+    exif_repaired: Annotated[
+        Optional[str], "SHA-256 of what the Exif blocks mean after repairs that lose nothing, if one is refused"
+    ] = None
+    maker_notes: Annotated[str, "where the MakerNotes begin, which decides what they mean; empty if there is none"] = ""
+    file: Annotated[str, "SHA-256 of the whole file, if nothing else of it can be compared; else empty"] = ""
+    coded_picture: Annotated[Optional[str], "BLAKE2b of the coded picture; empty: not known of this file; NULL: not requested"] = None
+    beside: Annotated[str, "BLAKE2b of its colour profiles and comments; empty: there is none, or not known"] = ""
+    damage: Annotated[str, "what is damaged in the coded picture; empty: nothing, or not known"] = ""
+    sha256: Annotated[Optional[str], "SHA-256 of the whole file; empty: it can't be read; NULL: not requested"] = None
+    sidecars: Annotated[str, "names, sizes, times and inodes of its XMP sidecars; empty if there is none"] = ""
+    # What other tables of a catalogue have, and what it doesn't have, if the picture was looked at just now
+    blocks: Tuple[Block, ...] = ()
+    unread: Tuple[NotRead, ...] = ()
+    notes: Optional[bytes] = None  # what ExifTool reads of its MakerNotes, if it was asked
+    is_known: bool = False  # whether it had the same problem when it was looked at before
+
+    @classmethod
+    def of(
+        cls,
+        path: bytes,
+        root: bytes,
+        stamp: Optional[Stamp] = None,
+        type: str = "",
+        extractor: str = "",
+        problem: Optional[str] = None,
+        detail: str = "",
+        blocks: Sequence[Block] = (),
+        unread: Sequence[NotRead] = (),
+        **others: Any,
+    ) -> "Picture":
+        """A picture that was looked at. Several processes do that, and one writes, so what is compared is made here."""
+        about: Dict[str, Any] = {"type": type, "extractor": extractor, "problem": problem, "detail": detail, **_marks(stamp), **others}
+        return cls(path=path, root=root, blocks=tuple(blocks), unread=tuple(unread), **_compared(problem, blocks, unread), **about)
+
+    @classmethod
+    def found(
+        cls, path: bytes, root: bytes, stamp: Optional[Stamp], blocks: Blocks, judged: Sequence[Block] = (), **others: Any
+    ) -> "Picture":
+        """A picture by its blocks, as they were found and judged."""
+        about = (blocks.type, blocks.extractor, blocks.problem, blocks.detail)
+        return cls.of(path, root, stamp, *about, judged, blocks.not_read, **others)
+
+    @property
+    def stamp(self) -> Optional[Stamp]:
+        """The marks of its file, if they are known."""
+        if self.size is None or self.modified is None or self.changed is None or self.inode is None:
+            return None
+        return Stamp(self.size, self.modified, self.changed, self.inode, self.device or 0)
+
+    def stamped(self, stamp: Optional[Stamp]) -> "Picture":
+        """The same picture with other marks."""
+        return self._replace(**_marks(stamp))
+
+    @property
+    def programs(self) -> Set[str]:
+        """The other programs that have read something of it, if it was looked at just now."""
+        names = {self.extractor, *[block.extractor for block in self.blocks]}
+        return {name for name in names if name in PROGRAMS} | ({EXIFTOOL} if self.notes else set())
 
     @property
     def marks(self) -> Tuple[Optional[int], ...]:
@@ -222,9 +220,9 @@ class Picture(NamedTuple):
 
     @property
     def state(self) -> str:
-        """One word for the whole picture: a problem, `refused`, `accepted`, or `no block`."""
+        """One word for the whole picture: a problem, `refused`, `accepted`, or `no block`; and whether the problem was there before."""
         if self.problem:
-            return self.problem
+            return self.problem + AS_BEFORE * self.is_known
         return REFUSED if None in self.meanings else ACCEPTED if any(self.meanings) else "no block"
 
     def sides(self) -> Dict[str, Side]:
@@ -236,81 +234,40 @@ class Picture(NamedTuple):
         return found
 
 
-class PictureRecord(NamedTuple):
-    """The known facts about a picture after it was looked at."""
-
-    path: bytes
-    root: bytes
-    stamp: Optional[Stamp] = None
-    type: str = ""
-    extractor: str = ""
-    problem: Optional[str] = None
-    detail: str = ""
-    blocks: Tuple[Block, ...] = ()
-    not_read: Tuple[NotRead, ...] = ()
-    digests: Optional[Digests] = None  # what `digests` returns, if it was already called
-    file: str = ""  # SHA-256 of the whole file, if nothing else can be compared
-    notes: Optional[bytes] = None  # what ExifTool reads of its MakerNotes, if it was asked
-    coded_picture: Optional[str] = None  # the digest of the coded picture, empty if it isn't known; None: it was not requested
-    beside: str = ""  # the digest of its colour profiles and comments
-    damage: str = ""  # what is damaged in the coded picture
-    sha256: Optional[str] = None  # of the whole file, empty if it can't be read; None: it was not requested
-    sidecars: str = ""  # the marks of its XMP sidecars
-    is_known: bool = False  # whether it had the same problem when it was looked at before
-
-    @classmethod
-    def of(
-        cls, path: bytes, root: bytes, stamp: Optional[Stamp], it: Blocks, judged: Sequence[Block] = (), file: str = ""
-    ) -> "PictureRecord":
-        """The result for a file."""
-        found = _digests(it.problem, judged, it.not_read)  # here, since several processes look at pictures, and one writes
-        return cls(path, root, stamp, it.type, it.extractor, it.problem, it.detail, tuple(judged), tuple(it.not_read), found, file)
-
-    @property
-    def programs(self) -> Set[str]:
-        """The other programs that have read something of it."""
-        names = {self.extractor, *[it.extractor for it in self.blocks]}
-        return {it for it in names if it in PROGRAMS} | ({EXIFTOOL} if self.notes else set())
-
-    @property
-    def state(self) -> str:
-        """One word for the whole picture: a problem, `refused`, `accepted`, or `no block`; and whether the problem was there before."""
-        return state_of(self.problem, self.blocks) + AS_BEFORE * self.is_known
-
-    def picture(self, number: int = 0) -> Picture:
-        """The picture as a catalogue keeps it, with its number there."""
-        marks = self.stamp or (None,) * len(Stamp._fields)
-        known = (self.path, self.root, *marks, self.type, self.extractor, self.problem, self.detail, *digests(self))
-        return Picture._make((number, *known, self.file, self.coded_picture, self.beside, self.damage, self.sha256, self.sidecars))
+def is_same_file(one: Picture, other: Picture) -> bool:
+    """Whether nothing was written to a file and its sidecars between two looks: size, times and inode are the same. Not if it may have been
+    edited again without a mark, and not if it has rotted, so that something of it has another digest."""
+    if one.path and one == other:  # of one look; bytes have no path
+        return True
+    has_marks = None not in one.marks and one.changed != RACY
+    digests = zip((one.sha256, one.file, one.not_read, *one.octets), (other.sha256, other.file, other.not_read, *other.octets))
+    has_rotted = any(mine and its and mine != its for mine, its in digests)
+    return has_marks and one.marks == other.marks and one.sidecars == other.sidecars and not has_rotted
 
 
-def state_of(problem: Optional[str], blocks: Iterable[Block]) -> str:
-    """A problem, `refused` if a block isn't accepted, `accepted`, or `no block`."""
+def _marks(stamp: Optional[Stamp]) -> Dict[str, Any]:
+    return dict(zip(Stamp._fields, stamp or (None,) * len(Stamp._fields)))
+
+
+def _compared(problem: Optional[str], blocks: Sequence[Block], unread: Sequence[NotRead]) -> Dict[str, Any]:
+    """What is compared of a picture: columns by their names. Of one with a problem nothing is known."""
     if problem:
-        return problem
-    states = {it.status for it in blocks}
-    return "no block" if not states else ACCEPTED if states == {ACCEPTED} else REFUSED
-
-
-def digests(it: PictureRecord) -> Digests:
-    """What is compared of a picture, made of its blocks and of its parts that were not read."""
-    return it.digests or _digests(it.problem, it.blocks, it.not_read)
-
-
-def _digests(problem: Optional[str], blocks: Sequence[Block], not_read: Sequence[NotRead]) -> Digests:
-    if problem:
-        return Digests(None, None, None, None, None, "", "", "", "", None, "")
+        return {}
     by_kind: Dict[str, List[Block]] = {kind: [] for kind in KINDS}
-    for it in blocks:
-        by_kind[it.kind].append(it)
+    for block in blocks:
+        by_kind[block.kind].append(block)
     sides = [side_of(ours) for ours in by_kind.values()]
-    exif, iptc, xmp = [one.digest if one.status == ACCEPTED else "" if one.status == ABSENT else None for one in sides]
-    parts = _parts_digest(not_read)
-    other_parts = _parts_digest([it for it in not_read if not it.what.endswith(REACHED)]) if parts else parts
-    notes = ",".join(f"{it.name}:{it.note}" for it in by_kind[EXIF] if it.note is not None)
-    other_exif = _exif_but_notes(by_kind[EXIF]) if notes else ""
-    e, i, x = [one.octets for one in sides]
-    return Digests(exif, iptc, xmp, parts, other_parts, other_exif, e, i, x, sides[0].repaired or None, notes)
+    known: Dict[str, Any] = {}
+    for word, side in zip(WORDS.values(), sides):
+        known[word] = side.digest if side.status == ACCEPTED else "" if side.status == ABSENT else None
+        known[f"{word}_octets"] = side.octets
+    known["not_read"] = known["other_not_read"] = _parts_digest(unread)
+    if known["not_read"]:
+        known["other_not_read"] = _parts_digest([part for part in unread if not part.what.endswith(REACHED)])
+    known["maker_notes"] = ",".join(f"{block.name}:{block.note}" for block in by_kind[EXIF] if block.note is not None)
+    known["other_exif"] = _exif_but_notes(by_kind[EXIF]) if known["maker_notes"] else ""
+    known["exif_repaired"] = sides[0].repaired or None
+    return known
 
 
 def _exif_but_notes(blocks: Sequence[Block]) -> str:
@@ -339,14 +296,7 @@ def not_read_of_row(row: Tuple[Any, ...]) -> NotRead:
 
 def has(kind: type, *values: object) -> None:
     """Raises `Damaged` if a value of a row isn't of this type."""
-    _check(values, itertools.repeat(kind))
-
-
-def _check(row: Iterable[object], types: Iterable[Any]) -> None:
-    """Raises `Damaged` if a value of a row isn't of the type of its column, or of one of its types."""
-    for it, kind in zip(row, types):
-        if not isinstance(it, kind):
-            raise Damaged(f"{it!r} is a value of another type")
+    check(values, itertools.repeat(kind))
 
 
 def kind_of(word: str) -> str:
@@ -356,22 +306,23 @@ def kind_of(word: str) -> str:
     return KIND_OF[word]
 
 
-def _types(made: type) -> List[Any]:
-    """The type of each field, or the two types of one that may be None."""
-    return [get_args(it) or it for it in get_type_hints(made).values()]
-
-
-_OF_PICTURE, _OF_BLOCK = _types(Picture), [int, *_types(Block)[:-2]]
+PICTURES = Columns(Picture, last=["run INTEGER NOT NULL REFERENCES runs(id)"])
+BLOCKS = Columns(
+    Block,
+    ["picture INTEGER NOT NULL REFERENCES pictures(id) ON DELETE CASCADE", "number INTEGER NOT NULL -- the order in the file"],
+    ["PRIMARY KEY (picture, number)"],
+)
+_BLOCK_WIDTH = len(BLOCKS.names)
+_REST = Picture()[len(PICTURES.names) :]  # of a picture, what is in other tables
 
 
 def picture_of_row(row: Tuple[Any, ...]) -> Picture:
-    """A picture of a row of `store.PICTURE_COLUMNS`."""
-    _check(row, _OF_PICTURE)
-    return Picture._make(row)
+    """A picture of a row of the columns of PICTURES."""
+    PICTURES.check(row)
+    return Picture._make(row + _REST)
 
 
 def block_of_row(row: Tuple[Any, ...]) -> Block:
-    """A block of a row of `store.BLOCK_COLUMNS`."""
-    _check(row, _OF_BLOCK)
-    _, kind, *others = row
-    return Block(kind_of(kind), *others)
+    """A block of a row of the columns of BLOCKS."""
+    BLOCKS.check(row)
+    return Block(kind_of(row[0]), *row[1:])

@@ -14,7 +14,7 @@ from typing import Any, Dict, Iterator, List, Optional, Sequence
 
 from ..extract import programs
 from ..files.session import current
-from ..model.records import RACY, PictureRecord, Stamp
+from ..model.records import RACY, Picture, Stamp
 from . import looking
 from .batches import How
 from .index import Look
@@ -31,7 +31,7 @@ CHUNK = 64  # pictures of a task
 POLL = 2.0  # seconds without a result after which the workers are counted
 
 
-def look_there(root: bytes, names: Sequence[bytes], how: How) -> List[PictureRecord]:
+def look_there(root: bytes, names: Sequence[bytes], how: How) -> List[Picture]:
     """A worker's task: looks at files by their names relative to its own path of the folder."""
     current().seconds = how.seconds
     return [looking.look(FoundFile(os.path.join(root, name), root, _stamp(os.path.join(root, name))), how) for name in names]
@@ -51,7 +51,7 @@ def looker(scheduler: str, elsewhere: Optional[str], names: Sequence[bytes]) -> 
     if elsewhere and (len(names) != 1 or not os.path.isdir(names[0])):
         raise programs.Failed("--elsewhere is the path of one folder: give one FOLDER")
 
-    def look(work: Sequence[FoundFile], how: How) -> Iterator[PictureRecord]:
+    def look(work: Sequence[FoundFile], how: How) -> Iterator[Picture]:
         if work:
             yield from _Cluster(scheduler, os.fsencode(elsewhere) if elsewhere else None, how).looked(work)
 
@@ -67,7 +67,7 @@ class _Cluster:
         self.tasks: Dict[Any, Sequence[FoundFile]] = {}
         self.suspects: List[FoundFile] = []  # the pictures of chunks at which workers died
 
-    def looked(self, work: Sequence[FoundFile]) -> Iterator[PictureRecord]:
+    def looked(self, work: Sequence[FoundFile]) -> Iterator[Picture]:
         """The result for each of these files, in order of arrival."""
         logging.disable(logging.CRITICAL)  # Dask writes tracebacks; what is wrong is in the errors below
         try:
@@ -108,7 +108,7 @@ class _Cluster:
             elif time.monotonic() - since > self.how.seconds:
                 raise programs.Failed(f"the cluster {self.scheduler} has no worker")
 
-    def _answers(self, task: Any) -> Iterator[PictureRecord]:
+    def _answers(self, task: Any) -> Iterator[Picture]:
         chunk = self.tasks.pop(task)
         try:
             found = task.result()
@@ -135,17 +135,17 @@ def _chunks(work: Sequence[FoundFile]) -> Iterator[Sequence[FoundFile]]:
     yield chunk
 
 
-def _failed(it: FoundFile, why: str) -> PictureRecord:
-    return looking.compared_with_before(it, PictureRecord(it.path, it.root, it.stamp, problem="ToolFailed", detail=why))
+def _failed(it: FoundFile, why: str) -> Picture:
+    return looking.compared_with_before(it, Picture.of(it.path, it.root, it.stamp, problem="ToolFailed", detail=why))
 
 
-def _here(it: FoundFile, answer: PictureRecord) -> PictureRecord:
+def _here(it: FoundFile, answer: Picture) -> Picture:
     """A worker's result with the name and the marks that the file has here. A worker doesn't know which problems it had at the last run."""
     if answer.problem == "Vanished":
         detail = f"the worker has no such file: {os.fsdecode(answer.path)!r}"
-        return looking.compared_with_before(it, PictureRecord(it.path, it.root, None, problem="Unreadable", detail=detail))
+        return looking.compared_with_before(it, Picture.of(it.path, it.root, None, problem="Unreadable", detail=detail))
     same = answer.stamp is not None and it.stamp is not None and answer.stamp.size == it.stamp.size
     stamp = it.stamp if same else None
     if stamp and answer.stamp and answer.stamp.changed == RACY:
         stamp = stamp._replace(changed=RACY)
-    return looking.compared_with_before(it, answer._replace(path=it.path, root=it.root, stamp=stamp))
+    return looking.compared_with_before(it, answer._replace(path=it.path, root=it.root).stamped(stamp))

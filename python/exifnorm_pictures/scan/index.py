@@ -14,7 +14,7 @@ from ..catalogue.store import Catalogue, Known
 from ..extract import programs
 from ..extract.sidecars import marks
 from ..model.found import EXIFTOOL, EXIV2, PROBLEMS, UNREAD_TRAILER
-from ..model.records import PictureRecord, is_as_before
+from ..model.records import Picture, is_as_before
 from .batches import LONGEST_WAIT, Batch, How, Lines, Result
 from .excluded import Excluded
 from .moved import Departed, moved_together
@@ -171,7 +171,7 @@ def _worth_another(problem: Optional[str]) -> bool:
     )
 
 
-def _gone(options: IndexOptions, work: Work, catalogue: Catalogue) -> Tuple[List[PictureRecord], Departed]:
+def _gone(options: IndexOptions, work: Work, catalogue: Catalogue) -> Tuple[List[Picture], Departed]:
     """The pictures below the folders that are missing now, and the facts by which they are recognised under another name.
 
     Those of a folder that can't be read aren't gone: nothing is known of them. Neither are those that are excluded and still there.
@@ -186,19 +186,19 @@ def _gone(options: IndexOptions, work: Work, catalogue: Catalogue) -> Tuple[List
             if path in work.sidecars:
                 work.taken.append(number)
             elif not os.path.lexists(path):
-                gone.append(PictureRecord(path, b"", problem="Vanished", detail=PROBLEMS["Vanished"]))
+                gone.append(Picture.of(path, b"", problem="Vanished", detail=PROBLEMS["Vanished"]))
                 departed.add(catalogue, number, path)
             elif options.excluded and options.excluded.has_below(path[head:]):
                 options.excluded.known += 1
     return gone, departed
 
 
-def _named_wrong(work: Work, catalogue: Catalogue) -> Iterator[PictureRecord]:
+def _named_wrong(work: Work, catalogue: Catalogue) -> Iterator[Picture]:
     """A line for each folder that can't be read, and for each name without a file. The catalogue keeps none of it."""
     for it in work.unlisted:
         known = sum(1 for _ in catalogue.below(it.path))
         kept = f"; its {known} pictures stay as they were" if known else ""
-        yield PictureRecord(it.path, b"", problem="Unreadable", detail=it.reason + kept)
+        yield Picture.of(it.path, b"", problem="Unreadable", detail=it.reason + kept)
 
 
 def _version(program: str) -> Optional[str]:
@@ -266,7 +266,7 @@ class _Looking:
             self.versions.update({it: _version(it) for it in new})
             self.catalogue.set_versions(self.run, self.version, self.versions.get(EXIFTOOL), self.versions.get(EXIV2))
 
-    def count(self, it: PictureRecord, lines: Optional[Lines]) -> None:
+    def count(self, it: Picture, lines: Optional[Lines]) -> None:
         """Counts and reports a picture."""
         self.work.counts[it.state] += 1
         if lines:

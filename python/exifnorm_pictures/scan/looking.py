@@ -14,7 +14,7 @@ from ..files.session import Session
 from ..judge import judge
 from ..model.budgets import WHOLE_FILE, TooMuch
 from ..model.found import PROBLEMS, Blocks
-from ..model.records import RACY, Block, PictureRecord, Stamp
+from ..model.records import RACY, Block, Picture, Stamp
 from ..model.texts import reason
 from .batches import How
 from .walk import FoundFile
@@ -25,17 +25,17 @@ FINE, COARSE = 20_000_000, 2_000_000_000
 _NOT_OPENED = ("Vanished", "LinkToNothing", "NotAFile", "Unreadable")  # the problems of files whose bytes nobody can read
 
 
-def look(it: FoundFile, how: How, packs: bool = True) -> PictureRecord:
+def look(it: FoundFile, how: How, packs: bool = True) -> Picture:
     """The result for one file, its fields packed for a catalogue unless that isn't asked for. An error of any kind affects only this file."""
     return compared_with_before(it, _look(it, how, packs))
 
 
-def compared_with_before(it: FoundFile, found: PictureRecord) -> PictureRecord:
+def compared_with_before(it: FoundFile, found: Picture) -> Picture:
     """The result for a file, marked as known if the last run had the same problem with it."""
     return found._replace(is_known=True) if found.problem and found.problem == it.problem else found
 
 
-def _look(it: FoundFile, how: How, packs: bool) -> PictureRecord:
+def _look(it: FoundFile, how: How, packs: bool) -> Picture:
     began = _now()
     try:
         marks = sidecars.marks(it.path, it.sidecars, lambda *times: _is_racy(times, began)) if it.sidecars else ""
@@ -50,16 +50,16 @@ def _look(it: FoundFile, how: How, packs: bool) -> PictureRecord:
     except programs.Failed as error:
         return failed(it, str(error))
     except OSError as error:
-        return PictureRecord(it.path, it.root, problem="Unreadable", detail=reason(error))
+        return Picture.of(it.path, it.root, problem="Unreadable", detail=reason(error))
     except programs.Missing as error:
-        return PictureRecord.of(it.path, it.root, it.stamp, Blocks(problem="NeedsExifTool", detail=str(error)))
+        return Picture.found(it.path, it.root, it.stamp, Blocks(problem="NeedsExifTool", detail=str(error)))
     except MemoryError:
         return failed(it, "out of memory")
     except Exception as error:  # an error of a reader affects only this file
-        return PictureRecord.of(it.path, it.root, it.stamp, extraction.failed_here(error))
-    found = PictureRecord.of(it.path, it.root, _unless_changed(it, began), blocks, judged, whole_file)
+        return Picture.found(it.path, it.root, it.stamp, extraction.failed_here(error))
     coded, beside, damage, whole = pixels
-    return found._replace(notes=notes, coded_picture=coded, beside=beside, damage=damage, sha256=whole, sidecars=marks)
+    more = {"notes": notes, "coded_picture": coded, "beside": beside, "damage": damage, "sha256": whole, "sidecars": marks}
+    return Picture.found(it.path, it.root, _unless_changed(it, began), blocks, judged, file=whole_file, **more)
 
 
 def _read(it: FoundFile, how: How, packs: bool) -> Tuple[Blocks, List[Block]]:
@@ -105,9 +105,9 @@ def file_digest(path: bytes, blocks: Blocks, whole: bool) -> str:
     return digest_of_file(path, WHOLE_FILE if not whole else 1 << 62)
 
 
-def failed(it: FoundFile, why: str) -> PictureRecord:
+def failed(it: FoundFile, why: str) -> Picture:
     """The result for a file at which a program or a process failed."""
-    return compared_with_before(it, PictureRecord.of(it.path, it.root, it.stamp, Blocks(problem="ToolFailed", detail=why)))
+    return compared_with_before(it, Picture.found(it.path, it.root, it.stamp, Blocks(problem="ToolFailed", detail=why)))
 
 
 def _now() -> int:
@@ -145,7 +145,7 @@ def _is_racy(times: Sequence[int], began: int) -> bool:
     return times[1] > began or any(it % 1_000_000_000 == 0 or abs(began - it) < FINE for it in near)
 
 
-def in_this_process(work: Sequence[FoundFile], how: How) -> Iterator[PictureRecord]:
+def in_this_process(work: Sequence[FoundFile], how: How) -> Iterator[Picture]:
     """The results for these files, in their order."""
     with Session(how.seconds, room=how.room or None):
         for it in work:

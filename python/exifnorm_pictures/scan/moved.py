@@ -6,7 +6,7 @@ import os
 from typing import Collection, Dict, Iterator, List, Optional, Sequence, Tuple
 
 from ..catalogue.store import Catalogue
-from ..model.records import PictureRecord
+from ..model.records import Picture
 from ..model.texts import shown_path
 
 Key = Tuple[object, ...]
@@ -45,7 +45,7 @@ class Departed:
         if same is not None:
             self.went[same] = path
 
-    def settle(self, catalogue: Catalogue, run: int, gone: Sequence[PictureRecord], new: Collection[bytes]) -> Iterator[PictureRecord]:
+    def settle(self, catalogue: Catalogue, run: int, gone: Sequence[Picture], new: Collection[bytes]) -> Iterator[Picture]:
         """The report on each picture that is gone: moved, if one of those that are new in this run is the same, or missing."""
         if self.by_content or self.by_file:
             query = f"SELECT path, {_MARKS} FROM pictures WHERE run = ? AND problem IS NULL AND size IS NOT NULL ORDER BY id"
@@ -59,9 +59,9 @@ class Departed:
                 catalogue.base.executemany("UPDATE pictures SET problem = 'Moved', detail = ? WHERE path = ?", words)
         for it in [*gone, *remounted]:
             to = self.went.get(it.path)
-            yield it if to is None else PictureRecord(it.path, b"", problem="Moved", detail=f"to {shown_path(to)}")
+            yield it if to is None else Picture.of(it.path, b"", problem="Moved", detail=f"to {shown_path(to)}")
 
-    def _remounted(self, catalogue: Catalogue, run: int, new: Collection[bytes]) -> Iterator[PictureRecord]:
+    def _remounted(self, catalogue: Catalogue, run: int, new: Collection[bytes]) -> Iterator[Picture]:
         """The pictures of folders that are gone and whose files are new in this run: a file system that is mounted at another place.
 
         A folder that is gone may be a disk that isn't mounted, and a new file a copy of one on it. So the time and the inode must be the
@@ -75,7 +75,7 @@ class Departed:
                 if path in new and path not in used and old not in self.went and not os.path.lexists(old):
                     used.add(path)
                     self.went[old] = path
-                    yield PictureRecord(old, b"")
+                    yield Picture.of(old, b"")
 
 
 def moved_together(went: Dict[bytes, bytes]) -> Dict[Tuple[bytes, bytes], List[bytes]]:

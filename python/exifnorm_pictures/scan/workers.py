@@ -19,7 +19,7 @@ from typing import Deque, Iterable, Iterator, List, NamedTuple, Sequence, Set
 from ..extract import programs
 from ..files import signals
 from ..files.session import Session
-from ..model.records import PictureRecord
+from ..model.records import Picture
 from ..model.texts import reason
 from .batches import LONGEST_WAIT, Batch, How, Result, batch
 from .looking import failed, in_this_process, look
@@ -69,7 +69,7 @@ def _by_several(work: Sequence[FoundFile], how: How) -> Iterator[Result]:
 def look_at_some(task: Task, how: How) -> Batch:
     """A process's results for the first pictures of a task: for all of them, unless that takes too long."""
     ends_at = time.monotonic() + LONGEST_WAIT
-    entries: List[PictureRecord] = []
+    entries: List[Picture] = []
     for it in task.chunk:
         entries.append(look(it, how))
         if time.monotonic() > ends_at:
@@ -168,7 +168,7 @@ def _pool(how: How, processes: int) -> ProcessPoolExecutor:
         raise
 
 
-def _one_by_one(chunk: Sequence[FoundFile], how: How) -> Iterator[PictureRecord]:
+def _one_by_one(chunk: Sequence[FoundFile], how: How) -> Iterator[Picture]:
     """The results for a chunk at which a process died: each file gets a process of its own, so that only one file fails."""
     for it in chunk:
         pool = _pool(how, 1)

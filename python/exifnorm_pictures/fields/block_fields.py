@@ -1,12 +1,14 @@
-"""The fields of a block that was judged just now."""
+"""The fields of a block, of one that was judged just now and of one that a catalogue has."""
 
 from __future__ import annotations
 
 from typing import List, Optional, Union
 
 from .. import xmp
+from ..model.records import Block
 from . import normal_form, xmp_properties
 from .listing import Field
+from .packing import unpacked
 
 
 class Fields:
@@ -24,3 +26,10 @@ class Fields:
             source = self._source
             self._made = normal_form.fields(source) if isinstance(source, bytes) else xmp_properties.fields(source)
         return self._made
+
+
+def fields_of(block: Block) -> List[Field]:
+    """The fields of a block; none of one that has no meaning, or in a catalogue that doesn't have them. Raises `Damaged`."""
+    if isinstance(block.made, Fields):
+        return block.made.all()
+    return unpacked(block.packed) if block.packed else []

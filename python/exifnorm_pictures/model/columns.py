@@ -1,0 +1,66 @@
+"""A record whose fields are the columns of a table: from its one definition the SQL, the names in queries, and the check of rows are made.
+
+A field that is a column is declared as `Annotated[type, "what it is"]`, or with `Is(..)` for more than its type says.
+"""
+
+from typing import Any, Dict, Iterable, List, NamedTuple, Tuple, Union, get_args
+
+
+class Damaged(Exception):
+    """A catalogue has a value that nothing here writes: it is damaged. Only what reads the values of a catalogue raises this."""
+
+
+class Is(NamedTuple):
+    """More about a column: what it is, its definition in SQL after its name if its type doesn't tell it, and its name if the field has another."""
+
+    about: str = ""
+    sql: str = ""
+    name: str = ""
+
+
+_SQL = {int: "INTEGER", str: "TEXT", bytes: "BLOB"}
+
+
+class Columns:
+    """The columns of a record, in order: its fields up to the last one that is declared as a column."""
+
+    def __init__(self, record: type, first: Iterable[str] = (), last: Iterable[str] = ()) -> None:
+        """`first` and `last` are further definitions in SQL, each with what it is after `--`."""
+        declared: Dict[str, Any] = {name: kind for name, kind in record.__annotations__.items() if hasattr(kind, "__metadata__")}
+        columns = [(name, kind.__origin__, _more(*kind.__metadata__)) for name, kind in declared.items()]
+        self.names: Tuple[str, ...] = tuple(more.name or name for name, _, more in columns)
+        self.types: List[Any] = [get_args(kind) or kind for _, kind, _ in columns]  # those of a row's values
+        self._lines = [*first, *(_defined(more.name or name, kind, more) for name, kind, more in columns), *last]
+
+    @property
+    def listed(self) -> str:
+        """The names for a query."""
+        return ", ".join(self.names)
+
+    def table(self, name: str, end: str = "") -> str:
+        """The statement that makes the table."""
+        parts = [it.partition(" -- ") for it in self._lines]
+        commas = [","] * (len(parts) - 1) + [""]
+        lines = [f"    {sql + comma:<31} -- {about}" if about else f"    {sql}{comma}" for (sql, _, about), comma in zip(parts, commas)]
+        return "\n".join([f"CREATE TABLE {name} (", *lines, f"){end};"])
+
+    def check(self, row: Iterable[object]) -> None:
+        """Raises `Damaged` if a value of a row isn't of the type of its column, or of one of its types."""
+        check(row, self.types)
+
+
+def _more(about: Union[str, Is]) -> Is:
+    return about if isinstance(about, Is) else Is(about)
+
+
+def _defined(name: str, kind: Any, more: Is) -> str:
+    types = get_args(kind)
+    sql = more.sql or _SQL[types[0] if types else kind] + (" NOT NULL" if not types else "")
+    return f"{name} {sql}" + (f" -- {more.about}" if more.about else "")
+
+
+def check(row: Iterable[object], types: Iterable[Any]) -> None:
+    """Raises `Damaged` if a value isn't of its type."""
+    for it, kind in zip(row, types):
+        if not isinstance(it, kind):
+            raise Damaged(f"{it!r} is a value of another type")
