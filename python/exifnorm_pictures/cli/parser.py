@@ -44,8 +44,8 @@ object; it has the name as "path", and also as "path_hex" if the name is no
 UTF-8.
 
 Two Exif blocks, or two IPTC records, mean the same if their normal forms are
-equal, which is proved. XMP is compared by its statements, which is tested, and
-not proved. ExifTool reads the formats that have no reader here (Debian:
+equal, which is proved. How blocks are found in pictures, XMP, and groups are
+tested. XMP is compared by its statements. ExifTool reads the formats that have no reader here (Debian:
 libimage-exiftool-perl)."""
 
 

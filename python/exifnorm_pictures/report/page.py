@@ -314,7 +314,8 @@ def _problems(found: Gathered) -> str:
 
 def _foot() -> str:
     return (
-        "</main><footer><p>Two pictures have the same metadata if the normal forms of their Exif and IPTC blocks are equal, which is"
-        " proved, and the statements of their XMP, which is tested. Pixels are not looked at. Values are shown short, long ones by"
+        "</main><footer><p>Two pictures have the same metadata if the normal forms of their Exif and IPTC blocks are equal, and"
+        " the statements of their XMP. Whether two blocks of Exif or IPTC mean the same is proved; how blocks are found in pictures,"
+        " XMP, and groups are tested. Pixels are not looked at. Values are shown short, long ones by"
         " the first digits of their SHA-256. Made by exifnorm-pictures.</p></footer></body></html>\n"
     )
