@@ -6,6 +6,7 @@
 #   make uninstall PREFIX=/usr DESTDIR=.. removes what install wrote there, and nothing else
 #   make wheel                            a Python wheel with the library, in out/wheel
 #   make wasm                             the library as WebAssembly, in out/wasm
+#   make npm                              a JavaScript package with it, in out/npm
 #   make dist                             an archive of all that install writes, its sums and its components, in out/dist
 #   make release SIGN=KEY                 all packages, the archives and their sums, in out/release; signed if a key is given
 #   make clean                            removes what was built, except the proofs in out/proved
@@ -53,7 +54,7 @@ papers = LICENSE-APACHE LICENSE-MIT CHANGELOG.md $(addprefix docs/,CATALOGUE.md 
 # all that is installed, before it is copied to its folder
 stage = out/stage
 
-.PHONY: all program library check stage install uninstall wheel wasm dist release clean help
+.PHONY: all program library check stage install uninstall wheel wasm npm dist release clean help
 .DELETE_ON_ERROR:
 
 all: program library
@@ -151,6 +152,10 @@ wheel: library
 wasm: $(archive)
 	@python3 build/wasm.py out/wasm
 	@python3 build/guard.py out/wasm/exifnorm.wasm out/wasm/exifnorm64.wasm
+
+npm: wasm
+	rm -f out/npm/*.tgz
+	python3 packaging/npm.py out/wasm/exifnorm.wasm $(VERSION) $(epoch) out/npm/exifnorm-$(VERSION).tgz
 
 # Everything in one folder that can be unpacked anywhere.
 dist_name = exifnorm-$(VERSION)-$(shell uname -s | tr A-Z a-z)-$(shell uname -m)

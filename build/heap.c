@@ -42,6 +42,7 @@ static void empty_heap(void) {
 
 /* Rounds the size of a chunk up, and returns the number of the list of this size. A size that was rounded stays. LEAST <= *size. */
 static int round_up(uint64_t *size) {
+    *size = (*size + ALIGNMENT - 1) / ALIGNMENT * ALIGNMENT;
     int highest = 63 - __builtin_clzll(*size - 1), shift = highest - 2;
     uint64_t quarters = ((*size - 1) >> shift) + 1; /* 5 to 8 */
     *size = quarters << shift;

@@ -14,6 +14,8 @@ toolchain's clang compiles and links it with heap.c, and binaryen's wasm-opt (De
 
 from __future__ import annotations
 
+import hashlib
+import os
 import re
 import shutil
 import subprocess
@@ -27,9 +29,9 @@ sys.dont_write_bytecode = True
 import guard
 import module
 import quick
-from compiler import Compiler
+from compiler import Compiler, version
 from crates import Crates
-from prove import NotBuilt, listen, say
+from prove import NotBuilt, listen, say, take_lock
 
 TOP = Path(__file__).resolve().parent.parent
 HEAP = TOP / "build" / "heap.c"
@@ -41,6 +43,7 @@ LIBRARY = ["-ffunction-sections", "-fdata-sections", "-mllvm", "-no-trap-after-n
 # Four times what the deepest call needs. It is below the data, so that an overflow is a trap.
 STACK = 65536
 LINKED = ["-mwasm64", "--no-entry", "--gc-sections", "--stack-first", "--fatal-warnings", "-z", f"stack-size={STACK}"]
+NAMES = ["exifnorm.wasm", "exifnorm64.wasm"]
 HOST = ["exifnorm_malloc", "exifnorm_free", "exifnorm_allocations"]
 FEATURES = [f"--enable-{name}" for name in ("memory64", "bulk-memory", "sign-ext", "mutable-globals", "nontrapping-float-to-int")]
 LOWER = [*FEATURES, "--memory64-lowering", "-O2", "--strip-debug", "--strip-producers"]
@@ -95,17 +98,16 @@ def without_table(octets: bytes) -> bytes:
     return octets[:8] + b"".join(section for kind, section in sections(octets) if kind not in (TABLE, ELEMENTS))
 
 
-def proved_module(crates: Crates, clang: Path, text: Path) -> None:
-    """Writes the text of the proved library's module."""
-    source = module.kept(crates) / "module.bc"
-    run(clang, "--no-default-config", "-Xclang", "-disable-llvm-passes", "-S", "-emit-llvm", "-x", "ir", source, "-o", text)
+def proved_source(crates: Crates) -> Path:
+    """The file of the proved library's module."""
+    return module.kept(crates) / "module.bc"
 
 
-def quick_module(crates: Crates, text: Path) -> None:
-    """Writes the text of the quick library's module, which is compiled if it is not of the current sources."""
-    library = quick.Quick(crates, "" if not shutil.which("rt") else subprocess.check_output(["rt", "version"], text=True).strip())
+def quick_source(crates: Crates) -> Path:
+    """The file with the text of the quick library's module, which is compiled if it is not of the current sources."""
+    library = quick.Quick(crates, version())
     library.compile(quick.LIBRARY)
-    shutil.copyfile(library.folder / quick.MODULE, text)
+    return library.folder / quick.MODULE
 
 
 def build(text: Path, clang: Path, folder: Path) -> None:
@@ -120,26 +122,35 @@ def build(text: Path, clang: Path, folder: Path) -> None:
     run("wasm-opt", *LOWER, folder / "exifnorm64.wasm", "-o", folder / "exifnorm.wasm")
 
 
-def make(folder: Path, is_proved: bool = True) -> None:
-    """Writes exifnorm.wasm and exifnorm64.wasm into a folder, both or none. Raises `NotBuilt`."""
+def make(source: Path, clang: Path, is_proved: bool, folder: Path) -> None:
+    """Writes exifnorm.wasm and exifnorm64.wasm, made of the module in a file, into a new folder."""
+    with tempfile.TemporaryDirectory(dir=folder.parent) as name:
+        making = Path(name)
+        made, text = making / "made", making / "module.ll"
+        made.mkdir()
+        run(clang, "--no-default-config", "-Xclang", "-disable-llvm-passes", "-S", "-emit-llvm", "-x", "ir", source, "-o", text)
+        build(text, clang, making)
+        for file in NAMES:
+            if (guard.MARK.encode() in (making / file).read_bytes()) == is_proved:
+                raise NotBuilt(f"the version in {file} {'ends' if is_proved else 'does not end'} with {guard.MARK}")
+            os.replace(making / file, made / file)
+        os.replace(made, folder)
+
+
+def kept(is_proved: bool = True) -> Path:
+    """The folder with exifnorm.wasm and exifnorm64.wasm of the built library. They are made once, and kept beside the module."""
     if not shutil.which("wasm-opt"):
         raise NotBuilt("WebAssembly needs wasm-opt: `apt-get install binaryen`")
     crates = Crates.read(TOP)
+    source = proved_source(crates) if is_proved else quick_source(crates)
     clang = Path(Compiler(crates, TOP, sys.stderr).kit) / "toolchain" / "bin" / "clang"
-    with tempfile.TemporaryDirectory() as name:
-        making = Path(name)
-        text = making / "module.ll"
-        if is_proved:
-            proved_module(crates, clang, text)
-        else:
-            quick_module(crates, text)
-        build(text, clang, making)
-        files = [making / "exifnorm64.wasm", making / "exifnorm.wasm"]
-        if {guard.MARK.encode() in file.read_bytes() for file in files} != {not is_proved}:
-            raise NotBuilt(f"the version in the module {'ends' if is_proved else 'does not end'} with {guard.MARK}")
-        folder.mkdir(parents=True, exist_ok=True)
-        for file in files:
-            shutil.move(file, folder / file.name)
+    key = hashlib.sha256(b"".join(file.read_bytes() for file in (source, Path(__file__), HEAP))).hexdigest()[:16]
+    folder = source.parent / f"wasm-{key}"
+    with open(source.parent / "wasm-lock", "w", encoding="ascii") as lock:
+        take_lock(lock, "another call makes exifnorm.wasm: waiting for it")
+        if not folder.exists():
+            make(source, clang, is_proved, folder)
+    return folder
 
 
 def main(words: list[str]) -> int:
@@ -149,7 +160,10 @@ def main(words: list[str]) -> int:
         sys.exit(__doc__)
     try:
         listen()
-        make(Path(folders[0]).resolve(), is_proved)
+        source, folder = kept(is_proved), Path(folders[0])
+        folder.mkdir(parents=True, exist_ok=True)
+        for name in NAMES:
+            shutil.copyfile(source / name, folder / name)
     except (NotBuilt, quick.Failed, OSError, subprocess.SubprocessError) as why:
         say(str(why))
         return 1

@@ -1,0 +1,117 @@
+/** The greatest length in bytes of a block, and of a normal form. */
+export const LIMIT: 16777216;
+
+/** "exif": directories in the structure of TIFF 6.0, by CIPA DC-008; "iim": DataSets of IPTC-NAA IIM 4.2. */
+export type Kind = "exif" | "iim";
+
+/** A part of a JPEG's head: a marker, and where the data of its segment are. */
+export interface JpegPart {
+  /** The second byte of the marker, such as 0xE1 for APP1. */
+  marker: number;
+  /** By the mark with which the data begin; "" for all others. */
+  kind: "" | "exif" | "photoshop" | "xmp" | "extended xmp";
+  /** Whether a block begins here. Otherwise it continues the one in the part before. */
+  begins: boolean;
+  /** The offset of the data behind that mark; of a marker without a segment, the offset behind it. */
+  start: number;
+  /** The number of these bytes. */
+  size: number;
+}
+
+/** One of Photoshop's image resources: its number, and where its data are. */
+export interface Resource {
+  number: number;
+  start: number;
+  size: number;
+}
+
+/** A block of a JPEG, as one array, also where it was in several segments. */
+export interface JpegBlock {
+  kind: Kind;
+  data: Uint8Array;
+}
+
+/** A place in a JPEG that isn't read: an offset in it, or with `joined` in its blocks in several pieces, one after another. */
+export interface Unread {
+  joined: boolean;
+  start: number;
+}
+
+/** A block breaks the rules and has no meaning: its first fault. */
+export class Refused extends Error {
+  /** The name of the cause, such as "Overlap". docs/FORMAT.md lists the causes. */
+  readonly cause: string;
+  /** The byte offset in the block. The six bytes "Exif\0\0" before an Exif block are not counted. */
+  readonly place: number;
+  /** For two blocks, the number of the one that is refused; otherwise null. */
+  readonly side: 1 | 2 | null;
+}
+
+/** The bytes are no head of a JPEG: the first fault. */
+export class HeadRefused extends Refused {
+  /** The parts before the fault, each of them whole; none from jpegUnread. */
+  readonly parts: JpegPart[];
+}
+
+/** Of two JPEGs one has no head of a JPEG, or a block that is refused: the first fault. */
+export class PictureRefused extends Refused {
+  readonly side: 1 | 2;
+  /** The kind of the block; "" if the picture has no head. Then `place` counts from the picture's first byte. */
+  readonly kind: "" | Kind;
+  /** The index of the block among those of its kind in the picture, from 0. */
+  readonly index: number;
+}
+
+/** The block has a meaning, but its normal form is longer than LIMIT. The other calls accept such a block. */
+export class NormalTooLong extends Error {}
+
+/** There are more parts, resources or blocks than the argument `most` of the call. */
+export class TooMany extends Error {
+  readonly most: number;
+}
+
+/** There is not enough memory for the call. Nothing is known of the block. */
+export class OutOfMemory extends Error {}
+
+/** The kind of a block. Throws Refused, OutOfMemory. */
+export function check(block: Uint8Array): Kind;
+
+/** The normal form: two blocks mean the same exactly if their normal forms are equal. Throws Refused, NormalTooLong, OutOfMemory. */
+export function normalise(block: Uint8Array): Uint8Array;
+
+/** A line for each directory, field and DataSet, as `exifnorm show` prints it (docs/FORMAT.md, 7). Throws Refused, OutOfMemory. */
+export function show(block: Uint8Array): string;
+
+/** A line for each caption, name, keyword and right, as `exifnorm captions` prints it (docs/FORMAT.md, 7). Throws Refused, OutOfMemory. */
+export function captions(block: Uint8Array): string;
+
+/** Whether two blocks mean the same. Throws Refused, with the `side`, and OutOfMemory. */
+export function compare(first: Uint8Array, second: Uint8Array): boolean;
+
+/**
+ * The Exif and IPTC blocks of a JPEG in their order. The bytes may be a whole file, or only its first bytes if they have the whole head,
+ * which is all before the first scan. A hostile file may have millions: `most` limits the blocks of all kinds. Throws HeadRefused,
+ * TooMany, OutOfMemory.
+ */
+export function jpegBlocks(picture: Uint8Array, most?: number): JpegBlock[];
+
+/**
+ * Whether two JPEGs have the same Exif and IPTC: as many blocks of each kind, which mean the same, pair by pair, in their order. So two
+ * JPEGs without metadata are the same. XMP, pixels, and what follows the head are not compared. Throws PictureRefused, OutOfMemory.
+ */
+export function jpegSame(first: Uint8Array, second: Uint8Array): boolean;
+
+/**
+ * The first place in a JPEG that other programs read as Exif or IPTC, or may, and that jpegSame doesn't read; null if there is none, so
+ * that jpegSame reads all of it. Throws HeadRefused, OutOfMemory.
+ */
+export function jpegUnread(picture: Uint8Array): Unread | null;
+
+/** The parts of a JPEG's head, up to the header of the first scan or the end of the picture. Throws HeadRefused, TooMany, OutOfMemory. */
+export function jpegParts(picture: Uint8Array, most?: number): JpegPart[];
+
+/** Photoshop's image resources at the start of some bytes: up to where no resource is. Throws TooMany, OutOfMemory. */
+export function photoshopResources(bytes: Uint8Array, most?: number): Resource[];
+
+/** The version and the build, as "1.0.0 (WebAssembly)". */
+export function version(): string;

@@ -1,0 +1,41 @@
+// The answers of the module to requests, for a comparison with those of the native library. In node: answers.mjs FOLDER, which has blocks
+// and requests.json; in a browser: import(".. /answers.mjs"), below an address that serves the folder.
+import * as exifnorm from "./exifnorm.js";
+
+const isNode = typeof process !== "undefined" && process.versions?.node;
+const read = isNode
+  ? async (name) => new Uint8Array(await (await import("node:fs/promises")).readFile(new URL(name, import.meta.url)))
+  : async (name) => new Uint8Array(await (await fetch(new URL(name, import.meta.url))).arrayBuffer());
+const crypto = globalThis.crypto?.subtle ? globalThis.crypto : (await import("node:crypto")).webcrypto;
+
+async function digest(value) {
+  const bytes = typeof value === "string" ? new TextEncoder().encode(value) : value;
+  return Array.from(new Uint8Array(await crypto.subtle.digest("SHA-256", bytes)), (byte) => byte.toString(16).padStart(2, "0")).join("");
+}
+
+/** What a call returns, or the name and the text of its error. */
+async function answer(name, blocks) {
+  let value;
+  try {
+    value = exifnorm[name](...blocks);
+  } catch (error) {
+    return [error.name, error.message];
+  }
+  if (name === "normalise" || name === "show" || name === "captions") return digest(value);
+  if (name === "jpegBlocks") return Promise.all(value.map(async ({ kind, data }) => [kind, await digest(data)]));
+  if (name === "jpegParts") return value.map(({ marker, kind, begins, start, size }) => [marker, kind, begins, start, size]);
+  if (name === "photoshopResources") return value.map(({ number, start, size }) => [number, start, size]);
+  return name === "jpegUnread" && value ? [value.joined, value.start] : value;
+}
+
+/** The answers to all requests, each [call, index of a block, ..]. */
+export async function answers() {
+  const octets = await read("./blocks"), { sizes, requests } = JSON.parse(new TextDecoder().decode(await read("./requests.json")));
+  const blocks = [], found = [];
+  let end = 0;
+  for (const size of sizes) blocks.push(octets.subarray(end, (end += size)));
+  for (const [name, ...indexes] of requests) found.push(await answer(name, indexes.map((index) => blocks[index])));
+  return found;
+}
+
+if (isNode) process.stdout.write(JSON.stringify(await answers()));

@@ -1,0 +1,128 @@
+"""Headless Chromium, told what to do through its pipe for debuggers (the Chrome DevTools Protocol): no port, and no further package."""
+
+from __future__ import annotations
+
+import base64
+import json
+import os
+import shutil
+import subprocess
+import tempfile
+import time
+from pathlib import Path
+from typing import Any, Dict, List
+
+WORDS = ["chromium", "--headless", "--no-sandbox", "--disable-gpu", "--remote-debugging-pipe", "--disable-background-networking"]
+PATIENCE = 300  # seconds, also on a very busy machine
+
+
+class Browser:
+    """One page in a browser: the addresses that it asked for, and what it logged, which is mostly a violation of a policy."""
+
+    def __init__(self, folder: Path) -> None:
+        self.profile = tempfile.mkdtemp(dir=folder)
+        self.answers, browsers_output = os.pipe()
+        browsers_input, self.commands = os.pipe()
+        self.requests: List[str] = []
+        self.log: List[Dict[str, Any]] = []
+        self.number, self.rest, self.session = 0, b"", ""
+
+        def arrange() -> None:
+            """Puts the pipes where the browser expects them."""
+            command, answer = os.dup(browsers_input), os.dup(browsers_output)
+            os.dup2(command, 3)
+            os.dup2(answer, 4)
+
+        words = [*WORDS, f"--user-data-dir={self.profile}", "about:blank"]
+        null = subprocess.DEVNULL
+        self.process = subprocess.Popen(words, preexec_fn=arrange, close_fds=False, stdin=null, stdout=null, stderr=null)
+        os.close(browsers_input)
+        os.close(browsers_output)
+        target = self.call("Target.createTarget", url="about:blank")["targetId"]
+        self.session = self.call("Target.attachToTarget", targetId=target, flatten=True)["sessionId"]
+        for domain in ("Network", "Page", "Log", "Runtime", "DOM"):
+            self.call(f"{domain}.enable")
+
+    def call(self, method: str, **parameters: Any) -> Dict[str, Any]:
+        """Calls a method of the protocol, and returns its result."""
+        self.number += 1
+        message = {"id": self.number, "method": method, "params": parameters, **({"sessionId": self.session} if self.session else {})}
+        os.write(self.commands, json.dumps(message).encode() + b"\0")
+        while True:
+            answer = self.message()
+            if answer.get("id") == self.number:
+                if "error" in answer:
+                    raise RuntimeError(f"{method}: {answer['error']}")
+                return answer["result"]
+            self.note(answer)
+
+    def message(self) -> Dict[str, Any]:
+        while b"\0" not in self.rest:
+            octets = os.read(self.answers, 1 << 20)
+            if not octets:
+                raise EOFError("Chromium ended")
+            self.rest += octets
+        text, _, self.rest = self.rest.partition(b"\0")
+        return json.loads(text)
+
+    def note(self, event: Dict[str, Any]) -> None:
+        if event.get("method") == "Network.requestWillBeSent":
+            self.requests.append(event["params"]["request"]["url"])
+        elif event.get("method") in ("Log.entryAdded", "Runtime.exceptionThrown"):
+            self.log.append(event["params"])
+
+    def ask(self, expression: str) -> Any:
+        """The value of an expression in the page, also of a promise."""
+        result = self.call("Runtime.evaluate", expression=expression, awaitPromise=True, returnByValue=True)
+        if "exceptionDetails" in result:
+            raise RuntimeError(f"{expression[:200]}: {json.dumps(result['exceptionDetails'])[:1000]}")
+        return result["result"].get("value")
+
+    def wait(self, expression: str) -> Any:
+        """Waits until an expression is true, and returns its value."""
+        end = time.monotonic() + PATIENCE
+        while time.monotonic() < end:
+            if value := self.ask(expression):
+                return value
+            time.sleep(0.02)
+        raise TimeoutError(expression)
+
+    def open(self, address: str) -> None:
+        self.call("Page.navigate", url=address)
+        self.wait("document.readyState === 'complete' && location.href !== 'about:blank'")
+
+    def show(self, width: int = 1280, height: int = 900, dark: bool = False) -> None:
+        """Sets the size of the window, and whether the user prefers dark pages."""
+        self.call("Emulation.setDeviceMetricsOverride", width=width, height=height, deviceScaleFactor=1, mobile=width < 600)
+        self.call("Emulation.setEmulatedMedia", features=[{"name": "prefers-color-scheme", "value": "dark" if dark else "light"}])
+
+    def choose(self, selector: str, *files: Path) -> None:
+        """Chooses files or a folder in an input, as a user does."""
+        root = self.call("DOM.getDocument")["root"]["nodeId"]
+        node = self.call("DOM.querySelector", nodeId=root, selector=selector)["nodeId"]
+        self.call("DOM.setFileInputFiles", nodeId=node, files=[str(file.resolve()) for file in files])
+
+    def drop(self, selector: str, *files: Path) -> None:
+        """Drops files or folders on an element."""
+        x, y = self.ask(
+            f"(() => {{ const box = document.querySelector({json.dumps(selector)}).getBoundingClientRect(); return [box.x + 9, box.y + 9]; }})()"
+        )
+        data = {"items": [], "files": [str(file.resolve()) for file in files], "dragOperationsMask": 1}
+        for kind in ("dragEnter", "dragOver", "drop"):
+            self.call("Input.dispatchDragEvent", type=kind, x=x, y=y, data=data)
+
+    def press(self, key: str, code: int) -> None:
+        text = {"text": "\r"} if key == "Enter" else {}
+        for kind in ("keyDown", "keyUp"):
+            self.call("Input.dispatchKeyEvent", type=kind, key=key, code=key, windowsVirtualKeyCode=code, **text)
+
+    def screenshot(self, file: Path) -> None:
+        octets = self.call("Page.captureScreenshot", format="png", captureBeyondViewport=True)["data"]
+        file.write_bytes(base64.b64decode(octets))
+
+    def end(self) -> None:
+        self.call("Browser.close")
+        self.process.wait(60)
+        os.close(self.commands)
+        os.close(self.answers)
+        shutil.rmtree(self.profile, ignore_errors=True)

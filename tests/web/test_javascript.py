@@ -1,0 +1,165 @@
+"""The JavaScript module in node and in Chromium: each answer is that of the native library, which other tests judge."""
+
+import functools
+import hashlib
+import http.server
+import json
+import shutil
+import threading
+from pathlib import Path
+from random import Random
+
+import npm
+import pytest
+
+import exifnorm
+from changed import changed
+from commands import TOP, run
+from judged import LARGE, blocks_of_cases
+from kinds import small_kinds
+from small_blocks import long_form
+from test_jpeg_same import exif, iptc, picture
+
+HERE = Path(__file__).resolve().parent
+pytestmark = pytest.mark.xdist_group("web")
+SEED = 7
+MOST_WASM = 120_000
+
+
+def digest(octets):
+    return hashlib.sha256(octets).hexdigest()
+
+
+CALLS = {
+    "check": exifnorm.kind,
+    "normalise": lambda block: digest(exifnorm.normal(block)),
+    "show": lambda block: digest(exifnorm.show(block).encode()),
+    "captions": lambda block: digest(exifnorm._calls.captions_text(block).encode()),
+    "compare": exifnorm.same,
+    "jpegParts": lambda bytes_: [list(part) for part in exifnorm.jpeg_parts(bytes_)],
+    "jpegBlocks": lambda bytes_: [[kind, digest(data)] for kind, data in exifnorm.jpeg_blocks(bytes_)],
+    "jpegUnread": lambda bytes_: exifnorm.jpeg_unread(bytes_) and list(exifnorm.jpeg_unread(bytes_)),
+    "jpegSame": exifnorm.jpeg_same,
+    "photoshopResources": lambda bytes_: [list(resource) for resource in exifnorm.photoshop_resources(bytes_)],
+}
+OF_BLOCK, OF_BLOCKS = ("check", "normalise", "show", "captions"), ("compare",)
+OF_PICTURE, OF_PICTURES = ("jpegParts", "jpegBlocks", "jpegUnread"), ("jpegSame",)
+
+
+def native(name, blocks):
+    """What the native library answers, as answers.mjs writes it."""
+    try:
+        return CALLS[name](*blocks)
+    except (exifnorm.Refused, exifnorm.NormalTooLong) as why:
+        return [type(why).__name__, str(why)]
+
+
+def pictures(blocks):
+    """JPEGs with the blocks of cases, the sample pictures, and those with mistakes by chance."""
+    chance = Random(SEED)
+    samples = [path.read_bytes() for path in sorted(TOP.glob("samples/*/*/*.jpg"))]
+    small = [block for block in blocks if len(block) < 30_000]
+    found = [picture(exif(block), iptc(other)) for block, other in zip(small, reversed(small))]
+    return samples + found + [changed(chance.choice(samples)[:20_000], chance) for _ in range(300)]
+
+
+@pytest.fixture(scope="module")
+def requests(library):
+    """The blocks, and the requests by their numbers: each block and picture, and each with the one before it and with itself."""
+    blocks = [*dict.fromkeys([*blocks_of_cases(), *(block for kind in small_kinds() for block in kind.blocks)])]
+    blocks = [block for block in blocks if len(block) < LARGE or len(block) > 1 << 24] + [long_form()]
+    heads = [*dict.fromkeys(pictures(blocks))]
+    asked = []
+    for start, count, single, double in ((0, len(blocks), OF_BLOCK, OF_BLOCKS), (len(blocks), len(heads), OF_PICTURE, OF_PICTURES)):
+        for number in range(start, start + count):
+            asked += [(call, number) for call in single]
+            asked += [(call, number, other) for call in double for other in (number, start + (number + 1 - start) % count)]
+    resources = [number for number, block in enumerate(blocks) if block[:4] == b"8BIM"]
+    return blocks + heads, asked + [("photoshopResources", number) for number in [*resources, 0]]
+
+
+@pytest.fixture(scope="module")
+def served(module, requests, session_folder):
+    """A folder with the module, the blocks and the requests."""
+    folder = session_folder / "served"
+    shutil.copytree(module, folder)
+    shutil.copyfile(HERE / "answers.mjs", folder / "answers.mjs")
+    blocks, asked = requests
+    (folder / "blocks").write_bytes(b"".join(blocks))
+    (folder / "requests.json").write_text(json.dumps({"sizes": [len(block) for block in blocks], "requests": asked}), encoding="ascii")
+    (folder / "empty.html").write_text("<!DOCTYPE html><title>answers</title>", encoding="ascii")
+    return folder
+
+
+@pytest.fixture(scope="module")
+def expected(requests):
+    blocks, asked = requests
+    return [native(name, [blocks[number] for number in numbers]) for name, *numbers in asked]
+
+
+def judge(checks, requests, answers, expected):
+    blocks, asked = requests
+    assert len(answers) == len(expected)
+    for (name, *numbers), answer, due in zip(asked, answers, expected):
+        if answer != due:
+            checks.equal(f"{name} of {[blocks[number][:60].hex() for number in numbers]}", answer, due)
+    checks.check("each request was answered", len(answers) > 1000)
+
+
+def test_each_answer_in_node(node, served, requests, expected, checks):
+    judge(checks, requests, json.loads(node("answers.mjs", folder=served)), expected)
+
+
+class Quiet(http.server.SimpleHTTPRequestHandler):
+    extensions_map = {**http.server.SimpleHTTPRequestHandler.extensions_map, ".mjs": "text/javascript"}
+
+    def log_message(self, *_):
+        pass
+
+
+def test_each_answer_in_chromium(chromium, served, requests, expected, checks):
+    with http.server.ThreadingHTTPServer(("127.0.0.1", 0), functools.partial(Quiet, directory=str(served))) as server:
+        threading.Thread(target=server.serve_forever, daemon=True).start()
+        try:
+            chromium.open(f"http://127.0.0.1:{server.server_port}/empty.html")
+            answers = chromium.ask("import('./answers.mjs').then(async (module) => JSON.stringify(await module.answers()))")
+        finally:
+            server.shutdown()
+    judge(checks, requests, json.loads(answers), expected)
+
+
+def test_engine(node, module, session_folder):
+    """The rest of the module's behaviour: errors, memory, the heap, and a module that traps (engine.test.mjs)."""
+    shutil.copyfile(HERE / "engine.test.mjs", module / "engine.test.mjs")
+    run("wasm-as", HERE / "trap.wat", "-o", module / "trap.wasm")
+    said = node("--test", "--test-reporter=tap", "engine.test.mjs", folder=module)
+    assert "# fail 0" in said and "# pass 0" not in said, said
+
+
+def test_the_module_imports_nothing_and_is_small(wasm, node):
+    octets = (wasm / "exifnorm.wasm").read_bytes()
+    assert len(octets) < MOST_WASM
+    script = "const module = new WebAssembly.Module(require('fs').readFileSync(process.argv[1])); console.log(WebAssembly.Module.imports(module).length)"
+    assert node("-e", script, wasm / "exifnorm.wasm") == "0\n"
+
+
+def test_a_package_that_npm_installs(wasm, node, folder):
+    """Offline, from the file. Without npm, the archive is unpacked as npm does it."""
+    packed = folder / "exifnorm-1.0.0.tgz"
+    octets = npm.archive((wasm / "exifnorm.wasm").read_bytes(), "1.0.0", 1)
+    assert octets == npm.archive((wasm / "exifnorm.wasm").read_bytes(), "1.0.0", 1), "the same arguments make the same bytes"
+    packed.write_bytes(octets)
+    user = folder / "user"
+    user.mkdir()
+    if shutil.which("npm"):
+        run("npm", "install", "--offline", "--no-audit", "--no-fund", packed, folder=user, HOME=str(folder))
+    else:
+        (user / "node_modules").mkdir()
+        shutil.unpack_archive(packed, user / "node_modules")
+        (user / "node_modules" / "package").rename(user / "node_modules" / "exifnorm")
+    readme = (TOP / "javascript" / "README.md").read_text(encoding="utf-8")
+    (user / "example.mjs").write_text(readme.partition("```js\n")[2].partition("```")[0], encoding="utf-8")
+    for name in ("before", "after"):
+        shutil.copyfile(TOP / "samples" / name / "ceramics" / "2003-12-bowl.jpg", user / f"{name}.jpg")
+    said = node("example.mjs", folder=user)
+    assert said.startswith("different\n") and "caption: Bowl, celadon glaze, 1820\n" in said
