@@ -46,6 +46,11 @@ def rare(nodes):
     return f"<rdf:RDF {SPACES}>{inside}</rdf:RDF>".encode()
 
 
+def rare_text(text):
+    """A packet with a text in a form of RDF that only rdflib reads."""
+    return xmp(f"<dc:a rdf:nodeID='n'/><rdf:_1>{text}</rdf:_1>")
+
+
 def resources(number):
     return b"8BIM\4\x25\0\0\0\0\0\0" * number
 
@@ -80,6 +85,24 @@ A_TEXT = "x" * 14_000_000
 # that was not read, or nothing if all of it was read.
 FILES = {
     "rare.png": (written(lambda: png(png_xmp(rare(20_000), packed=True))), "TooRare"),
+    "lines.png": (written(lambda: png(png_xmp(rare_text("a\n" * 1_000_000), packed=True))), ""),
+    "references.png": (written(lambda: png(png_xmp(rare_text("&lt;" * 2_000_000), packed=True))), ""),
+    "markup.jpg": (written(lambda: jpeg(app1_xmp(xmp("<dc:a rdf:parseType='Literal'>" + "a\n" * 25_000 + "</dc:a>")))), "Markup"),
+    "typed-markup.png": (
+        written(
+            lambda: png(
+                png_xmp(
+                    xmp(
+                        "<dc:a rdf:datatype='http://www.w3.org/1999/02/22-rdf-syntax-ns#XMLLiteral'>"
+                        + "<![CDATA[<a/>]]>" * 90_000
+                        + "</dc:a>"
+                    ),
+                    packed=True,
+                )
+            )
+        ),
+        "Markup",
+    ),
     "one-extension.jpg": (written(lambda: extended(100, 3_000_000)), "TooLong"),
     "pages-of-one-packet.tif": (written(lambda: sharing(xmp("<dc:a>" + "x" * 25_000 + "</dc:a>"), 9000, 0x02BC, 1)), ""),
     "pages-of-a-long-packet.tif": (written(lambda: sharing(xmp("<dc:a>" + "<dc:b/>" * 2_000_000 + "</dc:a>"), 15, 0x02BC, 1)), "TooLong"),

@@ -125,7 +125,6 @@ class Packets(unittest.TestCase):
         for inside in (
             "<xmp:d><rdf:Description rdf:about='http://x/' xmp:a='7'/></xmp:d>",
             "<xmp:d><rdf:Description rdf:about='' xmp:a='7'/></xmp:d>",
-            "<xmp:d rdf:parseType='Literal'>1</xmp:d>",
             "<xmp:d rdf:nodeID='n'/>",
             "<xmp:d rdf:datatype='http://t/'>1</xmp:d>",
             "text",

@@ -256,6 +256,7 @@ _WHOLE_COPY = "Take the file from its source again: a program has copied its XMP
 XMP_REMEDIES: Dict[str, str] = {
     "TooLong": "No packet of a real picture is so long. Keep what is long, such as masks of an editor, outside of the picture.",
     "TooRare": _WRITE_AGAIN,
+    "Markup": _WRITE_AGAIN,
     "NotText": _WRITE_AGAIN,
     "DocumentType": "Remove the declaration from the packet; nothing in XMP needs one.",
     "NotWellFormed": _WRITE_AGAIN,

@@ -2,17 +2,21 @@
 
 from __future__ import annotations
 
-from typing import Any, Dict, List, Set, Tuple
+from typing import Any, Dict, List, Optional, Set, Tuple
 from xml.etree import ElementTree
 
+from ..model.budgets import Budget, TooMuch
 from .packets import Unreadable
-from .tree import Literal, Node, Resource, Statement, Statements, Value
+from .tree import RDF, Literal, Node, Resource, Statement, Statements, Value
 
 _BASE = "this:base"
+_MARKUP = {f"{RDF}XMLLiteral", f"{RDF}HTML"}  # datatypes whose values rdflib parses again
 
 
-def statements(root: ElementTree.Element) -> Statements:
-    """The statements of an rdf:RDF element. Raises `Unreadable`."""
+def statements(root: ElementTree.Element, budget: Optional[Budget] = None) -> Statements:
+    """The statements of an rdf:RDF element. Raises `Unreadable`, and `TooLong` when the picture has taken too long."""
+    if any(map(_is_markup, root.iter())):
+        raise Unreadable("Markup")
     try:
         import rdflib
     except ImportError:
@@ -23,10 +27,30 @@ def statements(root: ElementTree.Element) -> Statements:
     rdflib.NORMALIZE_LITERALS = False
     graph = rdflib.Graph()
     try:
-        graph.parse(data=ElementTree.tostring(root, encoding="utf-8"), format="xml", publicID=_BASE)
+        _parse(graph, ElementTree.tostring(root, encoding="utf-8"), budget or Budget())
+    except TooMuch:
+        raise
     except Exception:  # rdflib raises its own kinds, those of xml.sax, and others
         raise Unreadable("NotRDF") from None
     return _Tree(rdflib, graph).statements()
+
+
+def _is_markup(element: ElementTree.Element) -> bool:
+    """Whether the value of a property is XML or HTML text, which XMP doesn't allow."""
+    return element.get(f"{{{RDF}}}parseType") == "Literal" or element.get(f"{{{RDF}}}datatype") in _MARKUP
+
+
+def _parse(graph: Any, octets: bytes, budget: Budget) -> None:
+    """Adds the statements of a packet to a graph, as rdflib's own parser does, with each text in one piece."""
+    from rdflib.parser import create_input_source
+    from rdflib.plugins.parsers.rdfxml import create_parser
+
+    from .joined import Joined
+
+    source = create_input_source(data=octets, publicID=_BASE)
+    parser = create_parser(source, graph)
+    parser.setContentHandler(Joined(parser.getContentHandler(), budget))
+    parser.parse(source)
 
 
 class _Tree:

@@ -15,6 +15,7 @@ CAUSES = {
     f" {LIMITS[budgets.XMP_BYTES]:,} bytes, {LIMITS[budgets.XMP_TAGS]:,} tags or {LIMITS[budgets.XMP_ATTRIBUTES]:,} attributes,"
     f" or a language has more than {LANGUAGE} characters.",
     "TooRare": f"The packets of the file have more than {LIMITS[budgets.RARE_ELEMENTS]:,} elements in a rare form of RDF/XML.",
+    "Markup": "A value is XML or HTML text (rdf:parseType Literal, or the datatype XMLLiteral or HTML), which XMP does not allow.",
     "NotText": "The packet is no text in UTF-8, UTF-16 or UTF-32, or declares another encoding.",
     "DocumentType": "The packet has a document type declaration, which XMP does not allow.",
     "NotWellFormed": "The packet is not well-formed XML.",

@@ -74,7 +74,7 @@ def _parsed(packet: bytes, budget: Budget) -> Statements:
             raise
         except TooMuch:
             raise Unreadable("TooRare") from None
-        found = by_rdflib.statements(root)
+        found = by_rdflib.statements(root, budget)
     check_repeated(found)  # rdflib doesn't keep the order
     return found
 
