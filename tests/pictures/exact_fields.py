@@ -5,7 +5,7 @@ import re
 from exifnorm import Ratio
 
 from exifnorm_pictures.fields.listing import OCTETS, Field
-from exifnorm_pictures.xmp.values import Array, Literal, Long, Resource, Structure
+from exifnorm_pictures.model.xmp_values import Array, Literal, Long, Resource, Structure
 
 _ESCAPE = re.compile(r"\\(n|r|t|\\|\"|x[0-9a-f]{2}|u[0-9a-f]{4}|U[0-9a-f]{8})")
 _SHORT = {"n": "\n", "r": "\r", "t": "\t", "\\": "\\", '"': '"'}

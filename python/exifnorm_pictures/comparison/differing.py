@@ -9,7 +9,7 @@ from ..fields import listing
 from ..fields.listing import LONGEST_BYTES, OCTETS, Field, counted_type, digest_of, order_of, shortened
 from ..fields.names import full_name
 from ..fields.plain_names import group_name, group_of
-from ..xmp.values import Long
+from ..model.xmp_values import Long
 
 NUMBERS = ("BYTE", "SHORT", "LONG", "WHOLE", "SSHORT", "SLONG", "RATIONAL", "SRATIONAL")
 

@@ -2,13 +2,14 @@
 
 from __future__ import annotations
 
-from typing import List, Optional, Union
+from typing import TYPE_CHECKING, List, Optional, Union
 
-from .. import xmp
 from ..model.records import Block
-from . import normal_form, xmp_properties
 from .listing import Field
 from .packing import unpacked
+
+if TYPE_CHECKING:
+    from .. import xmp
 
 
 class Fields:
@@ -16,13 +17,15 @@ class Fields:
 
     __slots__ = ("_source", "_made")
 
-    def __init__(self, source: Union[bytes, xmp.Statements]) -> None:
+    def __init__(self, source: "Union[bytes, xmp.Statements]") -> None:
         self._source = source
         self._made: Optional[List[Field]] = None
 
     def all(self) -> List[Field]:
         """The fields, in the order of a listing."""
         if self._made is None:
+            from . import normal_form, xmp_properties  # which load the library and the reader of XML, and a catalogue's fields need neither
+
             source = self._source
             self._made = normal_form.fields(source) if isinstance(source, bytes) else xmp_properties.fields(source)
         return self._made

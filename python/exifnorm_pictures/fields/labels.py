@@ -9,7 +9,7 @@ import functools
 import re
 from typing import Dict, Iterable, Iterator, List, NamedTuple, Optional, Sequence, Set, Tuple
 
-from ..xmp.values import Long, texts
+from ..model.xmp_values import Long, texts
 from .listing import Field
 from .own_texts import is_own
 from .plain_names import group_name, plain_name

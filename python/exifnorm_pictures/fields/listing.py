@@ -4,15 +4,16 @@ from __future__ import annotations
 
 import hashlib
 import re
-from typing import Iterable, Iterator, NamedTuple, Optional, Tuple, Union
-
-from exifnorm import Ratio
+from typing import TYPE_CHECKING, Iterable, Iterator, NamedTuple, Optional, Tuple, Union
 
 from ..model.texts import escaped
-from ..xmp import values as xmp_values
-from ..xmp.values import Long, XmpValue
+from ..model import xmp_values
+from ..model.xmp_values import Long, XmpValue
 from .names import full_name
 from .plain_names import group_of, plain_name
+
+if TYPE_CHECKING:
+    from exifnorm import Ratio  # which loads the library, and what reads a catalogue does without
 
 LONGEST_TEXT = 65_536  # bytes of a text that is kept whole
 LONGEST_OTHER_TEXT = 400  # characters of bytes that happen to be a text, in a field of no texts
@@ -24,7 +25,7 @@ OCTETS = {"BYTE", "ASCII", "SBYTE", "UNDEFINED", "UTF8", "octets"}
 WIDE_TEXTS = {"9c9b", "9c9c", "9c9d", "9c9e", "9c9f"}  # of Windows: UTF-16, least significant byte first
 _OTHER_DATASETS = {"2:125", "2:202"}  # pictures
 
-Value = Union[bytes, Tuple[int, ...], Tuple[Ratio, ...], Tuple[XmpValue, ...], Long]
+Value = Union[bytes, Tuple[int, ...], "Tuple[Ratio, ...]", Tuple[XmpValue, ...], Long]
 
 
 class Field(NamedTuple):
@@ -129,6 +130,7 @@ def _kept_property(value: XmpValue) -> XmpValue:
 def exact(it: Field) -> str:
     """The value of a field as it is printed exactly; of one that is too long to be kept, its beginning and its digest.
 
+    >>> from exifnorm import Ratio
     >>> exact(Field("main", "013b", "ASCII", 5, b"Otto\\0")), exact(Field("exif", "829a", "RATIONAL", 1, (Ratio(10, 1250),)))
     ('"Otto"', '10/1250')
     """

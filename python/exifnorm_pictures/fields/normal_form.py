@@ -8,7 +8,7 @@ from typing import Iterable, List
 from exifnorm._forms import _READ, Place, places
 
 from ..model.budgets import FIELDS
-from ..xmp.values import Long
+from ..model.xmp_values import Long
 from .listing import OCTETS, Field, digest_of
 
 _LEAST = 5  # bytes of a field: the head of an empty DataSet

@@ -17,11 +17,9 @@ import json
 import zlib
 from typing import Any, Callable, List, NamedTuple, Optional, Sequence
 
-from exifnorm import Ratio
-
 from ..model.budgets import FIELD_BYTES
 from ..model.columns import Damaged
-from ..xmp.values import Array, Literal, Long, Resource, Structure, XmpValue
+from ..model.xmp_values import Array, Literal, Long, Resource, Structure, XmpValue
 from .listing import LONGEST_BYTES, MAKER_NOTE, OCTETS, Field, Value, digest_of, kept_value, plain_text
 
 _SHORTEST = 200  # characters of a list that compression makes longer, or hardly shorter
@@ -168,6 +166,8 @@ def _value(where: str, kind: str, count: int, value: Any) -> Value:
         return tuple(numbers)
     if len(numbers) % 2:
         raise ValueError("half a fraction")
+    from exifnorm import Ratio  # which loads the library
+
     return tuple(map(Ratio, numbers[0::2], numbers[1::2]))
 
 

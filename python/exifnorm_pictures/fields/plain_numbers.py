@@ -9,7 +9,7 @@ import re
 from fractions import Fraction
 from typing import Any, Callable, List, Optional
 
-from ..xmp.values import Long
+from ..model.xmp_values import Long
 from .listing import Field, kept_value
 from .plain_texts import text_of
 

@@ -5,7 +5,7 @@ from __future__ import annotations
 from typing import List, Optional, Tuple
 
 from ..model.texts import escaped
-from ..xmp.values import Long, simple_texts
+from ..model.xmp_values import Long, simple_texts
 from .listing import Field, exact, kept_value, marked_text, shortened
 
 EMPTY = "(empty)"
@@ -100,7 +100,7 @@ def xmp_texts(it: Field) -> Optional[List[Tuple[str, str]]]:
 def plain_xmp(it: Field) -> str:
     """The texts of a property, separated by semicolons, each with its language unless x-default is the only one.
 
-    >>> from ..xmp.values import Array, Literal
+    >>> from ..model.xmp_values import Array, Literal
     >>> plain_xmp(Field("xmp", "dc:title", "Alt", 2, (Array("Alt", (Literal("Vase", "x-default"), Literal("Krug", "de"))),)))
     'Vase (x-default); Krug (de)'
     """
@@ -116,7 +116,7 @@ def plain_xmp(it: Field) -> str:
 def quoted_xmp(it: Field) -> str:
     """The texts of a property in one line, each in quotes and with its language unless x-default is the only one.
 
-    >>> from ..xmp.values import Array, Literal
+    >>> from ..model.xmp_values import Array, Literal
     >>> quoted_xmp(Field("xmp", "dc:title", "Alt", 2, (Array("Alt", (Literal("Vase", "x-default"), Literal("Krug", "de"))),)))
     '"Vase" (x-default), "Krug" (de)'
     """

@@ -7,10 +7,8 @@ from __future__ import annotations
 
 from typing import Dict, Optional
 
-from exifnorm import Ratio
-
 from ..model.texts import escaped
-from ..xmp.values import Literal
+from ..model.xmp_values import Literal
 from . import plain_numbers as numbers
 from .listing import OCTETS, Field, exact, is_comment, kept_value, shortened
 from .plain_numbers import Rule, decimal, degrees, fractions, with_unit
@@ -133,6 +131,7 @@ _RULES = {"main": _EXIF, "exif": _EXIF, "thumb": _EXIF, "gps": _GPS, "iptc": _II
 def plain(it: Field) -> str:
     """The value of a field as a person writes it.
 
+    >>> from exifnorm import Ratio
     >>> plain(Field("exif", "829a", "RATIONAL", 1, (Ratio(10, 1250),))), plain(Field("main", "0112", "SHORT", 1, (6,)))
     ('1/125 s', 'turn 90° clockwise to view')
     """
@@ -191,6 +190,7 @@ POSITION = tuple(key for half in _HALVES for key in half)  # the tags of the fou
 def position(fields: Dict[str, Field]) -> Optional[str]:
     """The position of the GPS directory in degrees, of its fields by tag; None if a part is missing.
 
+    >>> from exifnorm import Ratio
     >>> angles = {"0002": (Ratio(46, 1), Ratio(30, 1), Ratio(0, 1)), "0004": (Ratio(7, 1), Ratio(1213, 100), Ratio(0, 1))}
     >>> some = {key: Field("gps", key, "RATIONAL", 3, value) for key, value in angles.items()}
     >>> position({**some, "0001": Field("gps", "0001", "ASCII", 2, b"N\\0"), "0003": Field("gps", "0003", "ASCII", 2, b"E\\0")})

@@ -8,7 +8,7 @@ from datetime import date, datetime, time
 from fractions import Fraction
 from typing import Any, List, Optional, Sequence, Tuple, Union
 
-from ..xmp.values import Array, Literal, Long, Resource, XmpValue
+from ..model.xmp_values import Array, Literal, Long, Resource, XmpValue
 from .listing import Field, is_comment, is_wide_text, kept_value, marked_text
 from .plain_texts import comment, is_utf8, xmp_texts
 

@@ -7,7 +7,7 @@ from typing import Dict, List, Tuple
 
 from ..model.xmp_names import short_name
 from ..xmp.tree import MEMBER, Literal, Node, Resource, Statement, Statements, Value, key_of, unique
-from ..xmp.values import Array, Long, Structure, XmpValue, exact, texts
+from ..model.xmp_values import Array, Long, Structure, XmpValue, exact, texts
 from .listing import DIGITS, Field
 
 WHERE = "xmp"

@@ -6,7 +6,7 @@ import hashlib
 import re
 from typing import Dict, List, NamedTuple, Tuple, Union
 
-from .values import Literal, Resource
+from ..model.xmp_values import Literal, Resource
 
 RDF = "http://www.w3.org/1999/02/22-rdf-syntax-ns#"
 TYPE = RDF + "type"

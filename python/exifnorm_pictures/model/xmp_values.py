@@ -5,7 +5,7 @@ from __future__ import annotations
 import re
 from typing import Iterator, List, NamedTuple, Tuple, Union
 
-from ..model.texts import escaped
+from .texts import escaped
 
 VALUE = "rdf:value"  # the text itself, in a structure with what qualifies it
 _MEMBER = re.compile(r"rdf:_([0-9]+)\Z")
