@@ -37,9 +37,9 @@ if TYPE_CHECKING:
         Refusal,
         compare,
         read,
-        read_all,
         read_bytes,
     )
+    from .many import read_all
 
 __all__ = [
     "Block",
@@ -63,9 +63,9 @@ def __getattr__(name: str) -> object:
     """What a program asks for is imported then, which the commands need not wait for."""
     if name not in __all__:
         raise AttributeError(f"module {__name__!r} has no attribute {name!r}")
-    from . import api
+    from . import api, many
 
-    found: object = getattr(api, name)
+    found: object = getattr(many if name == "read_all" else api, name)
     return found
 
 

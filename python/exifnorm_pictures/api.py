@@ -2,19 +2,18 @@
 
 from __future__ import annotations
 
-import concurrent.futures
+import contextlib
+import hashlib
 import os
 import re
 from datetime import datetime, timedelta, timezone
 from fractions import Fraction
-from typing import BinaryIO, Dict, Iterable, Iterator, List, NamedTuple, Optional, Tuple, Union
-
-import exifnorm
+from typing import BinaryIO, Dict, Iterator, List, NamedTuple, Optional, Tuple, Union
 
 from .comparison import differing
 from .comparison.conflicts import chosen, conflicts
-from .extract import extraction, programs
-from .extract.formats.streams import File, Memory
+from .extract import coded_picture, extraction, programs
+from .extract.formats.streams import File, Memory, digest_of_file
 from .fields import labels, listing, plain_values, typed
 from .fields.block_fields import fields_of
 from .fields.plain_names import exact_key, group_name
@@ -40,7 +39,6 @@ __all__ = [
     "Refusal",
     "compare",
     "read",
-    "read_all",
     "read_bytes",
 ]
 
@@ -280,13 +278,22 @@ class Block:
         return f"Block(name={self.name!r}, status={self.status!r}, where={self.where!r})"
 
 
+class _Digests(NamedTuple):
+    """What is compared of a file besides its metadata."""
+
+    coded: coded_picture.CodedPicture
+    sha256: str
+
+
 class Picture:
     """The metadata of a picture, as they were when it was read. `picture[name]` is the value of the first field with this name."""
 
-    __slots__ = ("_name", "_reading", "_path", "_stamp", "_blocks", "_names", "_made")
+    __slots__ = ("_name", "_reading", "_path", "_stamp", "_digests", "_blocks", "_names", "_made")
 
-    def __init__(self, name: str, reading: Reading, path: bytes = b"", stamp: Optional[Stamp] = None) -> None:
-        self._name, self._reading, self._path, self._stamp = name, reading, path, stamp
+    def __init__(
+        self, name: str, reading: Reading, path: bytes = b"", stamp: Optional[Stamp] = None, digests: Optional[_Digests] = None
+    ) -> None:
+        self._name, self._reading, self._path, self._stamp, self._digests = name, reading, path, stamp, digests
         self._blocks: Optional[Tuple[Block, ...]] = None
         self._names: Optional[Dict[str, List[Field]]] = None
         self._made: Optional[Record] = None
@@ -345,6 +352,24 @@ class Picture:
             reading = self._reading
             self._made = Record.found(os.path.abspath(self._path) if self._path else b"", b"", self._stamp, reading.read, reading.blocks)
         return self._made
+
+    def _whole_record(self) -> Record:
+        """The same with the digests of the coded picture and of the file, if the file is still the one that was read."""
+        if self._digests is None and self._is_unchanged():
+            found = _digests_of_file(self._path)
+            self._digests = found if self._is_unchanged() else None
+        if self._digests is None:
+            return self._record()
+        (coded, beside, damage), sha256 = self._digests
+        file = "" if all(it.digest for it in self._reading.read.not_read) else sha256
+        return self._record()._replace(coded_picture=coded, beside=beside, damage=damage, sha256=sha256, file=file)
+
+    def _is_unchanged(self) -> bool:
+        """Whether the file is the one that was read."""
+        try:
+            return self._stamp is not None and is_marked_as(Stamp.of(os.stat(self._path)), self._stamp[:4])
+        except OSError:
+            return False
 
     def find(self, name: str) -> Tuple[Field, ...]:
         """All fields with a name, of all blocks: with its group or without, in capital or small letters."""
@@ -435,12 +460,7 @@ def read(source: Source, *, whole: bool = False) -> Picture:
     Raises OSError if the file can't be read, `NoPicture`, and `NotReadable`. A block that breaks the rules raises nothing: see
     `Picture.refusals`. With `whole` every byte of a JPEG is read, and not only its head and tail. No file is changed.
     """
-    if not isinstance(source, (str, bytes, os.PathLike)):
-        return read_bytes(source.read(), name=str(getattr(source, "name", "")), whole=whole)
-    path = os.fsencode(source)
-    number, size = opening.opened(path)
-    stamp = Stamp.of(os.fstat(number))
-    return _picture(File(number, size, Budget(whole)), path, os.fsdecode(path), whole, stamp)
+    return _read(source, whole, False)
 
 
 def read_bytes(data: bytes, *, name: str = "", whole: bool = False) -> Picture:
@@ -448,9 +468,38 @@ def read_bytes(data: bytes, *, name: str = "", whole: bool = False) -> Picture:
 
     The ending of a name helps with files that don't show what they are: sidecars of XMP and some raw pictures.
     """
+    return _read_bytes(data, name, whole, False)
+
+
+def _read(source: Source, whole: bool, pixels: bool) -> Picture:
+    if not isinstance(source, (str, bytes, os.PathLike)):
+        if not hasattr(source, "read"):
+            raise TypeError(f"a path or a binary file is expected, not {type(source).__name__}; of bytes read_bytes reads a picture")
+        return _read_bytes(source.read(), str(getattr(source, "name", "")), whole, pixels)
+    path = os.fsencode(source)
+    number, size = opening.opened(path)
+    stamp = Stamp.of(os.fstat(number))
+    return _picture(File(number, size, Budget(whole)), path, os.fsdecode(path), whole, stamp)
+
+
+def _read_bytes(data: bytes, name: str, whole: bool, pixels: bool) -> Picture:
     if not isinstance(data, (bytes, bytearray, memoryview)):
         raise TypeError(f"the bytes of a picture are expected, not {type(data).__name__}: open files in binary mode")
-    return _picture(Memory(bytes(data), Budget(whole)), b"", name or "(bytes)", whole, None)
+    octets = bytes(data)
+    found = _picture(Memory(octets, Budget(whole)), b"", name or "(bytes)", whole, None)
+    if pixels:
+        with contextlib.closing(Memory(octets)) as stream:
+            coded = coded_picture.of_stream(stream, Budget())
+            found._digests = _Digests(coded, hashlib.sha256(octets).hexdigest())
+    return found
+
+
+def _digests_of_file(path: bytes) -> Optional[_Digests]:
+    """None if the file can't be read."""
+    try:
+        return _Digests(coded_picture.of_file(path, Budget()), digest_of_file(path, 1 << 62))
+    except OSError:
+        return None
 
 
 def _picture(file: Union[File, Memory], path: bytes, name: str, whole: bool, stamp: Optional[Stamp]) -> Picture:
@@ -475,29 +524,6 @@ def _error(blocks: Blocks, name: str) -> Exception:
     if blocks.problem == "NoPicture":
         return NoPicture(f"{name}: {blocks.detail}")
     return NotReadable(blocks.problem or "", blocks.detail, name)
-
-
-Read = Union[Picture, OSError, NoPicture, NotReadable]
-
-
-def read_all(paths: Iterable[PathLike], *, jobs: Optional[int] = None) -> "Iterator[Tuple[PathLike, Read]]":
-    """Reads many pictures in several processes, in their order: each path with its picture, or with the exception that `read` raises."""
-    if jobs == 1:
-        for path in paths:
-            yield path, _one(path)
-        return
-    names = list(paths)
-    with concurrent.futures.ProcessPoolExecutor(jobs) as pool:
-        yield from zip(names, pool.map(_one, names, chunksize=16))
-
-
-def _one(path: PathLike) -> Read:
-    try:
-        return read(path)
-    except exifnorm.LibraryMissing:
-        raise
-    except (OSError, NoPicture, NotReadable) as error:
-        return error
 
 
 # Comparing
@@ -528,8 +554,13 @@ class Difference(NamedTuple):
 class Comparison(NamedTuple):
     """Two pictures compared.
 
-    `same` is True, False, or None if it isn't known: a block is refused, a part was not read, or only the place of a MakerNote differs.
-    `result` is the word that `changed` prints, `note` a sentence about each kind of block, and `differences` are the fields that differ.
+    - `same`: True, False, or None if it isn't known: a block is refused, a part was not read, or only the place of a MakerNote differs
+    - `result`: the word that `changed` prints
+    - `note`: a sentence about each kind of block
+    - `differences`: the fields that differ
+    - `picture`: "the same", "other", "damaged" or "damaged before and after", by the data from which the pixels are decoded; "not compared"
+      if there is no reader for these, the formats differ, or the file isn't there any more
+
     A comparison has no truth value, because "not known" would be taken for one of the others.
     """
 
@@ -537,32 +568,28 @@ class Comparison(NamedTuple):
     result: str
     note: str
     differences: Tuple[Difference, ...]
+    picture: str
 
     def __bool__(self) -> bool:
         raise TypeError("a comparison has three results: look at .same, which is True, False or None")
 
 
 def compare(before: Union[Picture, Source], after: Union[Picture, Source], *, ask_exiftool: bool = False) -> Comparison:
-    """Compares the Exif, IPTC and XMP of two pictures. Each is a picture that was read, or what `read` takes. Raises what `read` raises.
+    """Compares two pictures, as the command does: their Exif, IPTC and XMP, and the data from which their pixels are decoded.
 
-    With `ask_exiftool` ExifTool compares the values of MakerNotes that have moved.
+    Each is a picture that was read, or what `read` takes. Raises what `read` raises. Of a `Picture` from a path the pixels are compared if
+    the file is as it was, and of one from bytes or from a file object only its metadata. With `ask_exiftool` ExifTool compares the values of
+    MakerNotes that have moved, if both are files.
     """
-    from .comparison import changed, two_pictures  # which not every program needs
+    from .comparison import changed, coded, two_pictures  # which not every program needs
 
-    one, other = (it if isinstance(it, Picture) else read(it) for it in (before, after))
-    is_identical = _is_unchanged(one) and _is_unchanged(other) and two_pictures.is_identical(one._path, other._path)
-    if is_identical:
-        return Comparison(True, SAME, "the two files are identical, byte for byte", ())
-    found = two_pictures.compared_records(one._record(), other._record(), ask_exiftool and bool(one._path and other._path))
-    return Comparison(changed.decided(found.result), found.result, found.note, tuple(_difference(it) for it in found.changes))
-
-
-def _is_unchanged(it: Picture) -> bool:
-    """Whether the file is the one that was read."""
-    try:
-        return it._stamp is not None and is_marked_as(Stamp.of(os.stat(it._path)), it._stamp[:4])
-    except OSError:
-        return False
+    one, other = (it if isinstance(it, Picture) else _read(it, False, True) for it in (before, after))
+    records = one._whole_record(), other._whole_record()
+    if records[0].sha256 and records[0].sha256 == records[1].sha256:
+        return Comparison(True, SAME, "the two files are identical, byte for byte", (), coded.SAME)
+    found = two_pictures.compared_records(*records, ask_exiftool and bool(one._path and other._path))
+    differences = tuple(_difference(it) for it in found.changes)
+    return Comparison(changed.decided(found.result), found.result, found.note, differences, found.picture)
 
 
 def _difference(it: differing.Difference) -> Difference:

@@ -1,9 +1,11 @@
 """The public calls of exifnorm_pictures. Expected values come from ExifTool, from the commands, or from the maker of the samples."""
 
+import asyncio
 import concurrent.futures
 import csv
 import io
 import json
+import multiprocessing
 import os
 import pickle
 import subprocess
@@ -14,12 +16,16 @@ from pathlib import Path
 
 import pytest
 from made_blocks import BLOCKS, with_exif
-from made_files import app1_xmp, jpeg, xmp
+from made_boxes import Item, box, heif, item_exif, jp2, jxl, uuid
+from made_files import app1, app1_xmp, chunk, exif, jpeg, png, png_xmp, resource, title, webp, xmp
+from made_more_files import gif, gif_xmp, psd
+from made_raw import arw, cr2, dng, nef, orf, pef, rw2, srw, whole_raf
 from studio import SMALL_JPEG, TOP, needs, tool
 from test_captions import data_set, with_record
 
 import exifnorm
 import exifnorm_pictures as pictures
+from exifnorm_pictures import many
 
 BEFORE, AFTER = (Path(TOP) / "samples" / it for it in ("before", "after"))
 BOWL = "ceramics/2003-12-bowl.jpg"
@@ -74,15 +80,60 @@ def test_numbers_are_those_of_exiftool():
     assert compared > 50
 
 
-@pytest.mark.parametrize("name", [BOWL, "prints/1931-4-plan.png", "paintings/1974-31-portrait.tif", "textiles/2011-2-sash.webp"])
-def test_a_path_bytes_and_a_file_are_read_alike(name):
-    path = BEFORE / name
-    data = path.read_bytes()
+A, T = exif(b"Anna"), title("one")
+FORMATS = {
+    "jpg": jpeg(app1(A), app1_xmp(T)),
+    "png": png(chunk(b"eXIf", A), png_xmp(T)),
+    "webp": webp((b"EXIF", A), (b"XMP ", T)),
+    "tif": (BEFORE / "paintings/1974-31-portrait.tif").read_bytes(),
+    "gif": gif(gif_xmp(T)),
+    "psd": psd(resource(0x0422, A), resource(0x0424, T)),
+    "jp2": jp2(uuid(b"JpgTiffExif->JP2".hex(), A)),
+    "jxl": jxl(box(b"Exif", bytes(4), A), box(b"xml ", T)),
+    "heic": heif(Item(b"Exif", item_exif(A), b"", ())),
+    "dng": dng(),
+    "cr2": cr2(),
+    "nef": nef(),
+    "pef": pef(),
+    "orf": orf(),
+    "arw": arw(),
+    "srw": srw(),
+    "rw2": rw2(),
+    "raf": whole_raf(),
+    "xmp": T,
+}
+
+
+class Unseekable(io.RawIOBase):
+    """The body of a request."""
+
+    def __init__(self, data, name):
+        self.stream, self.name = io.BytesIO(data), name
+
+    def read(self, length=-1):
+        return self.stream.read(length)
+
+
+@pytest.mark.parametrize("ending", FORMATS)
+def test_a_path_bytes_and_a_file_are_read_alike(ending, tmp_path):
+    data = FORMATS[ending]
+    path = tmp_path / f"a.{ending}"
+    path.write_bytes(data)
     with open(path, "rb") as file:
-        sources = [path, str(path), os.fsencode(path), file, io.BytesIO(data)]
-        found = [*map(pictures.read, sources), *map(pictures.read_bytes, (data, bytearray(data), memoryview(data)))]
-    assert len({(it.type, it.key, tuple(it.fields), it.captions) for it in found}) == 1
-    assert found[0].key is not None
+        sources = [path, str(path), os.fsencode(path), file, Unseekable(data, path.name)]
+        found = [
+            *map(pictures.read, sources),
+            *(pictures.read_bytes(it, name=path.name) for it in (data, bytearray(data), memoryview(data))),
+        ]
+    assert len({(it.type, it.key, it.not_read, tuple(it.fields), it.captions) for it in found}) == 1
+    assert list(found[0].fields)
+
+
+def test_a_file_is_read_from_where_it_is():
+    data = (BEFORE / BOWL).read_bytes()
+    stream = io.BytesIO(b"a header" + data)
+    stream.seek(8)
+    assert pictures.read(stream).key == pictures.read(BEFORE / BOWL).key
 
 
 def test_a_broken_block_is_a_sentence_and_no_key():
@@ -142,15 +193,35 @@ def test_the_commands_print_the_same(path, called):
             assert "; ".join(ours.texts(label)) == row[label].lstrip("'"), label
 
 
-@pytest.mark.parametrize("name", [BOWL, VASE, "arrivals/DSC_0042.jpg", "textiles/2011-2-sash.webp"])
-def test_compare_finds_what_the_command_finds(name, called):
-    them = json.loads(called("compare", "--no-exiftool", "--json", str(BEFORE / name), str(AFTER / VASE))[1])
-    ours = pictures.compare(BEFORE / name, AFTER / VASE)
-    assert (ours.result, ours.note, {it.name for it in ours.differences}) == (
-        them["result"],
-        them["note"].replace("; the picture is another one, too", ""),  # the command compares the coded pictures, too
-        {it["name"] for it in them["fields"]},
-    )
+@pytest.mark.parametrize("after", [VASE, BOWL, PHONE, "prints/1931-4-plan.png"])
+@pytest.mark.parametrize("name", [BOWL, VASE, PHONE, "arrivals/DSC_0042.jpg", "textiles/2011-2-sash.webp", "prints/1931-4-plan.png"])
+def test_compare_finds_what_the_command_finds(name, after, called):
+    before, after = BEFORE / name, AFTER / after
+    status, printed, _ = called("compare", "--no-exiftool", "--json", str(before), str(after))
+    them = json.loads(printed)
+    read = pictures.read(before), pictures.read(after)
+    for ours in (pictures.compare(before, after), pictures.compare(*read), pictures.compare(io.BytesIO(before.read_bytes()), after)):
+        assert (ours.result, ours.picture) == (them["result"], them["coded_picture"])
+        assert ours.note == them["note"] or them["identical_files"]
+        assert {it.name for it in ours.differences} == {it["name"] for it in them["fields"]}
+        assert ours.same is {0: True, 1: False, 2: None}[status]
+
+
+def test_compare_looks_at_the_pixels(tmp_path):
+    """Of bytes, of files and of pictures that were read; one from bytes has no pixels any more."""
+    before = (BEFORE / VASE).read_bytes()
+    at = before.rindex(b"\xff\xda") + 40
+    after = before[:at] + bytes((before[at] ^ 1,)) + before[at + 1 :]
+    one, other = tmp_path / "a.jpg", tmp_path / "b.jpg"
+    one.write_bytes(before)
+    other.write_bytes(after)
+    for sources in ((one, other), (pictures.read(one), pictures.read(other)), (io.BytesIO(before), other)):
+        found = pictures.compare(*sources)
+        assert (found.same, found.result, found.picture) == (False, "other picture, the same metadata", "other")
+    found = pictures.compare(pictures.read_bytes(before), pictures.read_bytes(after))
+    assert (found.same, found.picture) == (True, "not compared")
+    other.write_bytes(after[:-200])
+    assert pictures.compare(one, other).picture == "damaged"
 
 
 def test_errors_name_the_file(tmp_path):
@@ -218,6 +289,70 @@ def test_many_in_processes_and_threads():
     with concurrent.futures.ThreadPoolExecutor(4) as pool:
         assert [facts(it) for it in pool.map(pictures.read, SAMPLES * 3)] == [facts(it) for _, it in alone[: len(SAMPLES)]] * 3
         assert len(set(pool.map(facts, [shared] * 20))) == 1
+
+
+def test_a_process_that_dies_ends_nothing(tmp_path, monkeypatch):
+    paths = [tmp_path / f"{number:03}.jpg" for number in range(40)]
+    for path in paths:
+        path.write_bytes((BEFORE / BOWL).read_bytes())
+    parent, read = os.getpid(), many.read
+
+    def dies(path):
+        if path in (paths[11], paths[30]) and os.getpid() != parent:
+            os._exit(1)
+        return read(path)
+
+    monkeypatch.setattr(many, "read", dies)
+    results = list(pictures.read_all(paths, jobs=2))
+    assert [path for path, _ in results] == paths
+    died = [path for path, found in results if isinstance(found, pictures.NotReadable)]
+    assert died == [paths[11], paths[30]] and "died" in str(results[11][1])
+    assert all(isinstance(found, pictures.Picture) for path, found in results if path not in died)
+
+
+def test_names_are_taken_as_they_are_needed():
+    taken = []
+
+    def names():
+        for number in range(10_000):
+            taken.append(number)
+            yield BEFORE / BOWL
+
+    results = pictures.read_all(names(), jobs=2)
+    assert next(results)[1].type == "JPEG"
+    assert len(taken) <= 2 * 32
+    results.close()  # ends the processes
+    assert not multiprocessing.active_children()
+    with pytest.raises(ValueError, match="at least 1"):
+        pictures.read_all([], jobs=0)
+
+
+def test_in_asyncio():
+    data = (BEFORE / BOWL).read_bytes()
+
+    async def main():
+        return await asyncio.gather(*(asyncio.to_thread(pictures.read_bytes, data) for _ in range(20)))
+
+    assert {it.texts("title") for it in asyncio.run(main())} == {("2003.12",)}
+
+
+@pytest.mark.parametrize("path", SAMPLES, ids=lambda it: it.name)
+def test_pictures_are_pickled(path):
+    whole, again = pictures.read(path), pickle.loads(pickle.dumps(pictures.read(path)))
+    assert facts(again) == facts(whole) and again.name == whole.name and repr(again) == repr(whole)
+    assert pictures.compare(again, whole).same is True
+
+
+def test_a_typed_client():
+    """mypy checks client.py with --strict, and what it prints is what README promises."""
+    words = [sys.executable, str(Path(__file__).parent / "client.py"), str(BEFORE / BOWL), str(AFTER / BOWL)]
+    done = subprocess.run(words, stdout=subprocess.PIPE, text=True, check=True, env={**os.environ, "PYTHONPATH": f"{TOP}/python"})
+    assert done.stdout.splitlines() == [
+        "Canon EOS 5D Mark II 1/60 200 2019",
+        "2003.12: bowl, celadon",
+        "different: IFD0:Copyright, IPTC:Caption-Abstract",
+        "Picture Picture",
+    ]
 
 
 def test_equal_keys_are_equal_metadata():

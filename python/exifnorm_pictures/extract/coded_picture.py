@@ -10,6 +10,7 @@ JPEG: all segments but those of applications and comments, of which Adobe's APP1
 
 from __future__ import annotations
 
+import contextlib
 import hashlib
 from typing import Dict, Iterator, List, NamedTuple, Optional, Tuple
 
@@ -39,18 +40,23 @@ def of_file(path: bytes, budget: Budget) -> CodedPicture:
     """The digest of the coded picture of a file: none if its format has none here, if it is damaged, or if it goes over what is left of a
     budget."""
     try:
-        file = File(*opening.opened(path), budget)
-        try:
-            beside = hashlib.blake2b(digest_size=32)
-            nothing = beside.digest()
-            found = digest(file, budget, beside)
-            return CodedPicture(found, "" if beside.digest() == nothing else beside.hexdigest())
-        finally:
-            file.close()
+        with contextlib.closing(File(*opening.opened(path), budget)) as file:
+            return of_stream(file, budget)
+    except OSError:
+        return CodedPicture()
+
+
+def of_stream(stream: Stream, budget: Budget) -> CodedPicture:
+    """The same of a file that is open."""
+    beside = hashlib.blake2b(digest_size=32)
+    nothing = beside.digest()
+    try:
+        found = digest(stream, budget, beside)
     except (NotFollowed, TooMuch, OSError):
         return CodedPicture()
     except Broken as why:
         return CodedPicture(damage=str(why) or "its structure is broken")
+    return CodedPicture(found, "" if beside.digest() == nothing else beside.hexdigest())
 
 
 def digest(stream: Stream, budget: Budget, beside: "Optional[hashlib.blake2b]" = None) -> str:

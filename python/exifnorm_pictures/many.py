@@ -1,0 +1,114 @@
+"""Many pictures read in several processes. One that is bad, or at which a process dies, ends nothing."""
+
+from __future__ import annotations
+
+import os
+import signal
+from collections import deque
+from concurrent.futures import Future, ProcessPoolExecutor
+from concurrent.futures.process import BrokenProcessPool
+from itertools import islice
+from typing import Deque, Iterable, Iterator, List, Optional, Sequence, Tuple, Union
+
+from exifnorm import LibraryMissing
+
+from .api import NoPicture, NotReadable, PathLike, Picture, read
+
+CHUNK = 8  # pictures that a process gets at once
+AHEAD = 4  # such chunks of each process that are given out before the first result is taken
+
+Result = Union[Picture, OSError, NoPicture, NotReadable]
+
+
+def read_all(paths: Iterable[PathLike], *, jobs: Optional[int] = None) -> Iterator[Tuple[PathLike, Result]]:
+    """Reads many pictures in several processes, in their order: each path with its picture, or with the exception that `read` raises.
+
+    `jobs` is the number of processes: as many as there are processors if it isn't given, and with 1 this process reads. At most 32 paths a
+    process are taken before the first result is, so paths and results may be more than fit into memory. A picture at which a process
+    dies is `NotReadable`. Raises `exifnorm.LibraryMissing`, and `ValueError` for fewer jobs than one.
+    """
+    count = len(os.sched_getaffinity(0)) if jobs is None else jobs
+    if count < 1:
+        raise ValueError("jobs must be at least 1")
+    return _here(paths) if count == 1 else _in_processes(iter(paths), count)
+
+
+def _here(paths: Iterable[PathLike]) -> Iterator[Tuple[PathLike, Result]]:
+    for path in paths:
+        yield path, _result(path)
+
+
+def _result(path: PathLike) -> Result:
+    try:
+        return read(path)
+    except LibraryMissing:  # an OSError too, but not of this file
+        raise
+    except (OSError, NoPicture, NotReadable) as error:
+        return error
+    except MemoryError:
+        return NotReadable("ToolFailed", "out of memory", os.fsdecode(path))
+
+
+def _results(paths: Sequence[PathLike]) -> List[Result]:
+    return [_result(path) for path in paths]
+
+
+class _Task:
+    """Some paths that a process has got."""
+
+    def __init__(self, paths: Sequence[PathLike], pool: ProcessPoolExecutor) -> None:
+        self.paths = paths
+        self.future: "Optional[Future[List[Result]]]" = None
+        try:
+            self.future = pool.submit(_results, paths)
+        except BrokenProcessPool:  # whose process died meanwhile
+            pass
+
+    def results(self) -> Optional[List[Result]]:
+        """The results, in their order; None if a process died before they were there."""
+        try:
+            return self.future.result() if self.future else None
+        except BrokenProcessPool:
+            return None
+
+
+def _in_processes(paths: Iterator[PathLike], count: int) -> Iterator[Tuple[PathLike, Result]]:
+    tasks: Deque[_Task] = deque()
+    pool = _pool(count)
+    try:
+        while True:
+            for _ in range(AHEAD * count - len(tasks)):
+                chunk = list(islice(paths, CHUNK))
+                if not chunk:
+                    break
+                tasks.append(_Task(chunk, pool))
+            if not tasks:
+                return
+            task = tasks.popleft()
+            results = task.results()
+            if results is not None:
+                yield from zip(task.paths, results)
+                continue
+            pool.shutdown()
+            for unfinished in (task, *tasks):
+                yield from zip(unfinished.paths, unfinished.results() or map(_alone, unfinished.paths))
+            tasks.clear()
+            pool = _pool(count)
+    finally:
+        pool.shutdown(cancel_futures=True)
+
+
+def _alone(path: PathLike) -> Result:
+    """The result of a path in a process of its own, where one has died."""
+    with _pool(1) as pool:
+        results = _Task([path], pool).results()
+    return results[0] if results else NotReadable("ToolFailed", "the process that read it died twice", os.fsdecode(path))
+
+
+def _pool(count: int) -> ProcessPoolExecutor:
+    return ProcessPoolExecutor(count, initializer=_begin)
+
+
+def _begin() -> None:
+    """Ctrl-C reaches all processes of a terminal; the first one ends the others."""
+    signal.signal(signal.SIGINT, signal.SIG_IGN)
