@@ -1,8 +1,9 @@
 #!/usr/bin/env python3
-"""Writes the list of causes in exifnorm.h. Their names, their numbers and what they mean are those of px_bytes' causes.rt.
+"""Writes the version and the list of causes in exifnorm.h. The version is px_engine's. The names of the causes, their numbers and what they
+mean are those of px_bytes' causes.rt.
 
-  packaging/header.py            writes the list into the header
-  packaging/header.py --check    ends with 1 if the header has another list
+  packaging/header.py            writes both into the header
+  packaging/header.py --check    ends with 1 if the header has others
 """
 
 from __future__ import annotations
@@ -13,6 +14,8 @@ from pathlib import Path
 
 CRATES = Path(__file__).resolve().parent.parent / "crates"
 SOURCE, HEADER = CRATES / "px_bytes" / "src" / "causes.rt", CRATES / "px_c" / "include" / "exifnorm.h"
+VERSION = CRATES / "px_engine" / "src" / "version.rt"
+MACROS = re.compile(r'#define EXIFNORM_VERSION ".*"\n(?:#define EXIFNORM_VERSION_[A-Z]+ \d+\n){3}')
 LIST = re.compile(r"(?<=/\* The causes of a refusal, in the order of docs/FORMAT\.md\. \*/\nenum \{\n).*?(?=\};\n)", re.S)
 MEMBER = re.compile(r"((?:    /// .*\n)+)    (\w+),\n")
 
@@ -45,16 +48,37 @@ def members(source: str) -> str:
     return "".join(f"{line:{max(map(len, lines))}} {meaning(comment)}\n" for line, (comment, _) in zip(lines, found))
 
 
+def macros(source: str) -> str:
+    """The macros of the version.
+
+    >>> print(macros('pub const VERSION: &str = "1.20.3";'), end="")
+    #define EXIFNORM_VERSION "1.20.3"
+    #define EXIFNORM_VERSION_MAJOR 1
+    #define EXIFNORM_VERSION_MINOR 20
+    #define EXIFNORM_VERSION_PATCH 3
+    """
+    version = re.findall(r'VERSION: &str = "(.*)";', source)[0]
+    numbers = zip(("MAJOR", "MINOR", "PATCH"), version.split("."))
+    return f'#define EXIFNORM_VERSION "{version}"\n' + "".join(f"#define EXIFNORM_VERSION_{name} {number}\n" for name, number in numbers)
+
+
+def printed(header: str) -> str:
+    """The header with the printed parts as they must be."""
+    for pattern, print_part, source in ((LIST, members, SOURCE), (MACROS, macros, VERSION)):
+        part = print_part(source.read_text(encoding="utf-8"))
+        header, count = pattern.subn(lambda _: part, header)
+        if count != 1:
+            sys.exit("the header has no list of causes, or no version")
+    return header
+
+
 def main(words: list[str]) -> int:
     if words not in ([], ["--check"]):
         sys.exit(__doc__)
     header = HEADER.read_text(encoding="utf-8")
-    made, count = LIST.subn(lambda _: members(SOURCE.read_text(encoding="utf-8")), header)
-    if count != 1:
-        sys.exit("the header has no list of causes")
     if words:
-        return int(made != header)
-    HEADER.write_text(made, encoding="utf-8")
+        return int(printed(header) != header)
+    HEADER.write_text(printed(header), encoding="utf-8")
     return 0
 
 

@@ -56,6 +56,7 @@ def numbers_of_the_sources():
     known = {f"EXIFNORM_{name}": int(number) for name, number in STATUSES.items()}
     known.update((f"EXIFNORM_CAUSE_{in_capitals(name)}", int(number)) for number, name in causes)
     known.update((f"EXIFNORM_JPEG_{name}", number) for name, number in numbers_of_jpegs().items())
+    known.update((f"EXIFNORM_VERSION_{name}", int(number)) for name, number in zip(("MAJOR", "MINOR", "PATCH"), VERSION.split(".")))
     return {**known, "EXIFNORM_LIMIT": LIMIT, "EXIFNORM_EXIF": 1, "EXIFNORM_IIM": 2, "EXIFNORM_NAME_ROOM": 32}
 
 
