@@ -2,7 +2,7 @@
 #
 #   make                                  the proved program, and libexifnorm for C and Python
 #   make check                            every proof and every test (./test)
-#   make install PREFIX=/usr DESTDIR=..   program, man pages, header, libraries, exifnorm.pc, Python packages, completion, ..
+#   make install PREFIX=/usr DESTDIR=..   program, man pages, headers, libraries, exifnorm.pc, Python packages, completion, ..
 #   make uninstall PREFIX=/usr DESTDIR=.. removes what install wrote there, and nothing else
 #   make wheel                            a Python wheel with the library, in out/wheel
 #   make wasm                             the library as WebAssembly, in out/wasm
@@ -49,6 +49,7 @@ archive = out/proved/libpx_c.a
 program = $$(ls out/exifnorm 2>/dev/null || ls crates/px_cli/out/px_cli)
 packages = $(eval packages := $(patsubst python/%/__init__.py,%,$(shell find python -name __init__.py)))$(packages)
 pages = $(wildcard docs/*.1 docs/*.3)
+headers = $(addprefix $(built)/,$(notdir $(wildcard crates/px_c/include/*.h)))
 # the licences, and the documents that installed pages, documents and modules refer to, with their pictures
 papers = LICENSE-APACHE LICENSE-MIT CHANGELOG.md $(addprefix docs/,CATALOGUE.md DECISIONS.md FORMAT.md JSON.md RECIPES.md REFUSALS.md TUTORIAL.md) $(wildcard docs/*.png)
 # all that is installed, before it is copied to its folder
@@ -63,7 +64,7 @@ all: program library
 program:
 	@./exifnorm --prove
 
-library: $(built)/libexifnorm.a $(built)/libexifnorm.so $(built)/exifnorm.h
+library: $(built)/libexifnorm.a $(built)/libexifnorm.so $(headers)
 	@python3 build/guard.py $(built)/libexifnorm.a $(built)/$(SONAME)
 
 .PHONY: FORCE
@@ -88,7 +89,7 @@ $(built)/$(SONAME): $(built)/exifnorm.o packaging/exifnorm.map
 $(built)/libexifnorm.so: $(built)/$(SONAME)
 	ln -sf $(SONAME) $@
 
-$(built)/exifnorm.h: crates/px_c/include/exifnorm.h
+$(built)/%.h: crates/px_c/include/%.h
 	mkdir -p $(built)
 	cp $< $@
 
@@ -104,7 +105,7 @@ stage: all
 	install -d '$(stage)$(BINDIR)' '$(stage)$(LIBDIR)/pkgconfig' '$(stage)$(INCLUDEDIR)' '$(stage)$(DOCDIR)' \
 	    '$(stage)$(MANDIR)/man1' '$(stage)$(MANDIR)/man3' '$(stage)$(BASHDIR)' '$(stage)$(ZSHDIR)' '$(stage)$(FISHDIR)'
 	install -m 755 "$(program)" '$(stage)$(BINDIR)/exifnorm'
-	install -m 644 $(built)/exifnorm.h '$(stage)$(INCLUDEDIR)/exifnorm.h'
+	install -m 644 $(headers) '$(stage)$(INCLUDEDIR)/'
 	install -m 644 $(built)/libexifnorm.a '$(stage)$(LIBDIR)/libexifnorm.a'
 	install -m 644 $(built)/$(SONAME) '$(stage)$(LIBDIR)/libexifnorm.so.$(VERSION)'
 	$(if $(STRIP),$(STRIP) --strip-unneeded '$(stage)$(LIBDIR)/libexifnorm.so.$(VERSION)')
@@ -114,6 +115,12 @@ stage: all
 	    'Name: exifnorm' 'Description: The normal form of Exif and IPTC metadata blocks' 'Version: $(VERSION)' \
 	    'Libs: -L$${libdir} -lexifnorm' 'Cflags: -I$${includedir}' >'$(stage)$(LIBDIR)/pkgconfig/exifnorm.pc'
 	chmod 644 '$(stage)$(LIBDIR)/pkgconfig/exifnorm.pc'
+	install -d '$(stage)$(LIBDIR)/cmake/exifnorm'
+	for file in packaging/cmake/*.cmake; do \
+	    sed "s|@VERSION@|$(VERSION)|; s|@INCLUDE@|$$(realpath -m --relative-to='$(LIBDIR)/cmake/exifnorm' '$(INCLUDEDIR)')|" "$$file" \
+	        >"$(stage)$(LIBDIR)/cmake/exifnorm/$${file##*/}" || exit 1; \
+	done
+	chmod 644 '$(stage)$(LIBDIR)/cmake/exifnorm/'*
 	for page in $(pages); do install -m 644 "$$page" "$(stage)$(MANDIR)/man$${page##*.}/" || exit 1; done
 	install -m 644 $(papers) '$(stage)$(DOCDIR)/'
 	for folder in $(wildcard samples/*/*/); do \

@@ -289,6 +289,18 @@ class TestLibraries:
         run("cmake", "--build", "build", folder=sources)
         assert run("build/compare", folder=sources, LD_LIBRARY_PATH=str(usr.at("lib"))) == "same\n"
 
+    @pytest.mark.parametrize("version, is_there", [(VERSION, 1), (f"{VERSION} EXACT", 1), ("1.0", 1), ("0.9", 0), ("2.0", 0), ("1.999", 0)])
+    def test_example_is_built_by_find_package(self, usr: Tree, version: str, is_there: int) -> None:
+        shutil.copy(EXAMPLES / "compare.c", self.work)
+        lines = ["cmake_minimum_required(VERSION 3.13)", "project(compare LANGUAGES C)", f"find_package(exifnorm {version} QUIET)"]
+        lines += ["add_executable(compare compare.c)", "if(exifnorm_FOUND)", "target_link_libraries(compare exifnorm::exifnorm)", "endif()"]
+        (self.work / "CMakeLists.txt").write_text("\n".join([*lines, 'message(STATUS "found: ${exifnorm_FOUND}")', ""]))
+        said = run("cmake", "-S", ".", "-B", "build", f"-DCMAKE_PREFIX_PATH={usr.at()}", folder=self.work)
+        assert f"found: {is_there}" in said
+        if is_there:
+            run("cmake", "--build", "build", folder=self.work)
+            assert run("build/compare", folder=self.work) == "same\n"
+
     def test_header_can_be_included_twice(self, usr: Tree) -> None:
         (self.work / "twice.c").write_text("#include <exifnorm.h>\n#include <exifnorm.h>\nint main(void) { return EXIFNORM_DONE; }\n")
         for compiler, language in (("cc", "c"), ("c++", "c++")):
@@ -304,8 +316,9 @@ class TestLibraries:
         run("c++", "-Wall", "-Werror", "version.cc", *self.pkg_config(usr, "--cflags", "--libs"), "-o", "version", folder=self.work)
         assert run("./version", folder=self.work, LD_LIBRARY_PATH=str(usr.at("lib"))) == f"{VERSION}\n"
 
-    def test_header_is_that_of_the_sources(self, usr: Tree) -> None:
-        assert usr.at("include/exifnorm.h").read_text(encoding="utf-8") == text_of("crates", "px_c", "include", "exifnorm.h")
+    def test_headers_are_those_of_the_sources(self, usr: Tree) -> None:
+        sources = {it.name: it.read_text(encoding="utf-8") for it in (TOP / "crates" / "px_c" / "include").iterdir()}
+        assert {it.name: it.read_text(encoding="utf-8") for it in usr.at("include").iterdir()} == sources
 
     def test_exports_are_those_of_the_header_with_a_version(self, usr: Tree) -> None:
         assert "exifnorm_normalise" in CALLS

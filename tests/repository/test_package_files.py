@@ -18,6 +18,7 @@ import dist_info
 import grammar
 import header
 import manifest
+import names
 import pytest
 from installed import CALLS, DEBIAN_PYTHON, TOP, VERSION, Tree, text_of
 
@@ -29,6 +30,9 @@ class TestDebianLists:
         "bin/exifnorm": "exifnorm",
         "bin/exifnorm-pictures": "exifnorm-pictures",
         "include/exifnorm.h": "libexifnorm-dev",
+        "include/exifnorm_fields.h": "libexifnorm-dev",
+        "include/exifnorm_names.h": "libexifnorm-dev",
+        "lib/MACHINE/cmake/exifnorm/exifnorm-config.cmake": "libexifnorm-dev",
         "lib/MACHINE/libexifnorm.a": "libexifnorm-dev",
         "lib/MACHINE/libexifnorm.so": "libexifnorm-dev",
         "lib/MACHINE/libexifnorm.so.1": "libexifnorm1",
@@ -42,6 +46,7 @@ class TestDebianLists:
         "share/doc/exifnorm/FORMAT.md": "exifnorm",
         "share/man/man1/exifnorm.1": "exifnorm",
         "share/man/man1/exifnorm-pictures.1": "exifnorm-pictures",
+        "share/man/man3/exifnorm-fields.3": "libexifnorm-dev",
         "share/man/man3/exifnorm.3": "libexifnorm-dev",
         "share/zsh/vendor-completions/_exifnorm-pictures": "exifnorm-pictures",
     }
@@ -62,7 +67,8 @@ class TestDebianLists:
         here = Tree(Path("/"), "/usr", DEBIAN_PYTHON, ["PYTHONINCLUDE="]).expected()
         names = [it for it in here if not it.endswith("/")]
         moved = [
-            re.sub(r"^usr/lib/(lib|pkgconfig)", r"usr/lib/MACHINE/\1", it).replace("site-functions", "vendor-completions") for it in names
+            re.sub(r"^usr/lib/(cmake|lib|pkgconfig)", r"usr/lib/MACHINE/\1", it).replace("site-functions", "vendor-completions")
+            for it in names
         ]
         assert {it: self.owners(it) for it in moved if len(self.owners(it)) != 1} == {}
         assert {it: self.owners(f"usr/{it}") for it in self.PACKAGES} == {it: [package] for it, package in self.PACKAGES.items()}
@@ -146,7 +152,7 @@ class TestComponents:
         assert components.document("7.8.9", 86_400, [crate]) == expected
 
 
-@pytest.mark.parametrize("module", [command, components, dist_info, grammar, header], ids=lambda it: it.__name__)
+@pytest.mark.parametrize("module", [command, components, dist_info, grammar, header, names], ids=lambda it: it.__name__)
 def test_examples_of_the_modules(module) -> None:
     found = doctest.testmod(module)
     assert found.attempted and not found.failed
@@ -159,6 +165,7 @@ WRONG_CALLS = {
     components: ("a b c d", "a b c d e f"),
     dist_info: ("a", "a b c"),
     header: ("a", "--check --check"),
+    names: ("a", "--check --check"),
     manifest: ("", "a", "install a b", "install a b c d", "uninstall a", "uninstall a b c", "remove a b"),
 }
 
@@ -183,5 +190,6 @@ def test_each_file_with_the_version_has_that_of_the_crates() -> None:
         ("python/exifnorm/__init__.py", r'^__version__ = "(.*)"$'),
         ("CHANGELOG.md", r"\A# Changes\n(?:[^#].*\n|\n)*## (\S+)$"),
         ("debian/changelog", r"\Aexifnorm \((.*)-1\)"),
+        ("crates/px_c/include/exifnorm.h", r'^#define EXIFNORM_VERSION "(.*)"$'),
     ):
         assert re.findall(pattern, text_of(*name.split("/")), re.MULTILINE) == [VERSION], name

@@ -2,12 +2,17 @@
  * of a JPEG picture are, and whether two pictures have the same.
  *
  * A block is an Exif block or a block of IPTC-NAA IIM DataSets. An Exif block may begin with the six bytes "Exif\0\0" that
- * precede it in a JPEG file. The calls open no picture file: they read a block in memory, and don't copy it. Two blocks that mean
+ * precede it in a JPEG file. The calls open no picture file: they read a block in memory. Two blocks that mean
  * the same have equal normal forms, byte for byte; two that mean different things have different ones. A block that breaks the
  * rules is refused, with its first fault and the byte offset of that fault. Blocks are never repaired.
  *
  * The head of a JPEG picture is what precedes its first scan: markers, and segments of data (ITU-T T.81, B.1.1). Two calls find the
  * segments that contain blocks, without reading the blocks. A third compares the blocks of two pictures.
+ *
+ * Whether two blocks of Exif or IPTC mean the same is proved. Whether two JPEGs have the same Exif and IPTC is proved of the library's
+ * call. How blocks are found in other formats, XMP, and groups of pictures are tested. It is proved of each call which status but
+ * EXIFNORM_NO_MEMORY it returns for which input, what it sets, and what stays unchanged. What this page says of copies, of the stack, of
+ * ownership, and of EXIFNORM_NO_MEMORY is tested.
  *
  * For every call:
  *

@@ -1,0 +1,380 @@
+"""exifnorm_fields.h and exifnorm_names.h: the fields of normal forms in C, against the independent reader, the package and ExifTool."""
+
+import json
+import math
+import re
+import struct
+import subprocess
+
+import names
+import pytest
+
+import exifnorm
+from commands import TOP, run, text_of
+from compiling import C99, HEADERS, HERE, STRICT, need
+from exifnorm._causes import WORDS
+from exifnorm._jpeg import CAUSES
+from exifnorm_pictures.fields.names import TABLES
+from exifnorm_pictures.fields.plain_names import group_of, plain_name
+from judged import NAMES, all_judged
+
+SAMPLES = sorted(TOP.glob("samples/*/*/*.jpg"))
+SANITIZED = ["-g", "-fsanitize=address,undefined", "-fno-sanitize-recover=all"]
+COMPILERS = [["cc", "-std=c99"], ["clang", "-std=c99"], ["c++", "-std=c++11", "-x", "c++"], ["clang++", "-std=c++11", "-x", "c++"]]
+PAGE = text_of("docs", "exifnorm-fields.3")
+
+
+def write_forms(path, forms):
+    path.write_bytes(b"".join(struct.pack("<I", len(form)) + form for form in forms))
+    return path
+
+
+@pytest.fixture(scope="module")
+def program(session_folder):
+    run(*C99, HERE / "fields.c", "-o", session_folder / "fields")
+    return session_folder / "fields"
+
+
+@pytest.fixture(scope="module")
+def sanitized(session_folder):
+    run(*C99, *SANITIZED, HERE / "fields.c", "-o", session_folder / "sanitized fields")
+    return session_folder / "sanitized fields"
+
+
+def example_of_the_page():
+    return PAGE.partition(".SH EXAMPLES\n")[2].partition(".nf\n")[2].partition(".fi\n")[0].replace("\\-", "-").replace("\\e", "\\")
+
+
+@pytest.fixture(scope="module")
+def example(session_folder, archive):
+    """The program of exifnorm-fields(3)."""
+    (session_folder / "example.c").write_text(example_of_the_page(), encoding="ascii")
+    run(*C99, session_folder / "example.c", archive, "-o", session_folder / "example")
+    return session_folder / "example"
+
+
+# ---- the fields
+
+
+SIZES = {"SHORT": 2, "LONG": 4, "WHOLE": 4, "RATIONAL": 8, "SSHORT": 2, "SLONG": 4, "SRATIONAL": 8, "FLOAT": 4, "DOUBLE": 8}
+
+
+def lines_of_listing(listing):
+    """The lines that fields.c prints for the fields of a listing (docs/FORMAT.md, "Listing")."""
+    directory = "record"
+    for line in listing.splitlines():
+        if re.fullmatch(r"\[\w+\]", line):
+            directory = line[1:-1]
+        elif re.match(r"\w+ \w+ \d+:|\d+:\d+ \d+:|jpeg|strip ", line):
+            head, _, elements = line.partition(": ") if ": " in line else (line[:-1], "", "")
+            *words, count = head.split()
+            size = int(count) * SIZES.get(words[-1], 1)
+            where = "record" if ":" in words[0] else directory
+            yield f"{where} {' '.join(words)} {count}:{' ' * bool(elements)}{elements} ({size})".replace(" WHOLE ", " LONG ")
+
+
+@pytest.mark.parametrize("are_large", [False, True], ids=["small", "large"])
+def test_fields_are_those_of_the_independent_reader(program, folder, are_large):
+    blocks = [it for it in all_judged(are_large) if it.form is not None]
+    printed = run(program, "print", write_forms(folder / "forms", [it.form for it in blocks]))
+    expected = [[*lines_of_listing(it.listing), "whole"] for it in blocks]
+    assert printed.splitlines() == [line for lines in expected for line in lines]
+    assert sum(map(len, expected)) > 2 * len(blocks), "most blocks have fields"
+
+
+def lines_of_field(field):
+    """The lines that fields.c prints for a field of the package; strips are a field each in C."""
+    if field.type == "STRIPS":
+        return [f"thumb strip {len(it)}: {it.hex()} ({len(it)})" for it in field.values]
+    if field.type in ("RATIONAL", "SRATIONAL"):
+        words = [f"{it.numerator}/{it.denominator}" for it in field.values]
+    elif isinstance(field.values, bytes):
+        words = [field.values.hex()] * bool(field.values)
+    else:
+        words = [f"{it:0{2 * SIZES[field.type]}x}" if field.type in ("FLOAT", "DOUBLE") else str(it) for it in field.values]
+    kind = {"DATASET": f"{field.tag // 256}:{field.tag % 256}", "JPEG": "jpeg"}.get(field.type, f"{field.tag:04x} {field.type}")
+    size = len(field.values) * SIZES.get(field.type, 1)
+    return [" ".join([f"{field.directory} {kind} {len(field.values)}:", *words, f"({size})"]).replace(" WHOLE ", " LONG ")]
+
+
+def blocks_of_samples():
+    for path in SAMPLES:
+        for block in exifnorm.jpeg_blocks(path.read_bytes()):
+            try:
+                yield block.data, exifnorm.normal(block.data)
+            except exifnorm.Refused:
+                continue
+
+
+def test_fields_of_the_samples_are_those_of_the_package(way, program, folder):
+    blocks = list(blocks_of_samples())
+    assert len(blocks) > len(SAMPLES) // 2
+    printed = run(program, "print", write_forms(folder / "forms", [form for _, form in blocks]))
+    expected = [[*(line for field in exifnorm.fields(block) for line in lines_of_field(field)), "whole"] for block, _ in blocks]
+    assert printed.splitlines() == [line for lines in expected for line in lines]
+
+
+# ---- bytes that are no form
+
+
+def test_no_byte_outside_is_read(sanitized, folder):
+    """Of forms that are changed and cut: each value is in the bytes, all together have no more bytes, and the walk ends."""
+    forms = [it.form for it in all_judged(False) if it.form is not None]
+    shown = run(sanitized, "change", write_forms(folder / "forms", forms), 40)
+    assert re.fullmatch(r"[1-9]\d{4,} fields\n", shown)
+
+
+def test_beginnings_of_forms_are_not_whole(sanitized, folder):
+    """Their fields are the first ones of the form."""
+    longest = max((it.form for it in all_judged(False) if it.kind == "exif" and it.form and len(it.form) < 900), key=len)
+    whole = run(sanitized, "print", write_forms(folder / "form", [longest])).splitlines()
+    assert whole[-1] == "whole" and len(whole) > 5
+    for length in range(len(longest)):
+        *lines, end = run(sanitized, "print", write_forms(folder / "form", [longest[:length]])).splitlines()
+        assert (lines, end) == (whole[: len(lines)], "cut")
+    assert run(sanitized, "print", write_forms(folder / "form", [longest + b"\0"])).splitlines() == [*whole[:-1], "cut"]
+
+
+ENTRY = ">HHLL"
+
+
+def form_of(*entries, behind=b"", following=0):
+    """A form with a main directory of these entries."""
+    table = struct.pack(">H", len(entries)) + b"".join(struct.pack(ENTRY, *it) for it in entries) + struct.pack(">L", following)
+    return b"MM\0*" + struct.pack(">L", 8) + table + behind
+
+
+# where the first placed value begins behind a table of one entry, or of two
+ONE, TWO = 26, 38
+NO_FORMS = {
+    "no byte": (b"", 0),
+    "other bytes": (b"II*\0\x08\0\0\0", 0),
+    "a directory without entries": (form_of(), 0),
+    "more entries than bytes": (form_of((0x10F, 2, 1, 0))[:9] + b"\2" + form_of((0x10F, 2, 1, 0))[10:], 0),
+    "an unknown type": (form_of((0x10E, 1, 1, 0), (0x10F, 13, 1, 0)), 1),
+    "a number of a type that only fields of this header have": (form_of((0x10F, 256, 1, 0)), 0),
+    "descending tags": (form_of((0x10F, 2, 1, 0), (0x10E, 2, 1, 0)), 1),
+    "a tag twice": (form_of((0x10F, 2, 1, 0), (0x10F, 2, 1, 0)), 1),
+    "a value behind the end": (form_of((0x10F, 2, 8, ONE), behind=b"abc\0"), 0),
+    "a count of which the size has more than 32 bits": (form_of((0x10F, 5, 0x20000001, ONE), behind=bytes(8)), 0),
+    "a value before the others": (form_of((0x10F, 2, 5, 8), behind=bytes(6)), 0),
+    "two values in the same bytes": (form_of((0x10E, 2, 6, TWO), (0x10F, 2, 6, TWO), behind=bytes(6)), 1),
+    "a value without its padding": (form_of((0x10F, 2, 5, ONE), behind=bytes(5)), 0),
+    "a pointer of another type": (form_of((0x8769, 3, 1, ONE << 16)), 0),
+    "a pointer to itself": (form_of((0x8769, 4, 1, 8)), 0),
+    "a pointer to nothing": (form_of((0x8825, 4, 1, 0)), 0),
+    "a thumbnail directory that is the main one": (form_of((0x10F, 2, 1, 0), following=8), 1),
+    "a directory after that of the thumbnail": (form_of((0x10F, 2, 1, 0), following=ONE, behind=form_of((1, 1, 1, 0), following=8)[8:]), 1),
+    "a JPEG without a length": (form_of((0x10F, 2, 1, 0), following=ONE, behind=form_of((0x201, 4, 1, 44))[8:]), 1),
+    "a JPEG behind the end": (form_of((0x10F, 2, 1, 0), following=ONE, behind=form_of((0x201, 4, 1, 56), (0x202, 4, 1, 9))[8:]), 1),
+    "strips without lengths": (form_of((0x10F, 2, 1, 0), following=ONE, behind=form_of((0x111, 4, 1, 44))[8:]), 1),
+    "fewer lengths than strips": (
+        form_of((0x10F, 2, 1, 0), following=ONE, behind=form_of((0x111, 4, 2, 56), (0x117, 4, 1, 0), behind=bytes(8))[8:]),
+        1,
+    ),
+    "a DataSet behind the end": (bytes.fromhex("1C0219 0001 61 1C0219 0002 61"), 1),
+    "a DataSet whose length has three octets": (bytes.fromhex("1C0219 8003 000001 61"), 0),
+    "something between DataSets": (bytes.fromhex("1C0219 0001 61 00 1C0219 0001 61"), 1),
+}
+
+
+@pytest.mark.parametrize("name", NO_FORMS)
+def test_what_is_no_form_has_the_fields_before_the_fault(sanitized, folder, name):
+    form, count = NO_FORMS[name]
+    *lines, end = run(sanitized, "print", write_forms(folder / "form", [form])).splitlines()
+    assert (len(lines), end) == (count, "cut")
+
+
+def test_a_value_that_is_no_record_is_a_field(sanitized, folder):
+    """0x83BB is a field with any other bytes (docs/FORMAT.md, "Caption record"), also if they begin with a DataSet."""
+    for octets in (b"\x1c\2\x19\0\1a", b"\x1c\2\x19\0\1a\x1c\2", b"text here!", b"\x1c\2\x19\0\2a"):
+        form = form_of((0x83BB, 7, len(octets), ONE), behind=octets + b"\0" * (len(octets) % 2))
+        (line, end) = run(sanitized, "print", write_forms(folder / "form", [form])).splitlines()
+        is_record = octets == b"\x1c\2\x19\0\1a"
+        assert line == ("record 2:25 1: 61 (1)" if is_record else f"main 83bb UNDEFINED {len(octets)}: {octets.hex()} ({len(octets)})")
+        assert end == "whole"
+
+
+def test_more_bytes_than_a_form_has_are_none(folder):
+    source = "#include <exifnorm_fields.h>\nint main(void) { static unsigned char form[EXIFNORM_LIMIT + 1] = {0x1C}; struct exifnorm_fields all;\n"
+    source += "struct exifnorm_field field; exifnorm_fields_start(&all, form, sizeof form);\n"
+    source += "return exifnorm_fields_next(&all, &field) || exifnorm_fields_whole(&all); }\n"
+    (folder / "long.c").write_text(source, encoding="ascii")
+    run(*C99, folder / "long.c", "-o", folder / "long")
+    run(folder / "long")
+
+
+# ---- values
+
+
+VALUES = {
+    ("BYTE", 1): ("B", [0, 1, 255]),
+    ("SBYTE", 6): ("b", [0, -1, -128, 127]),
+    ("SHORT", 3): ("H", [0, 1, 0x8000, 0xFFFF]),
+    ("SSHORT", 8): ("h", [0, -1, -0x8000, 0x7FFF]),
+    ("LONG", 4): ("L", [0, 1, 0x80000000, 0xFFFFFFFF]),
+    ("SLONG", 9): ("l", [0, -1, -0x80000000, 0x7FFFFFFF]),
+    ("FLOAT", 11): ("f", [0.0, 1.5, -0.1, math.inf]),
+    ("DOUBLE", 12): ("d", [0.0, 1.5, -0.1, -math.inf]),
+}
+FRACTIONS = {("RATIONAL", 5): ("2L", [(46, 1), (1, 3), (0xFFFFFFFF, 0xFFFFFFFE), (0, 0), (5, 0)])}
+FRACTIONS[("SRATIONAL", 10)] = ("2l", [(-46, 1), (1, -3), (-0x80000000, 0x7FFFFFFF), (-1, 0)])
+
+
+def numbers_of(program, path, number, octets, count):
+    inline = int.from_bytes(octets.ljust(4, b"\0"), "big")
+    form = form_of((0x9999, number, count, ONE if len(octets) > 4 else inline), behind=octets if len(octets) > 4 else b"")
+    lines = run(program, "numbers", write_forms(path, [form])).splitlines()
+    assert lines[count].split()[2:] == ["-", "-", "-"], "an element behind the last one"
+    return [tuple(it.split()[2:]) for it in lines[:count]]
+
+
+@pytest.mark.parametrize("name, number", VALUES)
+def test_numbers(sanitized, folder, name, number):
+    letter, values = VALUES[name, number]
+    packed = [struct.pack(f">{letter}", it) for it in values]
+    found = numbers_of(sanitized, folder / "form", number, b"".join(packed), len(values))
+    exact = [struct.unpack(f">{letter}", it)[0] for it in packed]
+    assert [(float(number), fraction) for _, fraction, number in found] == [(it, "-") for it in exact]
+    assert [integer for integer, _, _ in found] == ["-" if letter in "fd" else str(it) for it in exact]
+
+
+@pytest.mark.parametrize("name, number", FRACTIONS)
+def test_fractions(sanitized, folder, name, number):
+    letters, values = FRACTIONS[name, number]
+    found = numbers_of(sanitized, folder / "form", number, b"".join(struct.pack(f">{letters}", *it) for it in values), len(values))
+    assert [it[:2] for it in found] == [("-", f"{it[0]}/{it[1]}") for it in values]
+    assert [it[2] == "-" for it in found] == [it[1] == 0 for it in values], "there is no number where the denominator is 0"
+    assert [float(it[2]) for it in found if it[2] != "-"] == [it[0] / it[1] for it in values if it[1]]
+
+
+@pytest.mark.parametrize("number", [2, 7, 129])
+def test_other_types_have_no_numbers(sanitized, folder, number):
+    assert numbers_of(sanitized, folder / "form", number, b"1\x002", 3) == [("-", "-", "-")] * 3
+
+
+# ---- names and texts
+
+
+def test_the_header_of_names_is_printed(tmp_path, monkeypatch):
+    assert names.main(["--check"]) == 0, "run python3 packaging/names.py"
+    monkeypatch.setattr(names, "HEADER", tmp_path / "exifnorm_names.h")
+    (tmp_path / "exifnorm.h").write_bytes((HEADERS / "exifnorm.h").read_bytes())
+    assert [names.main(["--check"]), names.main([]), names.main(["--check"])] == [1, 0, 0]
+    (tmp_path / "exifnorm_names.h").write_text("changed", encoding="ascii")
+    assert names.main(["--check"]) == 1
+
+
+PRINTS = r"""
+#include <exifnorm_names.h>
+#include <stdio.h>
+int main(void) {
+    struct exifnorm_field field = {0, 0, EXIFNORM_TYPE_BYTE, 0, NULL, 0};
+    for (field.directory = 0; field.directory < 7; field.directory++)
+        for (field.tag = 0; field.tag < 0x10000; field.tag++)
+            if (exifnorm_field_name(&field))
+                printf("name %s:%s %x\n", exifnorm_field_group(&field), exifnorm_field_name(&field), (unsigned)field.tag);
+    field.directory = EXIFNORM_DIRECTORY_THUMBNAIL;
+    for (field.type = EXIFNORM_TYPE_JPEG; field.type <= EXIFNORM_TYPE_STRIP; field.type++)
+        printf("picture %s\n", exifnorm_field_name(&field));
+    for (uint32_t i = 0; i < 200; i++)
+        printf("status %u %s\ncause %u %s\n", (unsigned)i, exifnorm_status_text(i), (unsigned)i, exifnorm_cause_text(i));
+    return 0;
+}
+"""
+
+
+@pytest.mark.parametrize("compiler", COMPILERS, ids=lambda it: it[0])
+def test_names_and_texts(folder, compiler):
+    need(compiler[0])
+    (folder / "prints.c").write_text(PRINTS, encoding="ascii")
+    run(*compiler, *STRICT, *SANITIZED, folder / "prints.c", "-o", folder / "prints")
+    lines = run(folder / "prints").splitlines()
+    expected = {
+        f"name {group_of(where)}:{plain_name(where, key)} {names.tag_of(key):x}"
+        for where, tables in TABLES.items()
+        for it in tables
+        for key in it
+    }
+    assert {it for it in lines if it.startswith("name ")} == expected
+    assert [it for it in lines if it.startswith("picture ")] == ["picture ThumbnailImage", "picture ThumbnailTIFF"]
+    expected_causes = {**dict(enumerate(NAMES, 1)), **CAUSES}
+    causes = dict(re.findall(r"^cause (\d+) (.+)$", "\n".join(lines), re.M))
+    assert causes == {str(number): WORDS[name][0] for number, name in expected_causes.items()}
+    header = (HEADERS / "exifnorm.h").read_text(encoding="utf-8")
+    statuses = re.search(r"/\* The statuses. \*/\nenum {(.*?)};", header, re.S)[1]
+    assert re.findall(r"^status (\d+) .+$", "\n".join(lines), re.M) == re.findall(r" = (\d+)", statuses)
+
+
+@pytest.mark.parametrize("compiler", COMPILERS, ids=lambda it: it[0])
+def test_every_warning_is_an_error_of_the_headers(folder, compiler):
+    """Each header can be the first one, included twice, and nothing of it used."""
+    need(compiler[0])
+    for name in ("exifnorm_fields.h", "exifnorm_names.h"):
+        (folder / "unused.c").write_text(f"#include <{name}>\n#include <{name}>\nint main(void) {{ return 0; }}\n", encoding="ascii")
+        run(*compiler, *STRICT, "-Wundef", "-Wconversion", "-Wcast-qual", folder / "unused.c", "-o", folder / "unused")
+
+
+# ---- the program of the manual page
+
+
+def test_the_example_has_at_most_sixty_lines():
+    assert 30 < len(example_of_the_page().splitlines()) <= 60
+
+
+LABELS = {
+    "title": ["IPTC:ObjectName"],
+    "caption": ["IPTC:Caption-Abstract", "IFD0:ImageDescription"],
+    "creator": ["IPTC:By-line", "IFD0:Artist"],
+    "keyword": ["IPTC:Keywords"],
+    "date": ["ExifIFD:DateTimeOriginal"],
+    "latitude": ["GPS:GPSLatitude"],
+    "longitude": ["GPS:GPSLongitude"],
+}
+
+
+def by_exiftool(path):
+    """What the example prints of a picture, by ExifTool."""
+    words = ["exiftool", "-j", "-G1", "-n", "-c", "%.6f"]
+    (found,) = json.loads(subprocess.run([*words, path], check=True, capture_output=True).stdout)
+    lines = []
+    for label, tags in LABELS.items():
+        for tag in tags:
+            values = found.get(tag, [])
+            for value in values if isinstance(values, list) else [values]:
+                is_degrees = label.endswith("itude")
+                lines.append(f"{label}: {value:.6f} {found[f'{tag}Ref']}" if is_degrees else f"{label}: {value}")
+    return sorted(lines)
+
+
+@pytest.mark.parametrize("path", SAMPLES, ids=lambda it: f"{it.parent.parent.name}-{it.stem}")
+def test_the_example_prints_what_exiftool_prints(example, path):
+    need("exiftool")
+    printed = subprocess.run([example], stdin=path.open("rb"), check=True, capture_output=True, text=True).stdout.splitlines()
+    if path.name == "IMG_20240502.jpg":
+        assert printed == ["not read: A directory has no entry."], "its GPS directory is empty"
+    else:
+        assert sorted(printed) == by_exiftool(path)
+
+
+def test_the_example_prints_a_position_and_other_texts(example, folder):
+    need("exiftool")
+    words = [
+        "-GPSLatitude=48.8583701",
+        "-GPSLatitudeRef=S",
+        "-GPSLongitude=2.2944813",
+        "-GPSLongitudeRef=W",
+        "-IFD0:ImageDescription=Zürich",
+    ]
+    words += ["-IPTC:Caption-Abstract=Zürich", "-codedcharacterset=utf8", "-Keywords=a", "-Keywords=b"]
+    run("exiftool", "-q", *words, "-o", folder / "made.jpg", TOP / "samples" / "before" / "ceramics" / "2003-12-bowl.jpg")
+    printed = (
+        subprocess.run([example], stdin=(folder / "made.jpg").open("rb"), check=True, capture_output=True).stdout.decode().splitlines()
+    )
+    assert sorted(printed) == by_exiftool(folder / "made.jpg")
+    assert "latitude: 48.858370 S" in printed and "caption: Zürich" in printed
+
+
+def test_the_example_refuses_what_is_no_jpeg(example):
+    ran = subprocess.run([example], input=b"text", capture_output=True, check=False)
+    assert (ran.returncode, ran.stdout) == (1, b"not read: The bytes don't begin as a JPEG does, with FF D8.\n")
