@@ -1,0 +1,6 @@
+pub mod References
+pub mod Grammar
+pub mod Texts
+pub mod Values
+pub mod Laws
+pub mod calls

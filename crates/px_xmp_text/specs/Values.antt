@@ -1,0 +1,91 @@
+-- The values of properties (XMP part 1, 6.3), and the octets in which a normal packet has them.
+use Rattle.std.specs.Prelude.{◌≡◌, ◌≢◌, ◌↔◌, ℕ, List, [], ◌∷◌, ◌++◌, codes, ⊤}
+use Rattle.std.specs.List.{AllByRecursion}
+use Rattle.px_xmp_text.specs.Texts.{normal_text}
+
+-- what has a value: a property or a field of a structure, by its namespace and local name; or an item of an array
+pub data Label : Type 0 where
+  Property : (space local : List ℕ) → Label
+  Item : Label
+
+-- a simple value: a text with its language, which is empty if it has none; or a URI
+pub data Simple : Type 0 where
+  Literal : (language text : List ℕ) → Simple
+  Uri : (uri : List ℕ) → Simple
+
+-- a structure, or an array: unordered, ordered or alternative
+pub data Compound : Type 0 where
+  Structure : Compound
+  Bag : Compound
+  Seq : Compound
+  Alt : Compound
+
+-- properties, fields or items in a row: none; or one with a simple value, or one with a structure or an array of others; and those after it
+pub data Content : Type 0 where
+  End : Content
+  Flat : Label → Simple → Content → Content
+  Nested : Label → Compound → Content → Content → Content
+
+-- ---- the octets of each, before some octets k
+
+abbrev pub opening_tag : Label → List ℕ → List ℕ
+opening_tag (Property space local) k = 60 ∷ 112 ∷ 58 ∷ (local ++ 32 ∷ (codes "xmlns:p=\"" ++ (space ++ 34 ∷ k)))
+opening_tag Item k = 60 ∷ 114 ∷ (codes "df:li" ++ k)
+
+abbrev pub end_tag : Label → List ℕ → List ℕ
+end_tag (Property space local) k = 60 ∷ 47 ∷ 112 ∷ 58 ∷ (local ++ 62 ∷ k)
+end_tag Item k = 60 ∷ 47 ∷ (codes "rdf:li>" ++ k)
+
+abbrev pub simple : Label → Simple → List ℕ → List ℕ
+simple l (Literal [] text) k = 62 ∷ (normal_text text ++ end_tag l k)
+simple l (Literal (o ∷ language) text) k =
+    32 ∷ 120 ∷ (codes "ml:lang=\"" ++ (o ∷ (language ++ 34 ∷ 62 ∷ (normal_text text ++ end_tag l k))))
+simple l (Uri uri) k = 32 ∷ 114 ∷ 100 ∷ 102 ∷ 58 ∷ 114 ∷ (codes "esource=\"" ++ (normal_text uri ++ 34 ∷ 47 ∷ 62 ∷ k))
+
+abbrev pub compound_start : Compound → List ℕ → List ℕ
+compound_start Structure k = 32 ∷ 114 ∷ 100 ∷ 102 ∷ 58 ∷ 112 ∷ (codes "arseType=\"Resource\">" ++ k)
+compound_start Bag k = 62 ∷ 60 ∷ 114 ∷ 100 ∷ 102 ∷ 58 ∷ 66 ∷ (codes "ag>" ++ k)
+compound_start Seq k = 62 ∷ 60 ∷ 114 ∷ 100 ∷ 102 ∷ 58 ∷ 83 ∷ (codes "eq>" ++ k)
+compound_start Alt k = 62 ∷ 60 ∷ 114 ∷ 100 ∷ 102 ∷ 58 ∷ 65 ∷ (codes "lt>" ++ k)
+
+abbrev pub compound_end : Compound → List ℕ → List ℕ
+compound_end Structure k = k
+compound_end Bag k = codes "</rdf:Bag>" ++ k
+compound_end Seq k = codes "</rdf:Seq>" ++ k
+compound_end Alt k = codes "</rdf:Alt>" ++ k
+
+abbrev pub written : Content → List ℕ → List ℕ
+written End k = k
+written (Flat l p rest) k = opening_tag l (simple l p (written rest k))
+written (Nested l s inner rest) k = opening_tag l (compound_start s (written inner (compound_end s (end_tag l (written rest k)))))
+
+abbrev pub packet_end : List ℕ
+packet_end = codes "</rdf:Description></rdf:RDF></x:xmpmeta>"
+
+-- the normal packet of the properties of a picture
+abbrev pub normal_packet : Content → List ℕ
+normal_packet content =
+    codes "<x:xmpmeta xmlns:x=\"adobe:ns:meta/\"><rdf:RDF xmlns:rdf=\"http://www.w3.org/1999/02/22-rdf-syntax-ns#\">"
+    ++ (codes "<rdf:Description rdf:about=\"\">" ++ written content packet_end)
+
+-- ---- what can be written: no space in a local name, and no quotation mark in a namespace, a language or a URI
+
+abbrev pub Without : ℕ → List ℕ → Type 0
+Without d x = AllByRecursion (λ o. o ≢ d) x
+
+abbrev pub IsLabel : Label → Type 0
+IsLabel (Property space local) = Without 34 space × Without 32 local
+IsLabel Item = ⊤
+
+abbrev pub IsSimple : Simple → Type 0
+IsSimple (Literal language text) = Without 34 language
+IsSimple (Uri uri) = Without 34 uri
+
+abbrev pub IsContent : Content → Type 0
+IsContent End = ⊤
+IsContent (Flat l p rest) = IsLabel l × IsSimple p × IsContent rest
+IsContent (Nested l s inner rest) = IsLabel l × IsContent inner × IsContent rest
+
+-- Content has one normal packet exactly if it is one.
+abbrev pub PacketIsInjective : Type 0
+PacketIsInjective = (a b : Content) → IsContent a → IsContent b → (normal_packet a ≡ normal_packet b) ↔ (a ≡ b)
