@@ -371,6 +371,11 @@ class Picture:
         except OSError:
             return False
 
+    @property
+    def names(self) -> Tuple[str, ...]:
+        """The names of all fields, each once, in the order of the file."""
+        return tuple(dict.fromkeys(field.name for field in self.fields))
+
     def find(self, name: str) -> Tuple[Field, ...]:
         """All fields with a name, of all blocks: with its group or without, in capital or small letters."""
         if self._names is None:

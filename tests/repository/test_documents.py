@@ -2,7 +2,7 @@
 
 A section is run in a folder with pictures, and with the built commands on the PATH. Its fenced blocks are run in their order:
 `sh` as a script, which succeeds; of `console` each line `$ COMMAND`, which prints the lines below it; `c` is compiled and run, and `python`
-is run. A block of `text` that follows is the end of what was printed.
+is run, or is a session of Python, which goes on in the next such block. A block of `text` that follows is the end of what was printed.
 """
 
 from __future__ import annotations
@@ -25,7 +25,7 @@ from proved import bounds
 
 TOP = Path(__file__).resolve().parent.parent.parent
 DOCUMENTS = sorted([*TOP.glob("*.md"), *TOP.glob("docs/*.md"), *TOP.glob("*/README.md"), *TOP.glob("crates/*/*.md")])
-WHOLE = ("README.md", "docs/TUTORIAL.md", "docs/CATALOGUE.md", "docs/JSON.md")  # whose sections build on one another
+WHOLE = ("README.md", "docs/TUTORIAL.md", "docs/CATALOGUE.md", "docs/JSON.md", "docs/PYTHON.md")  # whose sections build on one another
 BY_SECTION = ("docs/RECIPES.md", "docs/REFUSALS.md")
 HEADER = "crates/px_c/include/exifnorm.h"
 TOOLS = ("exiftool", "exiv2", "convert", "parallel", "sqlite3", "perl")
@@ -49,7 +49,13 @@ def fenced(text: str) -> Iterator[Block]:
     found = re.findall(r"(?ms)^```(\w+)\n(.*?)^```$", text)
     for (kind, block), following in zip(found, [*found[1:], ("", "")]):
         if kind in ("sh", "console", "c", "python"):
-            yield Block(kind, block, following[1] if following[0] == "text" else "")
+            yield Block("session" if block.startswith(">>> ") else kind, block, following[1] if following[0] == "text" else "")
+
+
+def with_one_session(blocks: list[Block]) -> list[Block]:
+    """The blocks, of which those of a session of Python are one."""
+    session = "\n".join(it.text for it in blocks if it.kind == "session")
+    return [Block("session", session, "")] * bool(session) + [it for it in blocks if it.kind != "session"]
 
 
 def sections() -> Iterator[object]:
@@ -57,8 +63,10 @@ def sections() -> Iterator[object]:
         if (TOP / name).exists():
             parts = re.split(r"(?m)^## ", text_of(name)) if name in BY_SECTION else [f"whole\n{text_of(name)}"]
             for part in parts:
-                if blocks := list(fenced(part)):
+                if blocks := with_one_session(list(fenced(part))):
                     yield pytest.param(name, blocks, id=f"{name}: {part.partition(chr(10))[0]}")
+    name = "python/README.md"  # whose commands name folders of the reader
+    yield pytest.param(name, [it for it in fenced(text_of(name)) if it.kind == "python"], id=name)
 
 
 # ---- the folder in which they are run
@@ -138,8 +146,9 @@ class Runner:
         return subprocess.run(words, cwd=self.folder, env=self.environment, capture_output=True, text=True, check=False, timeout=300)
 
     def run(self, block: Block) -> None:
-        ran = {"sh": self.run_sh, "console": self.run_console, "c": self.run_c, "python": self.run_python}[block.kind](block.text)
-        assert ran.endswith(block.shown), block.text
+        kinds = {"sh": self.run_sh, "console": self.run_console, "c": self.run_c, "python": self.run_python, "session": self.run_session}
+        ran = kinds[block.kind](block.text)
+        assert ran.endswith(block.shown), (block.text, ran)
 
     def run_sh(self, text: str) -> str:
         ran = self.ran("bash", "-e", "-u", "-o", "pipefail", "-c", text)
@@ -160,6 +169,13 @@ class Runner:
 
     def run_python(self, text: str) -> str:
         return self.success(sys.executable, "-c", text)
+
+    def run_session(self, text: str) -> str:
+        (self.folder / "session.txt").write_text(text, encoding="utf-8")
+        code = "import doctest, sys; sys.exit(doctest.testfile('session.txt', module_relative=False)[0])"
+        ran = self.ran(sys.executable, "-c", code)
+        assert (ran.returncode, ran.stderr) == (0, ""), ran.stdout
+        return ""
 
     def success(self, *words: str) -> str:
         ran = self.ran(*words)
