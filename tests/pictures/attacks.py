@@ -51,6 +51,14 @@ def rare_text(text):
     return xmp(f"<dc:a rdf:nodeID='n'/><rdf:_1>{text}</rdf:_1>")
 
 
+def many_values(number, size, step):
+    """A block with private tags, at most 23,000, whose values begin some bytes after one another; the last two are at one place."""
+    start = 8 + 2 + 12 * number + 4
+    places = [start + step * min(it, number - 2) for it in range(number)]
+    rows = (struct.pack(">HHII", 0xA500 + it, 1, size, place) for it, place in enumerate(places))
+    return b"MM\0*\0\0\0\x08" + struct.pack(">H", number) + b"".join(rows) + bytes(4) + bytes(places[-1] + size - start)
+
+
 def resources(number):
     return b"8BIM\4\x25\0\0\0\0\0\0" * number
 
@@ -103,6 +111,9 @@ FILES = {
         ),
         "Markup",
     ),
+    "shared-values.png": (written(lambda: png(chunk(b"eXIf", many_values(23_000, 5, 0)))), "Overlap"),
+    "neighbouring-values.png": (written(lambda: png(chunk(b"eXIf", many_values(23_000, 5, 5)))), "Overlap"),
+    "growing-values.png": (written(lambda: png(chunk(b"eXIf", many_values(23_000, 1_000_000, 0)))), "Overlap"),
     "one-extension.jpg": (written(lambda: extended(100, 3_000_000)), "TooLong"),
     "pages-of-one-packet.tif": (written(lambda: sharing(xmp("<dc:a>" + "x" * 25_000 + "</dc:a>"), 9000, 0x02BC, 1)), ""),
     "pages-of-a-long-packet.tif": (written(lambda: sharing(xmp("<dc:a>" + "<dc:b/>" * 2_000_000 + "</dc:a>"), 15, 0x02BC, 1)), "TooLong"),

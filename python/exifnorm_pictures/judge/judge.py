@@ -12,7 +12,7 @@ from ..extract import structure
 from ..fields.block_fields import Fields
 from ..fields.packing import left_out, packed
 from ..model import steps
-from ..model.budgets import KEPT_BYTES
+from ..model.budgets import KEPT_BYTES, Budget
 from ..model.found import COMPRESSED, EXIF, FEW, IPTC, NAMES, XMP, Blocks, FoundBlock
 from ..model.records import FAILED, TOO_LONG, Block
 from ..model.verdicts import ACCEPTED, REFUSED, UNREADABLE
@@ -20,9 +20,9 @@ from ..model.verdicts import ACCEPTED, REFUSED, UNREADABLE
 _BY_ITSELF = FoundBlock("", b"", "", "")  # where a block is that was given without a picture
 
 
-def judge(kind: str, block: bytes, packs: bool = False, at: FoundBlock = _BY_ITSELF) -> Block:
+def judge(kind: str, block: bytes, packs: bool = False, at: FoundBlock = _BY_ITSELF, budget: Optional[Budget] = None) -> Block:
     """Judges a block that was taken as one of `kind`; a refused block never gets a digest. With `packs` its fields are packed for a catalogue,
-    otherwise they are made when they are asked for."""
+    otherwise they are made when they are asked for. Raises `TooLong` if a repair takes too much time."""
     octets = hashlib.sha256(block).hexdigest()
     if block.startswith(COMPRESSED):
         return _unreadable(kind, at, len(block), octets, "Compressed")
@@ -30,7 +30,7 @@ def judge(kind: str, block: bytes, packs: bool = False, at: FoundBlock = _BY_ITS
         form = exifnorm.normal(block)
     except exifnorm.Refused as refused:
         found = Block(kind, *at[2:5], REFUSED, None, refused.cause, refused.place, len(block), octets)
-        return _repaired(found, block, packs) if kind == EXIF else found
+        return _repaired(found, block, packs, budget) if kind == EXIF else found
     except exifnorm.NormalTooLong:
         return Block(kind, *at[2:5], TOO_LONG, None, "NormalTooLong", None, len(block), octets)
     except MemoryError:
@@ -47,11 +47,11 @@ def _with_fields(it: Block, fields: Fields, packs: bool) -> Block:
     return it._replace(packed=kept.octets, but_note=kept.but_note)
 
 
-def _repaired(it: Block, block: bytes, packs: bool) -> Block:
+def _repaired(it: Block, block: bytes, packs: bool, budget: Optional[Budget]) -> Block:
     """A refused block with what a repair makes of it."""
     from . import repairs  # which takes long to import, and few blocks are refused
 
-    found = repairs.repaired(block)
+    found = repairs.repaired(block, budget)
     if found is None:
         return it
     known = it._replace(repair=steps.packed(found.steps), repaired=hashlib.sha256(found.form).hexdigest())
@@ -101,7 +101,7 @@ def judge_all(blocks: Blocks, packs: bool = False) -> List[Block]:
         if it.kind == XMP and not it.data.startswith(COMPRESSED):
             block = extended.judge(it, packs) if extended else _judge_xmp(it, none, {}, packs)
         else:
-            block = judge(it.kind, it.data, packs, it)
+            block = judge(it.kind, it.data, packs, it, blocks.budget)
             if it.kind == EXIF and (block.digest or block.repaired):
                 block = _with_notes(block, it, blocks)
         if many:  # pages of a TIFF can share a value

@@ -13,9 +13,11 @@ from typing import Callable, Dict, List, NamedTuple, Optional, Tuple
 import exifnorm
 
 from ..extract.structure import LINKS, MAKER_NOTE, SIZE, Directory, Entry, Walk
+from ..model.budgets import Budget
 from ..model.steps import Step
 
 MOST = 100  # steps
+SHORT = 65_536  # bytes by which any block may grow
 _POINTERS = (0x0111, 0x0117, 0x0201, 0x0202, 0x8769, 0x8825, 0xA005)
 _ALLOWED = {("main", 0x8769), ("main", 0x8825), ("exif", 0xA005), *(("thumb", it) for it in (0x0111, 0x0117, 0x0201, 0x0202))}
 _ROLES = {0x0111, 0x0117, 0x0120, 0x0144, 0x014A, 0x0201, 0x0202, 0x0207, 0x0208, 0x0209, 0x8769, 0x8825, 0xA005}
@@ -39,11 +41,13 @@ class Repaired(NamedTuple):
 _Done = Optional[Tuple[bytearray, str, str]]
 
 
-def repaired(block: bytes) -> Optional[Repaired]:
-    """The repaired block; none if no repair is known."""
+def repaired(block: bytes, budget: Optional[Budget] = None) -> Optional[Repaired]:
+    """The repaired block; none if no repair is known. Raises `TooLong` if its picture has taken too much time."""
+    budget = budget or Budget()
     original = now = bytes(block)
     steps: List[Step] = []
     while len(steps) <= MOST:
+        budget.check_time()
         form, cause = b"", ""
         try:
             form = exifnorm.normal(now)
@@ -52,7 +56,7 @@ def repaired(block: bytes) -> Optional[Repaired]:
         except (exifnorm.NormalTooLong, MemoryError):
             return None
         try:
-            done = _next(cause, original, now) if cause or steps else None
+            done = _next(cause, original, now, budget) if cause or steps else None
         except (struct.error, IndexError):
             return None
         if done is None and not cause:
@@ -64,21 +68,33 @@ def repaired(block: bytes) -> Optional[Repaired]:
     return None
 
 
-def _next(cause: str, original: bytes, now: bytes) -> _Done:
+def _next(cause: str, original: bytes, now: bytes, budget: Budget) -> _Done:
     """The next step of a block that is refused, or, without a cause, of one that is accepted after some steps."""
     if not cause:
-        return _changed_value(original, now, Walk(now))
+        return _changed_value(original, now, Walk(now), budget)
     step = _STEPS.get(cause)
     return step(now, Walk(now)) if step else None
 
 
-def _changed_value(original: bytes, now: bytes, walk: Walk) -> _Done:
+def _changed_value(original: bytes, now: bytes, walk: Walk, budget: Budget) -> _Done:
     """Leaves out a value that the block didn't have: it shares bytes with a table, which other steps have changed."""
     old = Walk(original)
-    known = {(it.name, one.tag, one.elements, old.value(one)) for it in old.directories for one in it.entries}
+    known: Dict[Tuple[str, int, int], List[Entry]] = {}
+    for directory in old.directories:
+        for entry in directory.entries:
+            known.setdefault((directory.name, entry.tag, entry.elements), []).append(entry)
+
+    def had(name: str, entry: Entry) -> bool:
+        value = walk.value(entry)
+        for other in known.get((name, entry.tag, entry.elements), ()):  # values may share bytes, and be longer together than the block
+            budget.check_time()
+            if old.value(other) == value:
+                return True
+        return False
+
     for it in walk.directories:
         for one in it.entries:
-            if one.tag not in _POINTERS and (it.name, one.tag, one.elements, walk.value(one)) not in known:
+            if one.tag not in _POINTERS and not had(it.name, one):
                 return _without(now, walk, it, one.place), f"tag {one.tag:04x}, whose value other steps would change, left out", "a value"
     pictures = old.pictures()
     if all(any(one.startswith(it) for one in pictures) for it in walk.pictures()):
@@ -149,8 +165,16 @@ def _end_of_directory(block: bytes, walk: Walk) -> _Done:
     return None
 
 
+def _claim(claimed: bytearray, start: int, end: int) -> None:
+    end = min(end, len(claimed))
+    claimed[start:end] = b"\1" * max(0, end - start)
+
+
 def _shared_values(block: bytes, walk: Walk) -> _Done:
-    claimed = [(0, 8), *((it.at, min(it.next + 4, len(block))) for it in walk.directories)]
+    """Copies values that share bytes with others to the end of the block, which grows at most to twice its length."""
+    claimed = bytearray(len(block))  # a byte for each of the block: whether a table or a value has claimed it
+    for start, end in ((0, 8), *((it.at, it.next + 4) for it in walk.directories)):
+        _claim(claimed, start, end)
     for number, it in enumerate(walk.directories):
         if any(one.at < it.next + 4 and it.at < one.next + 4 for one in walk.directories[:number]):
             return None  # directories that share bytes
@@ -160,14 +184,15 @@ def _shared_values(block: bytes, walk: Walk) -> _Done:
     ):  # MakerNotes stay where they are
         if start + size > len(block):
             continue
-        if any(first < start + size and start < end for first, end in claimed):
-            out += b"\0" * (len(out) % 2)
-            struct.pack_into(walk.order + "I", out, field, len(out))
-            claimed.append((len(out), len(out) + size))
-            out += block[start : start + size]
-            moved += 1
-        else:
-            claimed.append((start, start + size))
+        if claimed.find(1, start, start + max(size, 1)) < 0:
+            _claim(claimed, start, start + size)
+            continue
+        if len(out) + size > 2 * len(block) + SHORT:
+            return None
+        out += b"\0" * (len(out) % 2)
+        struct.pack_into(walk.order + "I", out, field, len(out))
+        out += block[start : start + size]
+        moved += 1
     return (out, f"{moved} shared value{'s' * (moved > 1)} copied", "") if moved else None
 
 
