@@ -21,6 +21,7 @@ VERSION = re.search(r'VERSION: &str = "(.*)";', text_of("crates", "px_engine", "
 STATUSES = dict(re.findall(r"pub const (\w+): u32 = (\d+);", text_of("crates", "px_c", "src", "statuses.rt")))
 OF_JPEG = text_of("crates", "px_c", "src", "jpeg.rt")
 OF_PICTURES = text_of("crates", "px_c", "src", "pictures.rt")
+WITH_STRUCTS = ("faults.rt", "jpeg.rt", "pictures.rt", "blocks.rt", "unread.rt")
 
 
 def prototypes(text):
@@ -44,7 +45,7 @@ def in_capitals(name):
 def numbers_of_jpegs():
     """Those of the kinds and causes of a JPEG's head."""
     found = re.findall(r"^ +(?:Kind|Cause)::(\w+) => (\d+),$", OF_JPEG, re.M)
-    too_long = int(re.search(r"^const TOO_LONG: u32 = (\d+);$", OF_PICTURES, re.M)[1])
+    too_long = int(re.search(r"^(?:pub\(crate\) )?const TOO_LONG: u32 = (\d+);$", OF_PICTURES, re.M)[1])
     return {"OTHER": 0, **{in_capitals(name): int(number) for name, number in found}, "TOO_LONG": too_long}
 
 
@@ -65,7 +66,7 @@ TYPES = {"u32": ctypes.c_uint32, "usize": ctypes.c_size_t}
 
 def structs_of_the_sources():
     """The size of each struct and the offsets of its members, from the sources in Rattle."""
-    text = text_of("crates", "px_c", "src", "faults.rt") + OF_JPEG + OF_PICTURES
+    text = "".join(text_of("crates", "px_c", "src", it) for it in WITH_STRUCTS)
     for name, body in re.findall(r"^#\[repr\(C\)\]\n[^\n]*\npub struct (\w+) \{\n(.*?)^\}", text, re.M | re.S):
         members = [(member, TYPES[kind]) for member, kind in re.findall(r"^ +pub (\w+): (\w+),$", body, re.M)]
         struct = type(name, (ctypes.Structure,), {"_fields_": members})
@@ -133,13 +134,18 @@ def test_python_has_the_same_statuses_causes_and_version(way):
 
 def test_python_has_the_same_numbers_and_structs_of_jpegs():
     kinds = {it.upper().replace(" ", "_") or "OTHER": number for number, it in enumerate(_jpeg.KINDS)}
-    assert {**kinds, **{in_capitals(it): number for number, it in _jpeg.CAUSES.items()}} == numbers_of_jpegs()
+    numbers = numbers_of_jpegs()
+    assert {name: number for name, number in numbers.items() if number in kinds.values()} == kinds
+    assert sorted(_jpeg.CAUSES) == sorted({*numbers.values()} - {*kinds.values()})
     structs = {
         "jpeg_part": _library.Part,
         "photoshop_resource": _library.Resource,
         "jpeg_fault": _library.JpegFault,
         "picture_fault": _library.PictureFault,
         "fault": _library.Fault,
+        "jpeg_block": _library.Place,
+        "jpeg_sizes": _library.Sizes,
+        "jpeg_unread": _library.Unread,
     }
     found = {
         f"exifnorm_{name}": [ctypes.sizeof(it), *(getattr(it, field).offset for field, _ in it._fields_)] for name, it in structs.items()
@@ -162,6 +168,9 @@ IN_PYTHON = {
     "struct exifnorm_jpeg_fault *": "LP_JpegFault",
     "struct exifnorm_photoshop_resource *": "LP_Resource",
     "struct exifnorm_picture_fault *": "LP_PictureFault",
+    "struct exifnorm_jpeg_block *": "LP_Place",
+    "struct exifnorm_jpeg_sizes *": "LP_Sizes",
+    "struct exifnorm_jpeg_unread *": "LP_Unread",
 }
 
 
