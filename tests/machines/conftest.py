@@ -1,0 +1,108 @@
+"""Fixtures of the tests of other machines: the C source, the programs made of it, and what the built library answers for many files."""
+
+from __future__ import annotations
+
+import random
+import shutil
+import zipfile
+from pathlib import Path
+from typing import Dict, Iterator
+
+import c_source
+import guard
+import pytest
+from lines_of_cases import lines
+from machines import HERE, VERSION, Builds
+
+from commands import TOP, run
+
+CUTS, CHANGES = 40, 150  # of each picture
+
+
+@pytest.fixture(scope="session")
+def c_archive(library: Path, session_folder: Path) -> Path:
+    """The archive of the C source of the built library, with its folder beside it."""
+    for tool, package in c_source.TOOLS.items():
+        if not shutil.which(tool):
+            pytest.skip(f"{tool} is not installed: `apt-get install {package}`")
+    is_proved = not guard.refused(library / "libexifnorm.so.1")
+    return c_source.make(VERSION, 10**9, session_folder / "c", is_proved)
+
+
+@pytest.fixture(scope="session")
+def c_folder(c_archive: Path) -> Path:
+    return c_archive.with_name(c_archive.name[: -len(".tar.gz")])
+
+
+@pytest.fixture(scope="session")
+def builds(c_folder: Path, session_folder: Path) -> Iterator[Builds]:
+    folder = session_folder / "builds"
+    folder.mkdir()
+    made = Builds(c_folder, folder)
+    yield made
+    made.end()
+
+
+# ---- files, and what the built library answers for them
+
+
+def changed(picture: bytes, rest: random.Random) -> Iterator[bytes]:
+    """A picture that is cut, and with a byte changed, mostly in its head."""
+    for _ in range(CUTS):
+        yield picture[: rest.randrange(min(len(picture), 4000))]
+    for _ in range(CHANGES):
+        octets = bytearray(picture)
+        octets[rest.randrange(min(len(picture), 3000))] = rest.randrange(256)
+        yield bytes(octets)
+
+
+def contents() -> Iterator[bytes]:
+    """The blocks of the worked cases and those that fuzzers kept, the sample pictures, and these with a change."""
+    for line in lines():
+        yield from (bytes.fromhex(it.strip("-\n")) for it in line.split(" ")[2:])
+    with zipfile.ZipFile(TOP / "tests/library/fuzz/corpus.zip") as kept:
+        yield from (kept.read(it) for it in sorted(kept.namelist()))
+    rest = random.Random(1)
+    for path in sorted([*TOP.glob("samples/before/*/*"), *TOP.glob("samples/after/*/*")]):
+        picture = path.read_bytes()
+        yield picture
+        if path.suffix == ".jpg":
+            yield from changed(picture, rest)
+
+
+@pytest.fixture(scope="session")
+def files(session_folder: Path) -> Path:
+    """A list of files, one a line."""
+    folder, listing = session_folder / "files", session_folder / "files.txt"
+    folder.mkdir()
+    names: Dict[bytes, str] = {}
+    for octets in contents():
+        if octets not in names:
+            names[octets] = str(folder / str(len(names)))
+            Path(names[octets]).write_bytes(octets)
+    listing.write_text("".join(f"{it}\n" for it in names.values()), encoding="ascii")
+    return listing
+
+
+@pytest.fixture(scope="session")
+def answers(library: Path, files: Path, session_folder: Path) -> str:
+    """What the built library answers for each file."""
+    program = session_folder / "answers"
+    shared = library / "libexifnorm.so.1"
+    header = TOP / "crates/px_c/include"
+    run(
+        "cc",
+        "-std=c99",
+        "-O1",
+        "-Wall",
+        "-Wextra",
+        "-pedantic",
+        "-I",
+        header,
+        "-o",
+        program,
+        HERE / "answers.c",
+        shared,
+        f"-Wl,-rpath,{library}",
+    )
+    return run(program, files)

@@ -1,0 +1,83 @@
+"""Compilers for this machine and for others, and how the programs that they make are run here."""
+
+from __future__ import annotations
+
+import os
+import re
+import shutil
+import subprocess
+from dataclasses import dataclass, field
+from pathlib import Path
+from typing import List
+
+import pytest
+
+from commands import TOP, run
+
+HERE = Path(__file__).resolve().parent
+VERSION = re.findall(r'VERSION: &str = "(.*)";', TOP.joinpath("crates/px_engine/src/version.rt").read_text(encoding="utf-8"))[0]
+WINE = Path("/usr/lib/wine")  # Debian's wine64 is not on the PATH
+
+
+@dataclass
+class Machine:
+    """A compiler for C, and how the programs that it makes are run here."""
+
+    name: str
+    compiler: List[str]
+    runner: List[str] = field(default_factory=list)
+
+    def need(self) -> None:
+        """Skips a test if a tool is missing."""
+        for tool in (self.compiler[0], *self.runner[:1]):
+            if not shutil.which(tool):
+                pytest.skip(f"{tool} is not installed: `apt-get install $(./test --packages)`")
+
+
+MACHINES = [
+    Machine("gcc", ["gcc", "-O2"]),
+    Machine("clang", ["clang", "-O2"]),
+    Machine("address sanitizer", ["clang", "-O1", "-fsanitize=address"]),
+    Machine("musl", ["musl-gcc", "-O2", "-static"]),
+    Machine("aarch64", ["aarch64-linux-gnu-gcc", "-O2", "-static"], ["qemu-aarch64"]),
+    Machine("windows", ["x86_64-w64-mingw32-gcc", "-O2"], [str(WINE / "wine64")]),
+]
+
+
+class Builds:
+    """The programs that use the library in C, by machine. Each is compiled at its first use."""
+
+    def __init__(self, source: Path, folder: Path) -> None:
+        self.source, self.folder = source, folder
+
+    def program(self, machine: Machine, name: Path) -> Path:
+        """The program of a file in C."""
+        machine.need()
+        made, library = (self.folder / f"{machine.name}-{it}" for it in (f"{name.stem}.exe", "exifnorm.o"))
+        words = [*machine.compiler, "-std=c99", "-I", str(self.source)]
+        if not library.exists():
+            run(*words, "-w", "-c", "-o", library, self.source / "exifnorm.c")
+        if not made.exists():
+            run(*words, "-Wall", "-Wextra", "-pedantic", "-o", made, name, library)
+        return made
+
+    def said(self, machine: Machine, name: Path, *words: str | Path) -> str:
+        """What the program of a file in C prints."""
+        program = self.program(machine, name)
+        environment = {"WINEPREFIX": str(self.folder / "wine"), "WINEDEBUG": "-all", "WINEDLLOVERRIDES": "mscoree,mshtml="}
+        ran = subprocess.run(
+            [*machine.runner, program, *words],
+            env={**os.environ, **environment},
+            stdin=subprocess.DEVNULL,
+            stdout=subprocess.PIPE,
+            stderr=subprocess.PIPE,
+            encoding="utf-8",
+            check=False,
+        )
+        assert ran.returncode == 0, f"{program.name} ended with status {ran.returncode}: {ran.stdout[-2000:]}{ran.stderr[-2000:]}"
+        return ran.stdout.replace("\r\n", "\n")
+
+    def end(self) -> None:
+        """Ends what Wine leaves running."""
+        if (self.folder / "wine").exists():
+            subprocess.run([WINE / "wineserver64", "-k"], env={**os.environ, "WINEPREFIX": str(self.folder / "wine")}, check=False)
