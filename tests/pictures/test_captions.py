@@ -271,3 +271,15 @@ def test_captions_of_a_catalogue(called, folder):
         (folder / f"{name}.jpg").unlink()
     assert [called("captions", *words, "c")[1] for words in ([], ["--csv"], ["--json"])] == printed
     assert called("conflicts", "c")[0] == 0
+
+
+@pytest.mark.parametrize("key", ["2:05", "2:80", "2:120", "1:5"])
+def test_a_further_field_is_a_further_line(key, called, folder):
+    """Whatever its name is: so two listings can be compared line by line."""
+    record, number = map(int, key.split(":"))
+    before = data_set(25, b"one") + data_set(25, b"two")
+    further = bytes((0x1C, record, number, 0, 3)) + b"new"
+    (folder / "a.jpg").write_bytes(jpeg(with_record(before)))
+    (folder / "b.jpg").write_bytes(jpeg(with_record(before + further)))
+    one, other = (called("show", name)[1].splitlines() for name in ("a.jpg", "b.jpg"))
+    assert len(other) == len(one) + 1 and [line for line in other if line in one] == one

@@ -3,7 +3,10 @@
 import json
 
 import pytest
-from made_files import A, webp
+from made_files import A, app1, jpeg, webp
+from test_never_the_same import reached
+
+import exifnorm_pictures as pictures
 
 MANY = webp((b"EXIF", A), *[(b"ABCD", b"what it is")] * 1200)
 PHRASE = "chunk of an unknown kind (1,200 times)"
@@ -29,3 +32,25 @@ def test_many_parts_of_a_group(folder, called):
 def test_each_part_for_programs(folder, called):
     (folder / "a.webp").write_bytes(MANY)
     assert json.loads(called("show", "--json", "a.webp")[1])["not_read"] == ["chunk of an unknown kind"] * 1200
+
+
+PARTS = {
+    "a.webp": MANY,
+    "trailer.jpg": jpeg(app1(A), behind=b"a trailer"),
+    "app3.jpg": jpeg(app1(A), b"\xff\xe3\0\x0aMeta\0\0ab"),
+    "cut.jpg": jpeg(app1(A))[:-300],
+    "note.jpg": next(it for it in reached() if "JPEG" in it.name).before,
+}
+
+
+@pytest.mark.parametrize("name", PARTS)
+def test_one_list_in_all_commands(name, folder, called):
+    """Whichever command a program asks, it learns the same."""
+    (folder / name).write_bytes(PARTS[name])
+    expected = list(pictures.read(folder / name).not_read)
+    assert expected
+    for words in (("show", name), ("captions", name), ("index", ".", "--catalogue", "c")):
+        assert json.loads(called(*words, "--json")[1].splitlines()[0])["not_read"] == expected, words
+    assert [it["not_read"] for it in json.loads(called("compare", "--json", name, name)[1])["pictures"]] == [expected] * 2
+    (conflict, *_) = map(json.loads, called("conflicts", "--json", name)[1].splitlines())
+    assert conflict["record"] == "summary" or conflict["not_read"] == expected

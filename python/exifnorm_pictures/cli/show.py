@@ -16,7 +16,7 @@ from ..model.found import PROGRAMS, each_kind
 from ..model.records import Block
 from ..model.texts import Members, escaped
 from ..model.verdicts import ACCEPTED
-from .columns import LONGEST_NAME, width
+from .columns import width
 from .each_block import Described, each_block, each_picture, status_of
 from .exit_codes import SUCCESS
 from .objects import block_object, picture_object, print_object
@@ -49,11 +49,13 @@ def _described(it: Block, is_exact: bool) -> Described:
 
 
 def _plain_lines(fields: List[Field]) -> Iterator[str]:
-    """Each field with its name and its plain value."""
-    names = [group_name(it.where, it.key) for it in fields]
-    column = min(LONGEST_NAME, max(map(width, names), default=0))
-    for name, it in zip(names, fields):
-        yield f"  {name}{' ' * max(0, column - width(name))}  {escaped(plain(it))}"
+    """Each field with its name and its plain value. The column is always the same, so that a further field changes no other line."""
+    for field in fields:
+        name = group_name(field.where, field.key)
+        yield f"  {name}{' ' * max(0, _COLUMN - width(name))}  {escaped(plain(field))}"
+
+
+_COLUMN = 30  # characters of a name, of which few have more
 
 
 def _repaired(it: Block) -> List[str]:
