@@ -4,13 +4,16 @@ Which file belongs to which picture is what the manuals of darktable (NAME.EXT.x
 (NAME.xmp of raw pictures) say.
 """
 
+import contextlib
+import itertools
 import json
 import os
 import shutil
+import sqlite3
 
 import pytest
 from made_files import A, app1, app1_xmp, jpeg, title
-from studio import put, write
+from studio import SMALL_JPEG, put, write
 
 from exifnorm_pictures.extract import sidecars
 from exifnorm_pictures.model.budgets import LIMITS, PACKET_BYTES, XMP_BYTES
@@ -256,3 +259,28 @@ def test_the_bytes_of_all_sidecars_are_limited(tmp_path):
     most = LIMITS[XMP_BYTES] // PACKET_BYTES
     assert (len(blocks.found), len(blocks.not_read)) == (most, 11 - most)
     assert not any(it.digest for it in blocks.not_read)
+
+
+def test_sidecars_whose_names_differ_only_in_capital_letters():
+    """Each belongs to each picture of that name in any letters: only so many are read, and the work isn't their product."""
+    names = ["".join(it) for it in itertools.islice(itertools.product(*({one, one.upper()} for one in sorted("abcdefghijk"))), 2000)]
+    pictures = [f"{it}.jpg".encode() for it in names]
+    folder = sidecars.Folder([*pictures, *(f"{it}.xmp".encode() for it in names)])
+    assert len(folder.files) == len(names)
+    for picture in pictures[:3]:
+        *read, further = folder.of(picture)
+        assert len(read) == sidecars.MOST and further == sidecars.Sidecar(f"{len(names) - sidecars.MOST:,} further XMP sidecars", b"")
+    assert sum(map(len, folder._of.values())) <= 2 * sidecars.MOST
+
+
+def test_a_picture_with_more_sidecars_than_are_read_is_never_the_same(called, folder):
+    for name in ("abcdefg.jpg", "other.jpg"):
+        (folder / name).write_bytes(SMALL_JPEG)
+    names = itertools.islice(itertools.product(*({one, one.upper()} for one in sorted("abcdefg"))), sidecars.MOST + 1)
+    for it in names:
+        (folder / f"{''.join(it)}.xmp").write_bytes(ONE)
+    status, printed, _ = called("index", ".", "--sidecars", "--catalogue", "c", "--quiet")
+    assert status == 0
+    with contextlib.closing(sqlite3.connect(folder / "c")) as base:
+        assert base.execute("SELECT what FROM not_read").fetchall() == [("1 further XMP sidecar",)]
+        assert base.execute("SELECT not_read FROM pictures WHERE path LIKE '%abcdefg.jpg'").fetchone() == (None,)

@@ -18,6 +18,7 @@ from ..fields.plain_names import exact_key, group_name
 from ..fields.plain_values import plain
 from ..fields.typed import typed
 from ..model import steps
+from ..model.budgets import CACHED
 from ..model.records import WORDS, Block, Picture
 from ..model.texts import shown_path
 from ..scan.progress import Progress
@@ -106,11 +107,18 @@ def _block_row(it: Picture, number: int, block: Block) -> Row:
     return (it.id, number, *about, repair, block.digest)
 
 
-@functools.lru_cache(maxsize=4096)  # pictures have many fields in common
-def _field_row(it: Field) -> Row:
+def _field_row(field: Field) -> Row:
+    """A row of a field, which is kept for the next picture if it is short: pictures have many fields in common."""
+    return _short_row(field) if isinstance(field.value, bytes) and len(field.value) <= CACHED else _row(field)
+
+
+def _row(it: Field) -> Row:
     value = typed(it)
     number = float(value) if isinstance(value, (int, float)) else None
     return (group_name(it.where, it.key), it.where, exact_key(it.where, it.key), it.type, it.elements, plain(it), exact(it), number)
+
+
+_short_row = functools.lru_cache(maxsize=4096)(_row)
 
 
 def _text_rows(found: Sequence[LabelText]) -> Iterator[Row]:

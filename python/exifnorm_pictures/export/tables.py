@@ -11,7 +11,8 @@ from ..model.budgets import STEPS
 
 APPLICATION = 0x45584E54  # 'EXNT', which distinguishes an export from a catalogue and from other SQLite files
 VERSION = 2
-_ROWS = 1000  # that are written at once
+_ROWS = 1000  # that are written at once, or fewer of this many characters and bytes
+_SIZE = 4 << 20
 _CACHE = 8_000  # kB
 
 SCHEMA = """
@@ -119,16 +120,25 @@ class Tables:
     def __init__(self, base: sqlite3.Connection) -> None:
         self._base = base
         self._rows: Dict[str, List[Row]] = {}
+        self._size = 0  # of the rows that wait
         self.counts: Dict[str, int] = {}
 
     def add(self, table: str, rows: Iterable[Row]) -> None:
         """Adds rows to a table."""
-        waiting = self._rows.setdefault(table, [])
-        before = len(waiting)
-        waiting += rows
-        self.counts[table] = self.counts.get(table, 0) + len(waiting) - before
-        if len(waiting) >= _ROWS:
+        for row in rows:
+            waiting = self._rows.setdefault(table, [])
+            waiting.append(row)
+            self.counts[table] = self.counts.get(table, 0) + 1
+            self._size += sum(len(cell) for cell in row if isinstance(cell, (str, bytes)))
+            if len(waiting) >= _ROWS:
+                self._write(table)
+            if self._size >= _SIZE:
+                self._write_all()
+
+    def _write_all(self) -> None:
+        for table in list(self._rows):
             self._write(table)
+        self._size = 0
 
     def _write(self, table: str) -> None:
         rows = self._rows.pop(table, [])
@@ -143,8 +153,7 @@ class Tables:
 
     def finish(self) -> None:
         """Writes what is left, and the indexes."""
-        for table in list(self._rows):
-            self._write(table)
+        self._write_all()
         self._base.execute("COMMIT")
         self._base.executescript(_INDEXES)
         self._base.execute("ANALYZE")

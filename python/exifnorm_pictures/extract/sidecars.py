@@ -2,7 +2,8 @@
 
 NAME.EXT.xmp belongs to the picture NAME.EXT, as darktable and digiKam name it. NAME.xmp, as Adobe's programs name it, belongs to the raw
 pictures called NAME, and if there is none, to each picture called NAME. NAME_01.EXT.xmp is darktable's further version of NAME.EXT.
-Letters count in either case. What belongs to no picture is a file by itself.
+Letters count in either case, so a picture can have several; of more than `MOST` the rest is not read. What belongs to no picture is a file by
+itself.
 """
 
 from __future__ import annotations
@@ -18,6 +19,7 @@ from ..model.found import XMP, Blocks, FoundBlock, NotRead, ordinal
 from ..model.records import RACY, Stamp
 
 NAME = "XMP sidecar"
+MOST = 100  # sidecars of a picture that are read; real ones have one for each of their versions
 _RAW = b"dng nef nrw cr2 cr3 crw arw arq sr2 srf srw orf pef rw2 rwl raf 3fr iiq erf mef mos mrw dcr kdc k25 gpr fff raw x3f".split()
 _RAW_NAME = re.compile(rb"\.(?:%s)\Z" % b"|".join(_RAW))
 _PICTURE_NAME = re.compile(
@@ -27,7 +29,7 @@ _VERSION = re.compile(rb"(.*)_(\d\d)(\.[^.]+)\Z", re.S)
 
 
 class Sidecar(NamedTuple):
-    """A sidecar of a picture: the name of its block, and its file's name in the picture's folder."""
+    """A sidecar of a picture: the name of its block, and its file's name in the picture's folder; empty for all that are not read."""
 
     block: str
     file: bytes
@@ -38,44 +40,52 @@ class Folder:
 
     def __init__(self, names: Iterable[bytes]) -> None:
         """Takes the names of all files of the folder."""
-        self._of: Dict[bytes, List[Tuple[str, bytes]]] = {}
+        self._of: Dict[bytes, List[Tuple[str, bytes]]] = {}  # by the picture's name in small letters
+        self._further: Dict[bytes, int] = {}  # sidecars of such a name that are not read
         self.files: Set[bytes] = set()  # the sidecars that belong to a picture
         every = sorted(names)
         sidecars = [it for it in every if it.lower().endswith(b".xmp")]
         if sidecars:
-            self._pictures: Dict[bytes, List[bytes]] = {}  # by their names, and by their names without an extension
-            for it in every:
-                low = it.lower()
+            self._pictures: Dict[bytes, Set[bytes]] = {}  # names in small letters, by themselves and without their extensions
+            for low in {name.lower() for name in every}:
                 if _PICTURE_NAME.search(low):
-                    self._pictures.setdefault(low, []).append(it)
-                    self._pictures.setdefault(low[: low.rindex(b".")], []).append(it)
+                    self._pictures.setdefault(low, set()).add(low)
+                    self._pictures.setdefault(low[: low.rindex(b".")], set()).add(low)
             for it in sidecars:
                 self._give(it)
 
     def _give(self, sidecar: bytes) -> None:
         """Gives a sidecar to its pictures."""
         bare = sidecar.lower()[: -len(b".xmp")]
-        what, found = NAME, self._pictures.get(bare, [])
+        what, pictures = NAME, self._pictures.get(bare, set())
         if _PICTURE_NAME.search(bare):
-            found = [it for it in found if it.lower() == bare]
+            pictures = pictures & {bare}
             version = _VERSION.match(bare)
-            if not found and version:
+            if not pictures and version:
                 what = f"{NAME} of version {int(version[2])}"
-                found = [it for it in self._pictures.get(version[1] + version[3], ()) if it.lower() == version[1] + version[3]]
+                picture = version[1] + version[3]
+                pictures = self._pictures.get(picture, set()) & {picture}
         else:
-            found = [it for it in found if it.lower() != bare]
-            found = [it for it in found if _RAW_NAME.search(it.lower())] or found
-        for it in found:
-            self._of.setdefault(it, []).append((what, sidecar))
+            pictures = pictures - {bare}
+            pictures = {name for name in pictures if _RAW_NAME.search(name)} or pictures
+        for name in pictures:
+            mine = self._of.setdefault(name, [])
+            if len(mine) < MOST:
+                mine.append((what, sidecar))
+            else:
+                self._further[name] = self._further.get(name, 0) + 1
             self.files.add(sidecar)
 
     def of(self, picture: bytes) -> Tuple[Sidecar, ...]:
         """The sidecars of a picture, in a fixed order. The names of their blocks don't depend on that of the picture."""
         found: List[Sidecar] = []
         counts: Dict[str, int] = {}
-        for what, file in sorted(self._of.get(picture, ())):
+        for what, file in sorted(self._of.get(picture.lower(), ())):
             counts[what] = counts.get(what, 0) + 1
             found.append(Sidecar(what if counts[what] == 1 else f"{ordinal(counts[what])} {what}", file))
+        further = self._further.get(picture.lower(), 0)
+        if further:
+            found.append(Sidecar(f"{further:,} further {NAME}{'s' * (further > 1)}", b""))
         return tuple(found)
 
 
@@ -114,6 +124,9 @@ def add(blocks: Blocks, path: bytes, sidecars: Sequence[Sidecar]) -> None:
     """Adds the sidecars of a picture to its blocks. One that can't be read is named. Raises `TooMuch`."""
     left = LIMITS[XMP_BYTES]
     for it in sidecars:
+        if not it.file:
+            blocks.name(NotRead(it.block, ""))
+            continue
         data = _content(os.path.join(os.path.dirname(path), it.file), min(PACKET_BYTES, left))
         if data is None:
             blocks.name(NotRead(f"{it.block} that can't be read", ""))

@@ -58,6 +58,7 @@ SCAN_SEGMENTS = 1000  # of metadata after the first scan of a JPEG; none has mor
 PACKET_BYTES = 16 << 20  # of one packet, as of one block
 NESTED = 100  # elements of a packet in one another
 LANGUAGE = 100  # characters of a language of XMP, which each of its texts repeats; RFC 5646, 4.4.1 asks for 35
+CACHED = 1000  # characters of a text that a cache keeps: it counts its texts, and a stranger's can have millions each
 FIELDS = 100_000  # of a block that are kept to be shown; the block is compared by its digest in any case; need 150
 FIELD_BYTES = 8 << 20  # of the fields of a block as JSON, here and in a catalogue of others; need 8.6 kB
 KEPT_BYTES = 8 << 20  # of the fields of a picture in a catalogue, all blocks together; need 3.8 kB

@@ -5,6 +5,8 @@ from __future__ import annotations
 import functools
 from typing import Dict
 
+from .budgets import CACHED
+
 _SPACES: Dict[str, str] = dict(
     line.split()
     for line in """
@@ -48,13 +50,19 @@ http://www.w3.org/1999/02/22-rdf-syntax-ns# rdf
 PREFIXES = tuple(_SPACES.values())
 
 
-@functools.lru_cache(maxsize=4096)
 def short_name(uri: str) -> str:
     """The name of a property with a usual prefix; its URI in angle brackets if its namespace has none.
 
     >>> short_name("http://purl.org/dc/elements/1.1/title"), short_name("http://x/title")
     ('dc:title', '<http://x/title>')
     """
+    return _made_name(uri) if len(uri) > CACHED else _cached_name(uri)
+
+
+def _made_name(uri: str) -> str:
     at = max(uri.rfind("/"), uri.rfind("#")) + 1
     prefix = _SPACES.get(uri[:at])
     return f"{prefix}:{uri[at:]}" if prefix and uri[at:] else f"<{uri}>"
+
+
+_cached_name = functools.lru_cache(maxsize=4096)(_made_name)

@@ -7,7 +7,7 @@ import re
 from typing import Dict, List
 from xml.etree.ElementTree import Element
 
-from ..model.budgets import LANGUAGE
+from ..model.budgets import CACHED, LANGUAGE
 from .packets import Unreadable
 from .tree import MEMBER, RDF, TYPE, Literal, Node, Resource, Statement, Statements, Value
 
@@ -61,13 +61,19 @@ def _language(it: Element, outer: str) -> str:
     return found.lower()
 
 
-@functools.lru_cache(maxsize=4096)
 def _uri(name: str) -> str:
     """The URI of an element or attribute."""
+    return _made_uri(name) if len(name) > CACHED else _cached_uri(name)
+
+
+def _made_uri(name: str) -> str:
     space, _, local = name[1:].partition("}")
     if name[:1] != "{" or name.startswith(_XML) or (name.startswith(_R) and not _PLAIN.match(name)) or _NOT_IN_URI.search(name[1:]):
         raise Unusual
     return space + local
+
+
+_cached_uri = functools.lru_cache(maxsize=4096)(_made_uri)
 
 
 def _node(node: Element, language: str) -> List[Statement]:
