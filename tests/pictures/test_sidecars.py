@@ -283,4 +283,4 @@ def test_a_picture_with_more_sidecars_than_are_read_is_never_the_same(called, fo
     assert status == 0
     with contextlib.closing(sqlite3.connect(folder / "c")) as base:
         assert base.execute("SELECT what FROM not_read").fetchall() == [("1 further XMP sidecar",)]
-        assert base.execute("SELECT not_read FROM pictures WHERE path LIKE '%abcdefg.jpg'").fetchone() == (None,)
+        assert base.execute("SELECT not_read FROM pictures WHERE CAST(path AS TEXT) LIKE '%abcdefg.jpg'").fetchone() == (None,)
