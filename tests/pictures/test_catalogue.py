@@ -192,7 +192,7 @@ class Archive(InFolder):
         os.rename(self.path("p"), self.path("away"))
         lines = self.asked("index", "p", "--catalogue", "c", "--quiet", status=2)
         self.assertEqual(
-            (lines[0].startswith(f"{self.path('p')}: Unreadable: "), " 4 " in lines[0], lines[1:]), (True, True, ["1 Unreadable"]), lines
+            (lines[0].startswith(f"{self.path('p')}: Unreadable: "), " 4 " in lines[0], lines[1:]), (True, True, ["1 not readable"]), lines
         )
         self.assertEqual(self.changed_rows(), {})
         os.rename(self.path("away"), self.path("p"))

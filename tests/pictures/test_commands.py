@@ -19,7 +19,7 @@ class Index(WithPictures):
         self.assertEqual(
             lines[1:],
             [
-                "4 accepted, 1 NoPicture, 1 no block, 1 refused",
+                "4 accepted, 1 no block, 1 no picture, 1 refused",
                 "1 group of pictures that mean the same: exifnorm-pictures same --catalogue c",
                 "1 refused or unreadable: exifnorm-pictures report --catalogue c --html report.html",
             ],

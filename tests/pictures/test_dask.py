@@ -113,9 +113,10 @@ class Cluster(WithPictures):
         scheduler = self.cluster(PATH=self.deadly("true"), failures="0")
         lines = self.index("p", "--scheduler", scheduler, status=2, quiet=())
         self.assertEqual(
-            lines[:2], [f"{self.path('p', 'a.exv')}: ToolFailed: the workers that looked at it died", "150 accepted, 1 ToolFailed"]
+            lines[:2],
+            [f"{self.path('p', 'a.exv')}: ToolFailed: the workers that looked at it died", "150 accepted, 1 at which a program failed"],
         )
-        self.assertEqual(self.index("p", "--scheduler", scheduler, quiet=())[0], "150 unchanged, 1 ToolFailed as before")
+        self.assertEqual(self.index("p", "--scheduler", scheduler, quiet=())[0], "150 unchanged, 1 at which a program failed as before")
 
     def test_another_path_of_the_folder_on_the_workers(self):
         os.rename(self.path("p"), self.path("there"))
@@ -124,12 +125,12 @@ class Cluster(WithPictures):
             write(self.path("p", name), bytes(len(GOOD)))  # what is here isn't read
         write(self.path("p", "missing.jpg"), GOOD)
         lines = self.index("p", "--scheduler", self.cluster(), "--elsewhere", self.path("there"), status=2, quiet=())
-        self.assertEqual(lines[1], "150 accepted, 1 Unreadable")
+        self.assertEqual(lines[1], "150 accepted, 1 not readable")
         self.assertIn("missing.jpg: Unreadable: the worker has no such file", lines[0])
         paths = sqlite3.connect(self.path("c")).execute("SELECT CAST(path AS TEXT) FROM pictures").fetchall()
         self.assertEqual({os.path.dirname(it) for it, in paths}, {self.path("p")})
         os.remove(self.path("p", "missing.jpg"))
-        self.assertEqual(self.index("p")[-1], "150 unchanged, 1 Vanished")
+        self.assertEqual(self.index("p")[-1], "150 unchanged, 1 gone since an earlier run")
 
     def test_what_is_wrong_is_an_error(self):
         done = run(

@@ -109,7 +109,7 @@ class Hostile(WithPictures):
         self.asked("index", "p", "--catalogue", "c", "--quiet")
         os.remove(self.path("p", "a.jpg"))
         lines = self.asked("index", "p", "--catalogue", "c", "--quiet")
-        self.assertEqual(lines[-1], "1 Vanished")
+        self.assertEqual(lines[-1], "1 gone since an earlier run")
         self.assertEqual(self.asked("index", "p", "--catalogue", "c", "--quiet"), ["no file"])
         kept = sqlite3.connect(self.path("c")).execute("SELECT problem, digest FROM pictures JOIN blocks ON picture = id").fetchone()
         self.assertEqual(kept[0], "Vanished")

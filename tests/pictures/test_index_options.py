@@ -100,6 +100,6 @@ def test_quiet_prints_the_counts_alone(folder, called):
         (folder / "p" / name).write_bytes(octets)
     (folder / "p" / "nothing").symlink_to("nowhere")
     status, out, err = called("index", "p", "--catalogue", "c", "--quiet")
-    assert (out, err) == ("3 accepted, 1 LinkToNothing, 1 refused\n", "")
+    assert (out, err) == ("3 accepted, 1 a link that leads to no file, 1 refused\n", "")
     status, out, _ = called("index", "p", "missing", "--catalogue", "c", "--quiet")
     assert "missing: Unreadable" in out and status == 2

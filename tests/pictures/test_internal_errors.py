@@ -215,7 +215,7 @@ def test_a_picture_at_which_we_fail(command, monkeypatch):
         explained = command("explain", "p/b.png", "--debug", status=2)
     assert [it.rpartition("/p/")[2].partition(":")[0] for it in lines[:-1]] == ["b.png"]
     assert "b.png: InternalError: " in lines[0] and f"TypeError: {FAULT} (exifnorm_pictures/extract/extraction.py, line " in lines[0]
-    assert "1 InternalError" in lines[-1]
+    assert "1 at which exifnorm-pictures itself failed" in lines[-1]
     assert [it.get("problem") for it in found] == ["InternalError", None]
     assert explained.out.startswith("InternalError: ") and "    return None + 1" in explained.err.splitlines()
     assert command("index", "p", "--catalogue", "c", "--quiet", status=0).out.splitlines() == ["1 no block, 1 unchanged"]
@@ -243,5 +243,5 @@ def test_in_processes_of_their_own(tmp_path):
         "def mistake(*_): return None + 1\njpeg.read = mistake\nsys.exit(main.main(sys.argv[1:]))"
     )
     done = run(["python3", "-c", call, "index", "p", "--catalogue", "c", "--quiet", "--jobs", "2", "--debug"], str(tmp_path))
-    assert (done.returncode, done.stdout.splitlines()[-1]) == (2, b"70 InternalError"), done.stderr
+    assert (done.returncode, done.stdout.splitlines()[-1]) == (2, b"70 at which exifnorm-pictures itself failed"), done.stderr
     assert done.stderr.count(b"Traceback") == 70 and b"extraction.py" in done.stderr

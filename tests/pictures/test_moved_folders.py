@@ -26,7 +26,9 @@ def test_a_folder(archive, called):
     (archive / "monday").rename(archive / "tuesday")
     status, printed, _ = called("index", "p", "--catalogue", "c")
     assert (
-        status == 0 and moves(printed) == [f"{archive}/monday: Moved: 4 pictures to {archive}/tuesday"] and "4 Moved, 4 accepted" in printed
+        status == 0
+        and moves(printed) == [f"{archive}/monday: Moved: 4 pictures to {archive}/tuesday"]
+        and "4 accepted, 4 moved since an earlier run" in printed
     )
 
 

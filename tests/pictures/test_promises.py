@@ -131,7 +131,7 @@ class WhatIsCompared(Promises):
         done = run(
             [sys.executable, "-m", "exifnorm_pictures", "index", "p", "--catalogue", "c", "--quiet"], self.folder, PATH=self.path("none")
         )
-        self.assertEqual(done.stdout.splitlines()[-1], b"4 accepted, 1 BigTIFF", done)
+        self.assertEqual(done.stdout.splitlines()[-1], b"4 accepted, 1 BigTIFF that can't be read", done)
         query = "SELECT type, name, octets, digest, source FROM pictures JOIN blocks ON picture = pictures.id WHERE kind = 'exif' ORDER BY path, number"
         found = self.rows("c", query)
         form = run(["exifnorm"], self.folder, A).stdout
@@ -485,7 +485,7 @@ class Pictures(Promises):
         self.printed("show", "@/one/a.jpg", "@/refused/a.jpg", status=2)
         self.printed("show", "@/absent", "@/refused/a.jpg", status=2)
         self.assertEqual(self.index("@/refused", "@/one")[-1], "1 accepted, 1 refused")
-        self.assertEqual(self.index("@/absent", "@/one", catalogue="d", status=2)[-1], "1 Unreadable, 1 accepted")
+        self.assertEqual(self.index("@/absent", "@/one", catalogue="d", status=2)[-1], "1 accepted, 1 not readable")
         self.assertEqual(run(["exifnorm-pictures", "show"], self.folder).returncode, 3)
         for lost, step, status in ((["a value"], "rebuild", 1), ([], "none", 2)):
             with mock.patch.object(mend, "mend", return_value=mend.Mended(step, {}, lost)), contextlib.redirect_stdout(io.StringIO()):

@@ -38,15 +38,20 @@ def test_nights(archive, called):
     """The first run rings; the second one only for what is new; and nothing has changed between them."""
     index = ["index", "p", "--catalogue", "c", "--keep-old", "last"]
     status, printed, _ = called("index", "p", "--catalogue", "c")
-    assert status == 2 and printed.count("exiv2 ended with status 1") == 5 and "5 ToolFailed" in printed
+    assert status == 2 and printed.count("exiv2 ended with status 1") == 5 and "5 at which a program failed" in printed
     status, printed, _ = called(*index)
-    assert status == 0 and "exiv2 ended" not in printed and "5 ToolFailed as before" in printed and "4 unchanged" in printed
+    assert status == 0 and "exiv2 ended" not in printed and "5 at which a program failed as before" in printed and "4 unchanged" in printed
     status, printed, _ = called("changed", "last", "c")
     assert status == 0 and printed.startswith("9 pictures compared: none changed."), printed
     assert "6 the same file" in printed
     shutil.copy(archive / "failing0.jpg", archive / "failing5.jpg")
     status, printed, _ = called(*index)
-    assert status == 2 and printed.count("exiv2 ended") == 1 and "5 ToolFailed as before" in printed and "1 ToolFailed" in printed
+    assert (
+        status == 2
+        and printed.count("exiv2 ended") == 1
+        and "5 at which a program failed as before" in printed
+        and "1 at which a program failed" in printed
+    )
 
 
 def test_nights_on_a_cluster(archive, called, monkeypatch):
@@ -58,13 +63,13 @@ def test_nights_on_a_cluster(archive, called, monkeypatch):
     status, printed, _ = called(*index)
     assert status == 2 and printed.count("exiv2 ended with status 1") == 5
     status, printed, _ = called(*index)
-    assert status == 0 and "exiv2 ended" not in printed and "5 ToolFailed as before" in printed
+    assert status == 0 and "exiv2 ended" not in printed and "5 at which a program failed as before" in printed
     near.outcomes = [ValueError("another Python")]
     status, printed, _ = called(*index)
-    assert status == 0 and "5 ToolFailed as before" in printed
+    assert status == 0 and "5 at which a program failed as before" in printed
     shutil.copy(archive / "failing0.jpg", archive / "failing5.jpg")
     status, printed, _ = called(*index)
-    assert status == 2 and printed.count("exiv2 ended") == 1 and "5 ToolFailed as before" in printed
+    assert status == 2 and printed.count("exiv2 ended") == 1 and "5 at which a program failed as before" in printed
 
 
 def test_one_catalogue_with_itself(archive, called):

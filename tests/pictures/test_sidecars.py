@@ -222,7 +222,7 @@ class TestCatalogue:
         assert called_lines("index", "p", "--catalogue", "c", "--quiet")[1] == ["2 unchanged, 1 accepted"]
         assert self.groups(called_lines) == [["x.jpg", "y.jpg", "z.jpg"]]
         os.remove(self.folder / "p" / "z.jpg")
-        assert called_lines("index", "p", "--catalogue", "c", "--quiet")[1][-1] == "2 unchanged, 1 Vanished, 1 accepted"
+        assert called_lines("index", "p", "--catalogue", "c", "--quiet")[1][-1] == "2 unchanged, 1 accepted, 1 gone since an earlier run"
 
     def test_a_picture_by_its_name(self, called_lines):
         assert called_lines("index", "p/x.jpg", "--catalogue", "c", "--quiet")[1] == ["1 unchanged"]

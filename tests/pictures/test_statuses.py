@@ -132,7 +132,7 @@ def test_a_mistyped_name_for_changed(called, folder, names):
 def test_a_mistyped_folder_makes_no_catalogue(asked, folder):
     asked("index", "q", "r", "--catalogue", "c", "--quiet", status=3)
     assert not (folder / "c").exists()
-    assert asked("index", "q", "p", "--catalogue", "c", "--quiet", status=2)[-1] == "1 Unreadable, 1 accepted"
+    assert asked("index", "q", "p", "--catalogue", "c", "--quiet", status=2)[-1] == "1 accepted, 1 not readable"
     asked("index", "q", "--catalogue", "c", "--quiet", status=3)
 
 

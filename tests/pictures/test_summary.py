@@ -321,3 +321,35 @@ def test_a_removed_block_hides_no_labelled_field(run, folder):
         assert rows(run("changed", "before", "after", "--only", word)[1]) == {"IFD0:Copyright removed": (3, ", 2 of them with all of Exif")}
     assert rows(run("changed", "before", "after", "--only", "IFD0:Make")[1]) == {"IFD0:Make removed": (2, ", with all of Exif")}
     assert rows(run("changed", "after", "before", "--only", "Copyright")[1]) == {'IFD0:Copyright -> "Museum"': (3, ", which had none")}
+
+
+def test_labelled_fields_come_first(folder, run):
+    """However many others there are, and however many pictures those are in. None is folded into its group."""
+    for side, words in (("before", []), ("after", ["-By-line=Anna", "-XMP-dc:Title=Vase", "-Caption-Abstract=Bowl"])):
+        (folder / side).mkdir()
+        for number in range(4):
+            (folder / side / f"{number}.jpg").write_bytes(SMALL_JPEG)
+        others = ("Make", "Model", "Software", "HostComputer", "ExposureTime", "FNumber", "ISO", "Flash", "MeteringMode", "LensModel")
+        more = ("ExposureMode", "Contrast", "Saturation", "Sharpness", "SceneType", "GainControl", "WhiteBalance", "CustomRendered")
+        values = [f"-EXIF:{it}={1 + (side == 'after')}" for it in (*others, *more)]
+        tags = ("City", "Source", "Credit", "Headline", "Urgency", "Writer-Editor", "EditStatus", "Category", "FixtureIdentifier")
+        values += [f"-IPTC:{it}={1 + (side == 'after')}" for it in tags]
+        tool(folder, "exiftool", "-q", "-m", "-n", "-overwrite_original", *values, side)
+        if words:
+            tool(folder, "exiftool", "-q", "-overwrite_original", *words, f"{side}/0.jpg")
+    _, lines = run("changed", "before", "after", "--no-exiftool")
+    names = [re.match(r"  [\w-]+:[\w-]+", it) for it in lines[2 : lines.index("", 2)]]
+    labelled = {"IPTC:By-line", "IPTC:Caption-Abstract", "XMP-dc:title", "IPTC:City", "IPTC:Source", "IPTC:Credit", "IPTC:Headline"}
+    assert {it and it[0].strip() for it in names[: len(labelled)]} == labelled, lines
+
+
+TITLE, COPYRIGHT = field("xmp", "dc:title", "text", 1, '"a"'), field("main", "8298", "ASCII", 2, '"a"')
+
+
+def test_labelled_fields_are_counted_beyond_the_limit():
+    """Of a hostile picture with thousands of fields, too."""
+    found = summary.Summary()
+    changes = [it for number in range(2000) for it in differences([], [TITLE._replace(key=f"x:f{number}")])]
+    found.add(Compared(b"p", "different", changes=[*changes, *differences([COPYRIGHT], [])]))
+    names = [it.name for it in found.fields()]
+    assert names[0] == "IFD0:Copyright" and len(names) <= summary.FIELDS + 100

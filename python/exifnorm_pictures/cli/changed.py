@@ -7,6 +7,7 @@ import contextlib
 import itertools
 import json
 import os
+import shutil
 import sys
 import tempfile
 from collections import Counter
@@ -103,7 +104,8 @@ def _print_summary(found: Found, counts: "Counter[str]", choice: Choice, notes: 
     counted = Summary(choice)
     for it in found:
         counted.add(it)
-    for text in lines(counted, counts, [*notes.of_pictures(), *lines_of_choice(choice, True)]):
+    screen = shutil.get_terminal_size().columns if sys.stdout.isatty() else None
+    for text in lines(counted, counts, [*notes.of_pictures(), *lines_of_choice(choice, True)], screen):
         print_line(text)
 
 

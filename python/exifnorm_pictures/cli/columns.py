@@ -2,6 +2,7 @@
 
 from __future__ import annotations
 
+import re
 import unicodedata
 from typing import Iterator, List, Sequence
 
@@ -65,6 +66,30 @@ def wrapped(text: str, wanted: int) -> List[str]:
             lines.append(line[:at])
             line = line[at:]
     return [*lines, line]
+
+
+_BREAK = re.compile(r"(?<! ) (?! )")  # single blanks: more than one align a table
+
+
+def folded(text: str, screen: int) -> List[str]:
+    """A line in lines of so many columns, broken between words. A name at the beginning, which ends with a colon, and a command stay whole, so
+    that they can be copied.
+
+    >>> folded("a b.jpg: Exif: refused at 442", 18), folded("1 group: exifnorm-pictures same --catalogue C", 30)
+    (['a b.jpg: Exif:', '    refused at 442'], ['1 group:', '    exifnorm-pictures same --catalogue C'])
+    """
+    if width(text) <= screen:
+        return [text]
+    body, command, more = text.partition("exifnorm-pictures ")
+    head, colon, rest = body.partition(": ")
+    words = [head + ":", *_BREAK.split(rest)] if colon and width(head) < screen else _BREAK.split(body)
+    lines = [words[0]]
+    for word in [*filter(None, words[1:]), *[command + more] * bool(command)]:
+        if width(lines[-1]) + 1 + width(word) <= screen:
+            lines[-1] += " " + word
+        else:
+            lines.append("    " + word)
+    return lines
 
 
 def _fitting(text: str, wanted: int) -> int:

@@ -65,7 +65,7 @@ def run(arguments: argparse.Namespace) -> int:
         print_object("conflicts", "summary", _summary_members(counts))
     elif not table:
         for line in _summary(counts, arguments.all):
-            print(line)
+            print_line(line)
     return UNKNOWN if counts.unread else DIFFERENCE if counts.real else SUCCESS
 
 

@@ -3,13 +3,15 @@
 from __future__ import annotations
 
 import argparse
+import os
+import shlex
 from typing import Callable, Iterator, List, Tuple
 
 from ..extract.named import blocks_of
 from ..judge.reading import Reading
 from ..model.found import FoundBlock, each_kind
 from ..model.records import WORDS, Block
-from ..model.texts import Members, path_members, shown_path
+from ..model.texts import Members, escaped, path_members, shown_path
 from ..model.verdicts import ACCEPTED
 from .exit_codes import SUCCESS, UNKNOWN
 from .names import each_name, is_list
@@ -43,7 +45,8 @@ def each_block(arguments: argparse.Namespace, describe: Describe, refused_too: b
 def _print(arguments: argparse.Namespace, it: Reading, head: List[str], describe: Describe, refused_too: bool) -> None:
     names, read = path_members(it.name), it.read
     if read.problem:
-        output(arguments, [*head, f"{read.problem}: {read.detail}"], {**names, "problem": read.problem, "detail": read.detail})
+        line = _of_folder(arguments.command, it.name) if os.path.isdir(it.name) else f"{read.problem}: {read.detail}"
+        output(arguments, [*head, line], {**names, "problem": read.problem, "detail": read.detail})
         return
     data = {one.name: one for one in read.found}
     for block in it.blocks:
@@ -57,6 +60,12 @@ def _print(arguments: argparse.Namespace, it: Reading, head: List[str], describe
     if read.not_read:
         what = [one.what for one in read.not_read]
         output(arguments, [f"not wholly read: {', '.join(each_kind(what))}"], {**names, "not_read": what})
+
+
+def _of_folder(command: str, name: bytes) -> str:
+    """What to do with a folder where pictures are expected."""
+    files = escaped(os.path.join(shlex.quote(os.fsdecode(name)), "*"))
+    return f"a folder: {command} takes pictures, such as {files}; captions, conflicts and index take folders"
 
 
 def _refused(it: Block) -> Described:

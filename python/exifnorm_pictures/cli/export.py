@@ -15,6 +15,7 @@ from ..export.rows import Export
 from ..export.tables import VERSION, Tables, head_is_ours, tables
 from ..files import atomic
 from ..files.session import current
+from ..model.errors import WrongUse
 from ..model.texts import path_members, shown_path
 from .exit_codes import SUCCESS
 from .names import chosen_paths, say_unknown
@@ -24,6 +25,7 @@ from .output import print_line
 
 def run(arguments: argparse.Namespace) -> int:
     """Writes a catalogue as plain tables of SQLite."""
+    _refuse_table(arguments.file)
     chosen = chosen_paths(arguments)
     with Catalogue(arguments.catalogue) as catalogue:
         made = os.path.join(current().room, "export")
@@ -47,6 +49,18 @@ def run(arguments: argparse.Namespace) -> int:
             which = "group is left out, because its" if work.fewest.absent == 1 else "groups are left out, because their"
             print_line(f"{work.fewest.absent:,} {which} files are gone or have changed since they were indexed")
     return SUCCESS
+
+
+class NoTable(WrongUse):
+    """The name is one of a table, and what is written is a database."""
+
+
+def _refuse_table(name: str) -> None:
+    """Raises `NoTable` for the name of a file that a program for spreadsheets would open."""
+    ending = os.path.splitext(name)[1].lower()
+    if ending in (".csv", ".tsv", ".xls", ".xlsx", ".ods", ".json"):
+        tables_ = "captions, changed, conflicts and same print tables with --csv, and write them with --xlsx"
+        raise NoTable(f"{shown_path(name)}: export writes a database of SQLite, whose name doesn't end with {ending}; {tables_}")
 
 
 def _add_about(written: Tables, catalogue: Catalogue) -> None:

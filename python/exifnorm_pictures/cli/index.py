@@ -13,6 +13,8 @@ from ..catalogue.store import Catalogue, NoCatalogue, head_is_ours
 from ..files import atomic, signals
 from ..files.session import current
 from ..model.errors import WrongUse
+from ..model.found import STATE_WORDS
+from ..model.records import AS_BEFORE
 from ..model.texts import escaped, moved_line, shown_path
 from ..scan.excluded import Excluded
 from ..scan.index import IndexOptions, index
@@ -80,8 +82,7 @@ def run(arguments: argparse.Namespace) -> int:
     if arguments.json:
         objects.print_object("index", "summary", {"counts": dict(counts)})
     else:
-        summary = ", ".join(f"{count} {state}" for state, count in sorted(counts.items(), key=lambda it: (-it[1], it[0]))) or "no file"
-        for line in [*parts, summary, *steps]:
+        for line in [*parts, _counted(counts), *steps]:
             print_line(line)
     if any(counts[it] for it in NOT_READABLE) or any(os.path.exists(it) and not _may_be_read(it) for it in names):
         return UNKNOWN
@@ -95,6 +96,13 @@ def _are_known(names: Sequence[bytes], catalogue: str) -> bool:
     with Catalogue(catalogue) as known:
         paths = [os.path.abspath(name) for name in names]
         return any(known.has(path) or any(True for _ in known.below(path)) for path in paths)
+
+
+def _counted(counts: "Counter[str]") -> str:
+    """The states in words, those of the most pictures first."""
+    words = {it: STATE_WORDS.get(it.removesuffix(AS_BEFORE), it.removesuffix(AS_BEFORE)) for it in counts}
+    ordered = sorted(counts, key=lambda it: (-counts[it], words[it], it))
+    return ", ".join(f"{counts[it]:,} {words[it]}{AS_BEFORE * it.endswith(AS_BEFORE)}" for it in ordered) or "no file"
 
 
 def _may_be_read(name: bytes) -> bool:

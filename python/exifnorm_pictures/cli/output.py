@@ -4,6 +4,8 @@ from __future__ import annotations
 
 import json
 import re
+import shutil
+import sys
 from typing import TYPE_CHECKING, List, Sequence
 
 from ..model.found import damage
@@ -11,14 +13,19 @@ from ..model.records import WORDS, Block, Picture
 from ..model.steps import loses, words
 from ..model.texts import Members, safe, shown_path
 from ..model.verdicts import ACCEPTED
+from .columns import NARROWEST, folded
 
 if TYPE_CHECKING:
     import argparse
 
 
 def print_line(text: str) -> None:
-    """Prints a line, without the control characters that a name or a picture may contain."""
-    print(safe(text))
+    """Prints a line, without the control characters that a name or a picture may contain. On a terminal a long one is folded between words."""
+    line = safe(text)
+    if len(line) > NARROWEST and sys.stdout.isatty():
+        print(*folded(line, shutil.get_terminal_size().columns), sep="\n")
+    else:
+        print(line)
 
 
 def output(arguments: argparse.Namespace, lines: Sequence[str], members: Members) -> None:

@@ -89,12 +89,14 @@ class _Version(argparse.Action):
 
 
 def parsed(words: Optional[Sequence[str]] = None) -> argparse.Namespace:
-    """The arguments of a command line. Wrong ones end the process, after the usage of their command.
+    """The arguments of a command line; `help COMMAND` is `COMMAND --help`. Wrong ones end the process, after the usage of their command.
 
     >>> parsed(["show", "a.jpg", "--json", "b.jpg"]).pictures
     ['a.jpg', 'b.jpg']
     """
     given = list(sys.argv[1:] if words is None else words)
+    if given[:1] == ["help"]:
+        given = [*given[1:2], "--help"]
     whole, commands = parsers()
     for word in itertools.takewhile(lambda word: word != "--", given):
         if word.startswith("--") and word.endswith("=--"):  # of which argparse makes an empty list

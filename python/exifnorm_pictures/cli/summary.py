@@ -3,20 +3,21 @@
 from __future__ import annotations
 
 from collections import Counter
-from typing import Iterator, List, NamedTuple, Sequence
+from itertools import zip_longest
+from typing import Iterator, List, NamedTuple, Optional, Sequence
 
 from ..comparison import changed
 from ..comparison.summary import FIELDS, FieldCount, PartCount, Summary
 from ..comparison.wording import cut
 from ..model.texts import shown_path
 from ..model.verdicts import SAME
-from .columns import width
+from .columns import NARROWEST, width, wrapped
 
 LINES = 30  # of the page
+WIDEST = 84  # columns in front of the numbers, if they are aligned and this is no terminal
 LEAST = 6  # lines for fields, and for blocks, however many results there are
 SHOWN_VALUES = 3  # values of a field that have a line each
 GROUPS = 4  # groups whose further fields have a line each
-WIDEST = 84  # columns in front of the numbers, if they are aligned
 LONGEST_NAMES = 100  # characters of the names of pictures in a line
 
 
@@ -26,25 +27,55 @@ class Line(NamedTuple):
     text: str
     pictures: int
     note: str = ""
+    is_labelled: bool = False
+
+    @property
+    def number(self) -> str:
+        """The number of pictures in words."""
+        return _pictures(self.pictures) + self.note
 
 
-def lines(found: Summary, counts: "Counter[str]", notes: Sequence[str] = ()) -> Iterator[str]:
-    """The page, with some notes after the results."""
+def lines(found: Summary, counts: "Counter[str]", notes: Sequence[str] = (), screen: Optional[int] = None) -> Iterator[str]:
+    """The page, with some notes after the results. Fields with a label of `captions` come first. `screen` has the columns of a terminal."""
     results = [*_results(found, counts), *notes]
     has_rest = any(counts[it] for it in counts if it not in changed.UNCHANGED)
-    rows = _parts(found)
-    equal = _equal_numbers(found)
-    rows += _fields(found, max(LEAST, LINES - len(results) - len(equal) - len(rows) - 6))
-    rows += equal
+    parts, equal = _parts(found), _equal_numbers(found)
+    fields = _fields(found, max(LEAST, LINES - len(results) - len(equal) - len(parts) - 6), screen)
+    rows = [*(it for it in fields if it.is_labelled), *parts, *(it for it in fields if not it.is_labelled), *equal]
     more = ["  Further fields aren't counted."] * found.has_more
     yield _head(counts)
     if rows:
         yield ""
-        column = min(WIDEST, max(width(it.text) for it in rows))
-        yield from (f"  {it.text}{' ' * max(0, column - width(it.text))}  {_pictures(it.pictures)}{it.note}" for it in rows)
+        yield from _table(rows, screen)
     yield from more
     yield from ["", *results] if results else []
     yield from ["", "--each lists each picture with its fields."] if has_rest else []
+
+
+def _table(rows: Sequence[Line], screen: Optional[int]) -> Iterator[str]:
+    """The texts, and beside them the numbers of pictures; on a terminal both in columns of their own."""
+    if screen is None:
+        column = min(WIDEST, max(width(it.text) for it in rows))
+        yield from (f"  {it.text}{' ' * max(0, column - width(it.text))}  {it.number}" for it in rows)
+        return
+    second = min(_widest_count(screen), max(width(it.number) for it in rows))
+    first = min(max(width(it.text) for it in rows), max(NARROWEST, screen - second - 4))
+    for it in rows:
+        for text, number in zip_longest(wrapped(it.text, first), wrapped(it.number, second), fillvalue=""):
+            yield f"  {text}{' ' * (first - width(text))}  {number}".rstrip()
+
+
+def _widest_count(screen: int) -> int:
+    return screen * 2 // 5
+
+
+def _height(rows: Sequence[Line], screen: Optional[int]) -> int:
+    """How many lines some entries take at most."""
+    if screen is None:
+        return len(rows)
+    second = _widest_count(screen)
+    first = max(NARROWEST, screen - second - 4)
+    return sum(max(len(wrapped(it.text, first)), len(wrapped(it.number, second))) for it in rows)
 
 
 def _head(counts: "Counter[str]") -> str:
@@ -82,14 +113,14 @@ def _at_most(count: int) -> str:
     return " at most each" if count > 1 else " each"
 
 
-def _fields(found: Summary, room: int) -> List[Line]:
+def _fields(found: Summary, room: int, screen: Optional[int]) -> List[Line]:
     """The lines of the fields; of those for which there is no room, a line for each group."""
     every = found.fields()
     rows: List[Line] = []
     for at, it in enumerate(every):
-        mine, left = _field(it), every[at:]
-        if len(rows) + len(mine) + min(GROUPS + 1, len({_group(one) for one in left[1:]})) > room:
-            return rows + _further(left)
+        mine = _field(it)
+        if _height([*rows, *mine, *_further(every[at + 1 :])], screen) > room:
+            return rows + _further(every[at:])
         rows += mine
     return rows
 
@@ -108,7 +139,8 @@ def _field(it: FieldCount) -> List[Line]:
         many = f"more than {len(it.values)}" if it.uncounted else f"{len(it.values)}"
         example = f"{cut(first.before, 30)}{' ' * bool(first.before)}{cut(first.text.strip(' :'), 34)}"
         rows.append(Line(f"{it.name}: {many} different values ({example} ..)", it.has_value, _had_none(it.came, it.has_value)))
-    return rows + [Line(f"{it.name} removed", it.went, _with_parts(it))] * bool(it.went)
+    rows += [Line(f"{it.name} removed", it.went, _with_parts(it))] * bool(it.went)
+    return [row._replace(is_labelled=it.is_labelled) for row in rows]
 
 
 def _with_parts(it: FieldCount) -> str:

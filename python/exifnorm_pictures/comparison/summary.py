@@ -2,9 +2,10 @@
 
 from __future__ import annotations
 
+import functools
 from collections import Counter
 from dataclasses import dataclass, field
-from typing import Dict, List, Sequence, Set, Tuple
+from typing import Dict, FrozenSet, List, Sequence, Set, Tuple
 
 from ..fields.choosing import EVERYTHING, Choice
 from ..fields.listing import Field, exact
@@ -13,7 +14,7 @@ from .differing import NUMBERS, Difference
 from .wording import What, cut, what
 
 VALUES = 50  # values of a field that are counted one by one
-FIELDS = 1000  # fields that are counted one by one
+FIELDS = 1000  # fields that are counted one by one, besides those with a label of `captions`
 PARTS = 200  # blocks and directories that are counted one by one
 NAMES = 3  # pictures of a result that are named
 FEW = 6  # fields of a block that came, which are counted like others
@@ -47,6 +48,11 @@ class FieldCount:
     def has_value(self) -> int:
         """In how many pictures it has a new value."""
         return self.came + self.changed
+
+    @property
+    def is_labelled(self) -> bool:
+        """Whether it has a label of `captions`."""
+        return _is_labelled(self.name)
 
     @property
     def most(self) -> int:
@@ -146,29 +152,35 @@ class Summary:
 
     def _add_field(self, counted: Dict[str, FieldCount], it: Difference) -> None:
         name = cut(it.name, LONGEST_NAME)
-        if name not in counted and self._count == FIELDS:
+        if name not in counted and self._count >= FIELDS and not _is_labelled(name):
             self.has_more = True
             return
         self._count += name not in counted
         counted.setdefault(name, FieldCount(name)).add(it)
 
     def fields(self) -> List[FieldCount]:
-        """The fields that changed, those of the most pictures first. A block that came is counted by itself; of its fields only those are here
-        that are few, or that have one value in all pictures, as after a batch that writes the same into each."""
+        """The fields that changed: first those with a label of `captions`, then those of the most pictures. A block that came is counted by itself;
+        of its other fields only those are here that are few, or that have one value in all pictures, as after a batch that writes the same into
+        each."""
         found = dict(self._fields)
         for part in self.parts.values():
             for it in part.fields.values():
                 is_batch = part.pictures > 1 and it.came == part.pictures and len(it.values) == 1
                 if len(part.names) <= FEW or is_batch:
                     found[it.name] = found[it.name].joined(it) if it.name in found else it
-        return sorted(found.values(), key=lambda it: (-it.most, it.name))
+        return sorted(found.values(), key=lambda it: (not it.is_labelled, -it.most, it.name))
+
+
+@functools.lru_cache(maxsize=1)
+def _labelled() -> FrozenSet[str]:
+    """The names of the fields with a label of `captions`."""
+    from ..fields.labels import fields_by_label  # which loads the library
+
+    return frozenset(name for fields in fields_by_label().values() for name in fields)
 
 
 def _is_labelled(name: str) -> bool:
-    """Whether a field has a label of `captions`."""
-    from ..fields.labels import fields_by_label  # which loads the library
-
-    return any(name in fields for fields in fields_by_label().values())
+    return name in _labelled()
 
 
 def _number(it: Field) -> str:

@@ -34,6 +34,24 @@ PROBLEMS = {
     "InternalError": "exifnorm-pictures itself failed on this file; please report it",
 }
 
+# The states of pictures as counts have them: "5 at which a program failed"
+STATE_WORDS = {
+    "NoPicture": "no picture",
+    "Unreadable": "not readable",
+    "Vanished": "gone since an earlier run",
+    "Moved": "moved since an earlier run",
+    "LinkToNothing": "a link that leads to no file",
+    "NotAFile": "a pipe, a socket or a device",
+    "SeveralBlocks": "damaged CR3, or a film of Canon",
+    "BigTIFF": "BigTIFF that can't be read",
+    "NeedsExiv2": "raw, and exiv2 is not installed",
+    "NeedsExifTool": "of another format, and ExifTool is not installed",
+    "TooMuch": "over a limit",
+    "TooSlow": "at which a program took too long",
+    "ToolFailed": "at which a program failed",
+    "InternalError": "at which exifnorm-pictures itself failed",
+}
+
 REST = "the rest of a damaged file"  # how a part begins that has such a file from its fault on
 BROKEN = "broken: "  # how the reason begins for which a damaged file was left to ExifTool
 UNREAD_TRAILER = "blocks of the trailer, for which ExifTool is needed"  # a part that is read once ExifTool is there

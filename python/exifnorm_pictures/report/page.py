@@ -14,7 +14,7 @@ from ..comparison.conflicts import Conflict
 from ..comparison.readings import of_unknown
 from ..fields.labels import STANDARDS
 from ..model import verdicts
-from ..model.found import PROBLEMS
+from ..model.found import PROBLEMS, STATE_WORDS
 from ..model.texts import escaped, safe, shown_path
 from ..refusals.causes import CAUSES, words_of
 from .contents import (
@@ -34,24 +34,11 @@ from .thumbnails import small_pictures
 
 MOST_OPEN, MOST_FIELDS = 8, 40  # changes that are shown unfolded, and fields of a change
 
-STATE_WORDS = {
+WORDS = {
+    **STATE_WORDS,
     "accepted": "accepted: all blocks were read",
     "refused": "with a block that is refused or unreadable",
     "no block": "without an Exif, IPTC or XMP block",
-    "NoPicture": "no picture",
-    "Unreadable": "not readable",
-    "Vanished": "gone since an earlier run",
-    "Moved": "moved since an earlier run",
-    "LinkToNothing": "a link that leads to no file",
-    "NotAFile": "a pipe, a socket or a device",
-    "SeveralBlocks": "damaged CR3, or a film of Canon",
-    "BigTIFF": "BigTIFF that can't be read",
-    "NeedsExiv2": "raw, and exiv2 is not installed",
-    "NeedsExifTool": "of another format, and ExifTool is not installed",
-    "TooMuch": "that go over a limit",
-    "TooSlow": "at which a program took too long",
-    "ToolFailed": "at which a program failed",
-    "InternalError": "at which exifnorm-pictures itself failed",
 }
 
 
@@ -95,7 +82,7 @@ _TONES = {"accepted": "good", "refused": "bad", "no block": "plain", "NoPicture"
 
 def _overview(found: Gathered) -> str:
     cards = "".join(
-        f'<li class="{_TONES.get(state, "odd")}"><b>{count:,}</b> {_text(STATE_WORDS.get(state, state))}</li>'
+        f'<li class="{_TONES.get(state, "odd")}"><b>{count:,}</b> {_text(WORDS.get(state, state))}</li>'
         for state, count in found.states.most_common()
     )
     number, same = found.all_groups
@@ -113,7 +100,7 @@ def _share(found: Gathered) -> str:
     at, parts = 0.0, []
     for state, count in found.states.most_common():
         width = 1000 * count / max(found.total, 1)
-        words = f"{count:,} {STATE_WORDS.get(state, state)}"
+        words = f"{count:,} {WORDS.get(state, state)}"
         tone = _TONES.get(state, "odd")
         parts.append(f'<rect class="{tone}" x="{at:.1f}" width="{width:.1f}" height="22"><title>{_text(words)}</title></rect>')
         at += width

@@ -1,0 +1,93 @@
+"""Lines on a terminal: none is wider than the screen."""
+
+import fcntl
+import os
+import pty
+import shutil
+import struct
+import subprocess
+import termios
+
+import pytest
+from studio import TOP, Studio, needs, run, write
+
+from exifnorm_pictures.cli.columns import folded, width
+
+COMMANDS = (
+    "index p --catalogue new --quiet",
+    "index p --catalogue other",
+    "index --again p --catalogue c",
+    "same --catalogue c",
+    "same --catalogue c --kind pixels",
+    "same --catalogue c --ignore title",
+    "changed p q",
+    "changed p q --each",
+    "changed p q --pixels --only creator",
+    "changed p q --ignore GPS --all",
+    "compare p/ceramics/1998-7-vase.jpg q/ceramics/1998-7-vase.jpg",
+    "compare p/ceramics/2003-12-bowl.jpg q/ceramics/2003-12-bowl.jpg",
+    "show p",
+    "show p/ceramics/2003-12-bowl.jpg",
+    "captions p",
+    "conflicts p --all",
+    "conflicts p --ignore title",
+    "explain p",
+    "explain p/arrivals/IMG_20240502.jpg",
+    "export c c.sqlite",
+    "verify --catalogue c",
+    "mend p/arrivals/IMG_20240502.jpg mended.jpg",
+)
+
+
+def on_terminal(words, folder, columns):
+    """What a command prints on a terminal of so many columns."""
+    mine, its = pty.openpty()
+    fcntl.ioctl(its, termios.TIOCSWINSZ, struct.pack("HHHH", 24, columns, 0, 0))
+    environment = {name: value for name, value in Studio.environment().items() if name != "COLUMNS"}
+    program = shutil.which(words[0], path=environment["PATH"])
+    with subprocess.Popen(
+        [program, *words[1:]], cwd=folder, env=environment, stdin=subprocess.DEVNULL, stdout=its, stderr=subprocess.PIPE
+    ) as process:
+        os.close(its)
+        printed = b""
+        while True:
+            try:
+                octets = os.read(mine, 1 << 16)
+            except OSError:  # the process has ended
+                break
+            printed += octets
+        os.close(mine)
+        assert process.stderr is not None
+        messages = process.stderr.read().decode()
+    assert "internal error" not in messages and "Traceback" not in messages, messages
+    return printed.decode().replace("\r\n", "\n").splitlines()
+
+
+@pytest.fixture(scope="module")
+def samples(tmp_path_factory):
+    """A catalogue of the samples, and what was edited in them."""
+    folder = tmp_path_factory.mktemp("terminal")
+    for name, side in (("p", "before"), ("q", "after")):
+        shutil.copytree(os.path.join(TOP, "samples", side), folder / name)
+    vase = (folder / "p" / "ceramics" / "1998-7-vase.jpg").read_bytes()
+    write(str(folder / "q" / "ceramics" / "1998-7-vase.jpg"), vase[:-300])
+    run(["exifnorm-pictures", "index", "p", "--catalogue", "c", "--pixels", "--quiet"], str(folder))
+    return folder
+
+
+@needs("exiftool")
+@pytest.mark.parametrize("columns", (80, 60))
+@pytest.mark.parametrize("words", COMMANDS)
+def test_no_line_is_wider_than_the_screen(samples, tmp_path, words, columns):
+    """Each command on the samples. A name and a command to copy stay whole."""
+    shutil.copytree(samples, tmp_path / "s")
+    lines = on_terminal(["exifnorm-pictures", *words.split()], tmp_path / "s", columns)
+    names = ("exifnorm-pictures ", str(tmp_path), str(samples))
+    wide = [it for it in lines if width(it) > columns and " " in it.strip() and not any(name in it for name in names)]
+    assert lines and not wide, "\n".join(wide)
+
+
+def test_a_folded_line_has_the_same_words():
+    for text in ("a " * 90, "x" * 200, "b" * 90 + ": " + "c d " * 30, "one two three: exifnorm-pictures same --catalogue " + "e" * 90):
+        for columns in (20, 80):
+            assert " ".join(folded(text, columns)).split() == text.split(), text
