@@ -229,8 +229,8 @@ def test_the_state_of_a_picture_has_the_cause(command, monkeypatch, error, probl
         raise error
 
     monkeypatch.setattr(extraction, "blocks_of", fails)
-    lines = command("index", "p", "--catalogue", "c", "--quiet", status=2).out.splitlines()
-    assert lines[-1] == f"2 {problem}"
+    line = command("index", "p", "--catalogue", "c", "--quiet", "--json", status=2).out.splitlines()[-1]
+    assert json.loads(line)["counts"] == {problem: 2}
 
 
 def test_in_processes_of_their_own(tmp_path):

@@ -375,19 +375,20 @@ class Mended(WithPictures):
     def test_statuses(self):
         """Those of `mend --help`; the greatest counts."""
         ends = {
-            "copy": (mend.Mended("copy", {}), 0),
-            "touch": (mend.Mended("touch", {}), 0),
-            "lost": (mend.Mended("rebuild", {}, ["a"]), 1),
+            "copy": (mend.Mended("copy", {}, is_written=True), 0),
+            "touch": (mend.Mended("touch", {}, is_written=True), 0),
+            "lost": (mend.Mended("rebuild", {}, ["a"], is_written=True), 1),
+            "lossless": (mend.Mended("rebuild", {}, ["a"]), 2),
             "none": (mend.Mended("none", {}), 2),
             "problem": (mend.Mended("none", {}, problem="NoPicture"), 2),
         }
-        asked = argparse.Namespace(json=False, files_from=None)
+        asked = argparse.Namespace(json=False, files_from=None, catalogue=None, lossless=False)
         for name, (found, status) in ends.items():
             with mock.patch.object(mend, "mend", lambda *_, found=found: found), contextlib.redirect_stdout(io.StringIO()):
-                self.assertEqual(mend_cli._mend_one(asked, b"a", b"b"), status, name)
+                self.assertEqual(mend_cli._mend_one(asked, b"a", b"b")[0], status, name)
         for why, status in ((mend.NotWritten("no"), 4), (programs.Failed("no"), 2)):
             with mock.patch.object(mend, "mend", mock.Mock(side_effect=why)), contextlib.redirect_stdout(io.StringIO()):
-                self.assertEqual(mend_cli._mend_one(asked, b"a", b"b"), status, why)
+                self.assertEqual(mend_cli._mend_one(asked, b"a", b"b")[0], status, why)
 
     def test_a_link_in_the_way(self):
         """Also one that leads nowhere is a file that is there."""

@@ -399,7 +399,7 @@ class Explained(WithPictures):
     def test_of_a_picture(self):
         write(self.path("a.jpg"), jpeg(app1(A), app1_xmp(b"<x")))
         lines = self.asked("explain", "a.jpg", status=2)
-        self.assertEqual([*lines[:2], lines[3]], ["XMP: unreadable: NotWellFormed", "  The packet is not well-formed XML.", "Exif: ok"])
+        self.assertEqual([*lines[:2], lines[4]], ["XMP: unreadable: NotWellFormed", "  The packet is not well-formed XML.", "Exif: ok"])
         found = json.loads(self.asked("explain", "--json", "a.jpg", status=2)[0])
         self.assertEqual((found["kind"], found["sentence"]), ("xmp", "The packet is not well-formed XML."))
 

@@ -488,8 +488,11 @@ class Pictures(Promises):
         self.assertEqual(self.index("@/absent", "@/one", catalogue="d", status=2)[-1], "1 accepted, 1 not readable")
         self.assertEqual(run(["exifnorm-pictures", "show"], self.folder).returncode, 3)
         for lost, step, status in ((["a value"], "rebuild", 1), ([], "none", 2)):
-            with mock.patch.object(mend, "mend", return_value=mend.Mended(step, {}, lost)), contextlib.redirect_stdout(io.StringIO()):
-                self.assertEqual(mend_cli._mend_one(argparse.Namespace(json=False, files_from=None), b"a", b"b"), status)
+            with mock.patch.object(
+                mend, "mend", return_value=mend.Mended(step, {}, lost, is_written=bool(lost))
+            ), contextlib.redirect_stdout(io.StringIO()):
+                asked = argparse.Namespace(json=False, files_from=None, catalogue=None, lossless=False)
+                self.assertEqual(mend_cli._mend_one(asked, b"a", b"b")[0], status)
 
     @needs("exiftool")
     def test_no_picture_is_modified(self):

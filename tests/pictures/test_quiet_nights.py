@@ -84,7 +84,7 @@ def test_the_report_counts_what_changed_counts(archive, called):
     put(archive.parent / "q", {"a.jpg": jpeg(app1(exif(b"xyz")))})
     called("index", "q", "--catalogue", "d", "--quiet")
     status, printed, _ = called("changed", "c", "d")
-    assert status == 2 and "9 pictures compared: 1 changed." in printed
+    assert status == 2 and "9 pictures compared: 1 changed, 6 not wholly compared." in printed
     assert called("report", "--catalogue", "d", "--since", "c", "--html", "page.html")[0] == 0
     assert "<b>1</b> changed since the older catalogue" in (archive.parent / "page.html").read_text(encoding="utf-8")
 

@@ -366,3 +366,40 @@ def test_shown_fields_of_a_refused_block(folder, capsys, monkeypatch):
     assert main._run(["show", "a.jpg"]) == 2
     printed = capsys.readouterr().out
     assert "entries sorted" in printed and "Model 7" in printed and "tested, and not proved" in printed
+
+
+def _with(octets, at, value):
+    return octets[:at] + value + octets[at + len(value) :]
+
+
+POINTERS = {"ExifIFD": 70, "GPS": 82}  # where the entries that lead to these directories of `camera` begin
+LOSING = {
+    "outside": lambda block, at: _with(block, at + 8, b"\xf0\0\0\0"),
+    "two elements": lambda block, at: _with(block, at + 4, b"\0\0\0\2"),
+    "too many entries": lambda block, at: _with(block, {70: 140, 82: 220}[at], b"\xf0\0"),
+    "a text": lambda block, at: _with(block, at + 2, b"\0\2"),
+}
+
+
+@pytest.mark.parametrize("group", POINTERS)
+@pytest.mark.parametrize("fault", LOSING)
+@pytest.mark.parametrize("refused_first", (True, False))
+def test_what_a_repair_lost_is_neither_added_nor_removed(folder, capsys, monkeypatch, group, fault, refused_first):
+    """An edit beside it is named, and nothing is called unchanged."""
+    monkeypatch.chdir(folder)
+    broken, whole = LOSING[fault](camera(), POINTERS[group]), camera().replace(b"Model 7", b"Model 8")
+    made = repairs.repaired(broken)
+    assert made and steps.lost_fields(made.steps), made
+    for name, octets in zip(("a.jpg", "b.jpg") if refused_first else ("b.jpg", "a.jpg"), (broken, whole)):
+        (folder / name).write_bytes(jpeg(app1(octets)))
+        os.makedirs(name[0])
+        (folder / name[0] / "p.jpg").write_bytes(jpeg(app1(octets)))
+    assert main._run(["compare", "a.jpg", "b.jpg", "--json", "--no-exiftool"]) == 2
+    found = json.loads(capsys.readouterr().out.splitlines()[0])
+    assert not [it["name"] for it in found["fields"] if not it["before"] or not it["after"]], found["fields"]
+    if fault != "too many entries":  # these spoil other directories
+        assert [it["name"] for it in found["fields"]] == ["IFD0:Model"], found["fields"]
+        assert re.search(rf"\d+ fields of {group} that one picture has: the repair of the other one may have lost them", found["note"])
+    assert main._run(["changed", "a", "b", "--no-exiftool"]) == 2
+    printed = capsys.readouterr().out
+    assert printed.startswith("1 picture compared: 1 not wholly compared.") and "added" not in printed and "removed" not in printed

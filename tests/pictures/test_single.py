@@ -152,7 +152,7 @@ class Copies(WithPictures):
 
     def test_what_is_written(self):
         """The copy has the mode and times of the picture, which stays as it is; nothing else stays."""
-        self.assertEqual(self.mended(), mend.Mended("touch", self.BAD))
+        self.assertEqual(self.mended(), mend.Mended("touch", self.BAD, is_written=True))
         self.assertEqual((read(self.path("out.jpg")), read(self.path("a.jpg"))), (b"a picture+", b"a picture"))
         now = os.stat(self.path("out.jpg"))
         self.assertEqual((stat.S_IMODE(now.st_mode), now.st_mtime, now.st_atime), (0o640, 20, READ))
@@ -160,7 +160,7 @@ class Copies(WithPictures):
         self.assertEqual(self.used, ["a.jpg", "touch.jpg"])
 
     def test_a_plain_copy(self):
-        self.assertEqual(self.mended(refusals=[{}]), mend.Mended("copy", {}))
+        self.assertEqual(self.mended(refusals=[{}]), mend.Mended("copy", {}, is_written=True))
         now = os.stat(self.path("out.jpg"))
         self.assertEqual((read(self.path("out.jpg")), stat.S_IMODE(now.st_mode), now.st_mtime), (b"a picture", 0o640, 20))
 
@@ -256,13 +256,15 @@ class Lines(WithPictures):
                 {"step": "none", "before": one, "lost": [], "gained": []},
             ),
         ):
+            found.is_written = found.step != "none"
             self.assertEqual(mend_cli._mended_lines(b"a\n", found), lines)
-            self.assertEqual(mend_cli._mended_members(b"a\n", found), {"path": "a\n", "repairs": [], "damage": [], **members})
+            known = {"path": "a\n", "repairs": [], "damage": [], "written": found.is_written}
+            self.assertEqual(mend_cli._mended_members(b"a\n", found), {**known, **members})
 
     def printed(self, why, as_json):
         with mock.patch.object(mend, "mend", mock.Mock(side_effect=why)), contextlib.redirect_stdout(io.StringIO()) as lines:
             self.assertEqual(
-                mend_cli._mend_one(argparse.Namespace(json=as_json, files_from=None), b"a\xff", b"b\n"),
+                mend_cli._mend_one(argparse.Namespace(json=as_json, files_from=None, catalogue=None, lossless=False), b"a\xff", b"b\n")[0],
                 4 if isinstance(why, mend.NotWritten) else 2,
             )
         return lines.getvalue()
@@ -279,7 +281,7 @@ class Lines(WithPictures):
 
     def pairs(self, names, files_from=None, given=()):
         with mock.patch.object(mend_cli, "each_of_list", lambda _: list(given)):
-            return list(mend_cli._pairs(argparse.Namespace(names=names, files_from=files_from)))
+            return list(mend_cli._pairs(argparse.Namespace(names=names, files_from=files_from, catalogue=None)))
 
     def test_pictures_and_their_copies(self):
         os.mkdir(self.path("out"))

@@ -19,7 +19,7 @@ from .output import block_members, output
 
 
 Described = Tuple[List[str], Members]
-Describe = Callable[[FoundBlock, Block], Described]
+Describe = Callable[[bytes, FoundBlock, Block], Described]  # of a picture by its name
 
 
 def status_of(it: Reading) -> int:
@@ -51,7 +51,7 @@ def _print(arguments: argparse.Namespace, it: Reading, head: List[str], describe
     data = {one.name: one for one in read.found}
     for block in it.blocks:
         is_described = block.status == ACCEPTED or block.repair or refused_too
-        lines, members = describe(data[block.name], block) if is_described else _refused(block)
+        lines, members = describe(it.name, data[block.name], block) if is_described else _refused(block)
         if lines or (arguments.json and members):
             output(arguments, [*head, *lines], {**names, "name": block.name, **members})
             head = []

@@ -3,30 +3,59 @@
 from __future__ import annotations
 
 import argparse
-from typing import List
+import functools
+import tempfile
+from typing import List, Optional
 
+from ..extract import programs
 from ..fields.block_fields import fields_of
+from ..files.session import current
 from ..model import steps
+from ..model.budgets import TooMuch
 from ..model.found import EXIF, XMP, FoundBlock
 from ..model.records import Block
+from ..model.texts import Members
 from ..model.verdicts import ACCEPTED, REFUSED
-from ..refusals import explain
+from ..refusals import explain, mend
 from .each_block import Described, each_block, with_kind
 from .output import block_members
 
 
 def run(arguments: argparse.Namespace) -> int:
-    """Explains refusals."""
+    """Explains refusals, and tries whether `mend` helps."""
+    tried = functools.lru_cache(maxsize=1)(_tried)
 
-    def describe(found: FoundBlock, it: Block) -> Described:
+    def describe(name: bytes, found: FoundBlock, it: Block) -> Described:
         line = f"{it.name}: {'ok' if it.status == ACCEPTED else it.line}"
         if it.status == ACCEPTED:
             return [line], block_members(it)
+        mended = None if arguments.block else tried(name)
         explained = explain.explain_packet(it) if it.kind == XMP else explain.explain(it.kind, found.data)
-        members = {**with_kind(explained.members()), "repair": [one._asdict() for one in it.steps]}
-        return [line, *explained.lines()[1:], *_repair(it)], members
+        explained.is_without_remedy = mended is not None and mended.step == mend.NONE
+        members = {**with_kind(explained.members()), "repair": [one._asdict() for one in it.steps], "mend": _members(mended)}
+        return [line, *explained.lines()[1:], *_repair(it), *_lines(mended)], members
 
     return each_block(arguments, describe, refused_too=True)
+
+
+def _tried(name: bytes) -> Optional[mend.Mended]:
+    """What `mend` does with a picture, without a copy; None if that isn't known, because a program is missing or fails."""
+    try:
+        with tempfile.TemporaryDirectory(dir=current().room) as own:
+            return mend.attempt(name, own)[0]
+    except (programs.Failed, programs.Missing, TooMuch, OSError):
+        return None
+
+
+def _lines(tried: Optional[mend.Mended]) -> List[str]:
+    if tried is None or tried.step == mend.NONE:
+        return []
+    values = f"{len(tried.lost)} printed value{'s' * (len(tried.lost) != 1)} lost or changed"
+    return [f"  Tried: mend makes a copy: {mend.STEP_WORDS[tried.step]}; {values}"]
+
+
+def _members(tried: Optional[mend.Mended]) -> Optional[Members]:
+    return None if tried is None else {"step": tried.step, "lost": tried.lost, "gained": tried.gained}
 
 
 def _repair(it: Block) -> List[str]:

@@ -4,8 +4,10 @@ from __future__ import annotations
 
 import argparse
 import os
+from collections import Counter
 from typing import Dict, Iterator, List, Tuple, Type
 
+from ..catalogue.store import Catalogue
 from ..extract import programs
 from ..files import atomic
 from ..files.session import current
@@ -14,46 +16,81 @@ from ..model.budgets import TooMuch
 from ..model.texts import Members, path_members, shown_path
 from ..refusals import mend
 from .exit_codes import DIFFERENCE, FAILURE, SUCCESS, UNKNOWN
-from .names import each_of_list
+from .names import chosen_paths, each_of_list
 from .output import output
 from .parser import refuse
 
 
 def run(arguments: argparse.Namespace) -> int:
-    """Writes copies whose blocks are accepted."""
+    """Writes copies whose blocks are accepted; of several pictures also counts."""
     worst = SUCCESS
+    counts: "Counter[str]" = Counter()
     for picture, out in _pairs(arguments):
-        worst = max(worst, _mend_one(arguments, picture, out))
+        status, result = _mend_one(arguments, picture, out)
+        worst = max(worst, status)
+        counts[result] += 1
+    if arguments.files_from or arguments.catalogue:
+        output(arguments, [_counted(counts)], {"counts": {it: counts[it] for it in COUNTED}})
     return worst
 
 
-def _mend_one(arguments: argparse.Namespace, picture: bytes, out: bytes) -> int:
+COUNTED = ("lossless", "lossy", "plain", "not mended")  # pictures with a copy that loses nothing, or something, a plain copy, or none
+_WORDS = ("mended without loss", "with values lost or changed", "copied as they are", "not mended")
+
+
+def _counted(counts: "Counter[str]") -> str:
+    """How many pictures have each result.
+
+    >>> _counted(Counter(lossless=45, lossy=9)), _counted(Counter())
+    ('54 pictures: 45 mended without loss, 9 with values lost or changed', '0 pictures')
+    """
+    total = sum(counts.values())
+    many = ", ".join(f"{counts[it]:,} {words}" for it, words in zip(COUNTED, _WORDS) if counts[it])
+    return f"{total:,} picture{'s' * (total != 1)}" + f": {many}" * bool(many)
+
+
+def _mend_one(arguments: argparse.Namespace, picture: bytes, out: bytes) -> Tuple[int, str]:
+    """The status of a picture, and by what it is counted."""
     try:
-        found = mend.mend(picture, out, current().room, bool(arguments.files_from))
+        mended = mend.mend(picture, out, current().room, bool(arguments.files_from or arguments.catalogue), arguments.lossless)
     except (mend.NotWritten, programs.Failed, programs.Missing, TooMuch) as error:
         names: Dict[Type[Exception], str] = {mend.NotWritten: "NotWritten", TooMuch: "TooMuch", programs.TooSlow: "TooSlow"}
         names.update({programs.Missing: "NeedsExifTool", mend.NeedsExifTool: "NeedsExifTool"})
         problem = names.get(type(error), "ToolFailed")
         line = f"{shown_path(picture)}: {atomic.not_written(shown_path(out), error)}"
         output(arguments, [line], {**path_members(picture), "problem": problem, "detail": str(error)})
-        return FAILURE if isinstance(error, mend.NotWritten) else UNKNOWN
-    output(arguments, _mended_lines(picture, found), _mended_members(picture, found))
-    if found.problem or found.damage or found.step == mend.NONE:
-        return UNKNOWN
-    return DIFFERENCE if found.lost else SUCCESS
+        return FAILURE if isinstance(error, mend.NotWritten) else UNKNOWN, "not mended"
+    output(arguments, _mended_lines(picture, mended), _mended_members(picture, mended))
+    if not mended.is_written:
+        return UNKNOWN, "not mended"
+    result = "plain" if mended.step == mend.COPY else "lossy" if mended.lost else "lossless"
+    return UNKNOWN if mended.damage else DIFFERENCE if mended.lost else SUCCESS, result
 
 
 def _pairs(arguments: argparse.Namespace) -> Iterator[Tuple[bytes, bytes]]:
+    """The pictures and their copies. Of a catalogue those with a block that isn't accepted."""
     names = [os.fsencode(it) for it in arguments.names]
-    if arguments.files_from:
-        if len(names) != 1 or not os.path.isdir(names[0]):
-            refuse("mend", "with --files-from give the folder OUT alone, which must be there")
-        for it in each_of_list(arguments):
-            yield it, os.path.join(names[0], _below(it))
-    elif len(names) != 2:
-        refuse("mend", "give PICTURE and OUT")
-    else:
+    if not arguments.files_from and not arguments.catalogue:
+        if len(names) != 2:
+            refuse("mend", "give PICTURE and OUT")
         yield names[0], names[1]
+        return
+    if len(names) != 1 or not os.path.isdir(names[0]):
+        which = "--catalogue" if arguments.catalogue else "--files-from"
+        refuse("mend", f"with {which} give the folder OUT alone, which must be there")
+    listed = _refused(arguments) if arguments.catalogue else ((it, _below(it)) for it in each_of_list(arguments))
+    yield from ((picture, os.path.join(names[0], below)) for picture, below in listed)
+
+
+def _refused(arguments: argparse.Namespace) -> List[Tuple[bytes, bytes]]:
+    """The pictures of a catalogue with a block that isn't accepted, and the names of their copies: below the folder that was indexed, if that
+    is one alone. With --files-from only those of the list."""
+    only = chosen_paths(arguments)
+    with Catalogue(arguments.catalogue) as catalogue:
+        roots = catalogue.roots()
+        paths = [it.path for it in catalogue.pictures() if it.problem is None and None in it.meanings and (only is None or it.path in only)]
+    root = roots[0].rstrip(b"/") + b"/" if len(roots) == 1 else b"/"
+    return [(it, it[len(root) :] if it.startswith(root) else _below(it)) for it in paths]
 
 
 def _below(name: bytes) -> bytes:
@@ -66,24 +103,25 @@ def _below(name: bytes) -> bytes:
     return (os.path.abspath(name) if plain.startswith(b"..") else plain).lstrip(b"/")
 
 
-def _mended_lines(picture: bytes, found: mend.Mended) -> List[str]:
+def _mended_lines(picture: bytes, mended: mend.Mended) -> List[str]:
     name = shown_path(picture)
-    if found.problem:
-        return [f"{name}: {found.problem}"]
-    before = "; ".join(f"{name} {line}" for name, line in found.before.items())
+    if mended.problem:
+        return [f"{name}: {mended.problem}"]
+    before = "; ".join(f"{name} {line}" for name, line in mended.before.items())
     lines = [
-        f"{name}: {before + ': ' if before else ''}{mend.STEP_WORDS[found.step]}"
-        + (f": {steps.words(found.repairs)}" if found.repairs else "")
+        f"{name}: {before + ': ' if before else ''}{mend.STEP_WORDS[mended.step]}"
+        + (f": {steps.words(mended.repairs)}" if mended.repairs else "")
     ]
-    lines += [f"  not wholly read, and not mended: {it}" for it in found.damage]
-    if found.step not in (mend.NONE, mend.COPY):
-        lines.append(f"  {len(found.lost)} printed values lost or changed")
-        lines += [f"  - {it}" for it in found.lost] + [f"  + {it}" for it in found.gained]
+    lines += [f"  not wholly read, and not mended: {it}" for it in mended.damage]
+    if mended.step not in (mend.NONE, mend.COPY):
+        lines += ["  not written, for --lossless"] * (not mended.is_written)
+        lines.append(f"  {len(mended.lost)} printed values lost or changed")
+        lines += [f"  - {it}" for it in mended.lost] + [f"  + {it}" for it in mended.gained]
     return lines
 
 
-def _mended_members(picture: bytes, found: mend.Mended) -> Members:
-    known: Members = {"step": found.step, "before": found.before, "lost": found.lost, "gained": found.gained}
-    repaired = [it._asdict() for it in found.repairs]
-    known = {**known, "repairs": repaired, "damage": found.damage}
-    return {**path_members(picture), **known, **({"problem": found.problem} if found.problem else {})}
+def _mended_members(picture: bytes, mended: mend.Mended) -> Members:
+    known: Members = {"step": mended.step, "before": mended.before, "lost": mended.lost, "gained": mended.gained}
+    repaired = [it._asdict() for it in mended.repairs]
+    known = {**known, "repairs": repaired, "damage": mended.damage, "written": mended.is_written}
+    return {**path_members(picture), **known, **({"problem": mended.problem} if mended.problem else {})}

@@ -373,9 +373,11 @@ def _export_arguments(it: argparse.ArgumentParser) -> None:
 
 
 def _mend_arguments(it: argparse.ArgumentParser) -> None:
-    it.add_argument(
-        "names", nargs="+", type=_name, metavar="PICTURE OUT", help="the picture and the copy; with --files-from only a folder OUT"
-    )
+    _example(it, "mend --catalogue archive.catalogue --lossless mended")
+    words = "the picture and the copy; with --files-from or --catalogue only a folder OUT"
+    it.add_argument("names", nargs="+", type=_name, metavar="PICTURE OUT", help=words)
+    it.add_argument("--catalogue", type=_name, metavar="FILE", help="all pictures of this catalogue with a refused or unreadable block")
+    it.add_argument("--lossless", action="store_true", help="write no copy that loses or changes a printed value")
     _limit_arguments(it)
 
 

@@ -26,7 +26,7 @@ from .tables import Table
 def run(arguments: argparse.Namespace) -> int:
     """Lists the fields of pictures."""
     if not arguments.json and not arguments.csv:
-        return each_block(arguments, lambda _, it: _described(it, arguments.exact))
+        return each_block(arguments, lambda _, __, it: _described(it, arguments.exact))
     worst = SUCCESS
     table = Table(["picture", "block", "field", "key", "type", "count", "value", "exact value", "note"]) if arguments.csv else None
     for it in each_picture(arguments):

@@ -79,11 +79,13 @@ def _height(rows: Sequence[Line], screen: Optional[int]) -> int:
 
 
 def _head(counts: "Counter[str]") -> str:
-    total, changes = changed.total(counts), changed.number_changed(counts)
+    total, changes, undecided = changed.total(counts), changed.number_changed(counts), changed.number_undecided(counts)
     if not total:
         return "No picture to compare."
-    many = "all changed" if changes == total > 1 else f"{changes:,} changed" if changes else "none changed"
-    return f"{_pictures(total)} compared: {many}."
+    many = ["all changed" if changes == total > 1 else f"{changes:,} changed" if changes else "none changed"]
+    if undecided:  # then nobody knows that none changed
+        many = many[: bool(changes)] + [f"{undecided:,} not wholly compared"]
+    return f"{_pictures(total)} compared: {', '.join(many)}."
 
 
 def _pictures(count: int) -> str:

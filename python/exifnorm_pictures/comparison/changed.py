@@ -9,12 +9,12 @@ import heapq
 import sqlite3
 from collections import Counter
 from dataclasses import dataclass, field
-from typing import TYPE_CHECKING, Dict, Iterable, Iterator, List, Optional, Sequence, Set, Tuple
+from typing import TYPE_CHECKING, Dict, FrozenSet, Iterable, Iterator, List, Optional, Sequence, Set, Tuple
 
 from ..catalogue.store import Catalogue
 from ..fields.choosing import EVERYTHING, Choice
 from ..fields.listing import MAKER_NOTE
-from ..fields.plain_names import group_name
+from ..fields.plain_names import group_name, group_of
 from ..judge.sides import Sides
 from ..model import steps
 from ..model.found import EXIF, NAMES, OWN, PROGRAMS
@@ -315,7 +315,9 @@ def _add_details(it: Compared, blocks: List[Sequence[Block]], pairs: Sides, part
             fields = pairs.fields(BEFORE, one), pairs.fields(AFTER, other)
             block = "" if key[1] == NAMES[key[0]] else key[1]
             is_equal = bool(one and other and one.meaning and one.meaning == other.meaning)
-            found = left.without(key[0], differences(*fields, block), is_equal)
+            kept, lost = _known(differences(*fields, block), one, other)
+            it.note += lost
+            found = left.without(key[0], kept, is_equal)
             is_of_note = bool(found and one and other) and all(change[:2] == MAKER_NOTE for change in found)
             only_notes = only_notes and (is_of_note or key[0] != EXIF or (is_equal and not found))
             it.changes += found if one and other else [change._replace(part=key[1]) for change in found]
@@ -326,6 +328,21 @@ def _add_details(it: Compared, blocks: List[Sequence[Block]], pairs: Sides, part
         it.result = ONLY_MAKER_NOTE
     elif it.result == DIFFERENT and it.changes and all(change.is_equal_number for change in it.changes):
         it.result = ONLY_NUMBERS
+
+
+def _known(found: List[Difference], one: Optional[Block], other: Optional[Block]) -> Tuple[List[Difference], str]:
+    """The differences without those fields that one block has, and that the repair of the other one may have lost; and a note about these."""
+    lost = [steps.lost_fields(block.steps) if block else frozenset() for block in (one, other)]
+    unknown = [it for it in found if (not it.before and _is_of(it, lost[0])) or (not it.after and _is_of(it, lost[1]))]
+    if not unknown:
+        return found, ""
+    groups = " and ".join(dict.fromkeys(group_of(it.where) for it in unknown))
+    many = f"{len(unknown):,} field{'s' * (len(unknown) > 1)} of {groups} that one picture has"
+    return [it for it in found if it not in unknown], f"; {many}: the repair of the other one may have lost them"
+
+
+def _is_of(it: Difference, lost: FrozenSet[str]) -> bool:
+    return it.where in lost or f"{it.where} {it.key}" in lost
 
 
 class _Left:
@@ -429,6 +446,11 @@ def total(counts: "Counter[str]") -> int:
 def number_changed(counts: "Counter[str]") -> int:
     """How many of them have changed. One that can't be compared wholly isn't known to have changed."""
     return sum(counts[it] for it in DIFFERENCES if it not in _NO_PICTURES)
+
+
+def number_undecided(counts: "Counter[str]") -> int:
+    """How many of them can't be compared wholly, so that nobody knows whether they have changed."""
+    return sum(counts[it] for it in OPEN)
 
 
 class Equal:

@@ -8,7 +8,7 @@ out. That a repaired block says what was meant is tested against ExifTool, and n
 from __future__ import annotations
 
 import struct
-from typing import Callable, Dict, List, NamedTuple, Optional, Tuple
+from typing import Callable, Dict, List, NamedTuple, Optional, Tuple, Union
 
 import exifnorm
 
@@ -38,7 +38,8 @@ class Repaired(NamedTuple):
     steps: Tuple[Step, ...]
 
 
-_Done = Optional[Tuple[bytearray, str, str]]
+# The block after a step, the step's words, what it loses, and where
+_Done = Union[None, Tuple[bytearray, str, str], Tuple[bytearray, str, str, str]]
 
 
 def repaired(block: bytes, budget: Optional[Budget] = None) -> Optional[Repaired]:
@@ -95,15 +96,26 @@ def _changed_value(original: bytes, now: bytes, walk: Walk, budget: Budget) -> _
     for it in walk.directories:
         for one in it.entries:
             if one.tag not in _POINTERS and not had(it.name, one):
-                return _without(now, walk, it, one.place), f"tag {one.tag:04x}, whose value other steps would change, left out", "a value"
+                what = f"tag {one.tag:04x}, whose value other steps would change, left out"
+                return _without(now, walk, it, one.place), what, *_value(it, one)
     pictures = old.pictures()
     if all(any(one.startswith(it) for one in pictures) for it in walk.pictures()):
         return None
     pointers = [(it, one) for it in walk.directories for one in it.entries if it.name == "thumb" and one.tag in (0x0111, 0x0201)]
-    return _without(now, walk, pointers[0][0], pointers[0][1].place), "a thumbnail that other steps would change left out", "the thumbnail"
+    return (
+        _without(now, walk, pointers[0][0], pointers[0][1].place),
+        "a thumbnail that other steps would change left out",
+        "the thumbnail",
+        "thumb",
+    )
 
 
 # The steps, by the engine's causes
+
+
+def _value(it: Directory, one: Entry) -> Tuple[str, str]:
+    """What is lost with an entry that is left out, and where."""
+    return "a value", f"{it.name} {one.tag:04x}"
 
 
 def _without(block: bytes, walk: Walk, it: Directory, place: int) -> bytearray:
@@ -209,18 +221,23 @@ def _cut_directory(block: bytes, walk: Walk) -> _Done:
         if not it.is_whole:
             out = bytearray(block)
             struct.pack_into(walk.order + "H", out, it.at, len(it.entries))
-            return out, f"the {_NAMES[it.name]} cut from {it.size:,} entries to the {len(it.entries):,} that are there", "entries"
+            what = f"the {_NAMES[it.name]} cut from {it.size:,} entries to the {len(it.entries):,} that are there"
+            end = it.at + 2 + 12 * len(it.entries)
+            covers = any(it.at < one.at < end for one in walk.directories)  # another table, which the further steps spoil
+            return out, what, "entries", "main" if covers else it.name
     starts = {it.at for it in walk.directories}
     for it in walk.directories:
         for one in it.entries:
             if (it.name, one.tag) in LINKS and walk.number(one) not in starts:
+                to = LINKS[it.name, one.tag]
                 return (
                     _without(block, walk, it, one.place),
-                    f"the pointer to the {_NAMES[LINKS[it.name, one.tag]]}, which isn't there, dropped",
+                    f"the pointer to the {_NAMES[to]}, which isn't there, dropped",
                     "a directory",
+                    to,
                 )
         if it.name == "main" and it.next + 4 <= len(block) and walk.four(it.next) not in starts | {0}:
-            return _put(block, walk, it.next, 0), "the pointer to a thumbnail directory that isn't there dropped", "the thumbnail"
+            return _put(block, walk, it.next, 0), "the pointer to a thumbnail directory that isn't there dropped", "the thumbnail", "thumb"
     return None
 
 
@@ -266,11 +283,11 @@ def _unknown_type(block: bytes, walk: Walk) -> _Done:
     if len(wrong) > MOST:  # one is left out in a step; a directory of such entries can't be one
         it = max(walk.directories, key=lambda one: sum(of is one for of, _ in wrong))
         left = _without_directory(block, walk, it)
-        return (left, f"the {_NAMES[it.name]}, whose entries have unknown types, left out", "a directory") if left else None
+        return (left, f"the {_NAMES[it.name]}, whose entries have unknown types, left out", "a directory", it.name) if left else None
     it, one = wrong[0]
     if one.type == 13:
         return _with_type(block, walk, one), "type 13 (IFD) read as LONG", ""
-    return _without(block, walk, it, one.place), f"tag {one.tag:04x} of unknown type {one.type} left out", "a value"
+    return _without(block, walk, it, one.place), f"tag {one.tag:04x} of unknown type {one.type} left out", *_value(it, one)
 
 
 def _with_type(block: bytes, walk: Walk, one: Entry, number: Optional[int] = None) -> bytearray:
@@ -287,7 +304,12 @@ def _pointer_form(block: bytes, walk: Walk) -> _Done:
                     return _with_type(block, walk, one), f"a pointer of type {one.type} read as LONG", ""
                 if one.type in (3, 8) and one.elements == 1:
                     return _with_type(block, walk, one, walk.two(one.place + 8)), f"a pointer of type {one.type} read as LONG", ""
-                return _without(block, walk, it, one.place), "a pointer of another form left out", "a directory"
+                return (
+                    _without(block, walk, it, one.place),
+                    "a pointer of another form left out",
+                    "a directory",
+                    LINKS.get((it.name, one.tag), ""),
+                )
     return None
 
 
@@ -299,6 +321,7 @@ def _misplaced(block: bytes, walk: Walk) -> _Done:
                     _without(block, walk, it, one.place),
                     f"the offset of tag {one.tag:04x} in the {_NAMES[it.name]} left out",
                     "an offset",
+                    f"{it.name} {one.tag:04x}",
                 )
     return None
 
@@ -308,7 +331,7 @@ def _value_outside(block: bytes, walk: Walk) -> _Done:
     if not outside or len(outside) > MOST:  # one is left out in a step
         return None
     it, one = outside[0]
-    return _without(block, walk, it, one.place), f"tag {one.tag:04x}, whose value isn't in the block, left out", "a value"
+    return _without(block, walk, it, one.place), f"tag {one.tag:04x}, whose value isn't in the block, left out", *_value(it, one)
 
 
 def _thumbnail_outside(block: bytes, walk: Walk) -> _Done:
@@ -322,6 +345,7 @@ def _thumbnail_outside(block: bytes, walk: Walk) -> _Done:
                 _put(block, walk, by[0x0202].place + 8, len(block) - start),
                 "the thumbnail cut to what is there",
                 "the end of the thumbnail",
+                "thumb",
             )
         if start >= len(block):
             first = bytes(_without(block, walk, it, by[0x0201].place))
@@ -329,7 +353,12 @@ def _thumbnail_outside(block: bytes, walk: Walk) -> _Done:
             for other in inner.directories:
                 for one in other.entries:
                     if other.name == "thumb" and one.tag == 0x0202:
-                        return _without(first, inner, other, one.place), "a thumbnail that isn't there left out", "the thumbnail's length"
+                        return (
+                            _without(first, inner, other, one.place),
+                            "a thumbnail that isn't there left out",
+                            "the thumbnail's length",
+                            "thumb",
+                        )
     return None
 
 
@@ -337,7 +366,7 @@ def _thumbnail_pair(block: bytes, walk: Walk) -> _Done:
     for it in walk.directories:
         for one in it.entries:
             if it.name == "thumb" and one.tag in (0x0111, 0x0117, 0x0201, 0x0202):
-                return _without(block, walk, it, one.place), "half of a thumbnail's pair left out", "a thumbnail's place or length"
+                return _without(block, walk, it, one.place), "half of a thumbnail's pair left out", "a thumbnail's place or length", "thumb"
     return None
 
 

@@ -3,7 +3,7 @@
 from __future__ import annotations
 
 import json
-from typing import Dict, List, NamedTuple, Optional, Sequence, Tuple
+from typing import Dict, FrozenSet, List, NamedTuple, Optional, Sequence, Tuple
 
 
 class Step(NamedTuple):
@@ -12,11 +12,26 @@ class Step(NamedTuple):
     cause: str
     what: str
     loses: str = ""
+    where: str = ""  # the directory of which fields are lost, such as `gps`, or the lost field, such as `main 010f`
 
 
 def loses(steps: Sequence[Step]) -> List[str]:
     """What some steps lose."""
     return list(dict.fromkeys(it.loses for it in steps if it.loses))
+
+
+# The directories that are found by an entry of another one
+_BELOW = {"main": ("exif", "gps", "interop", "thumb"), "exif": ("interop",)}
+
+
+def lost_fields(steps: Sequence[Step]) -> FrozenSet[str]:
+    """The fields that some steps lose, and the directories of which they lose fields that nobody knows, with those that only they lead to.
+
+    >>> sorted(lost_fields([Step("DirectoryOutside", "dropped", "a directory", "exif"), Step("ValueOutside", "left out", "a value", "main 010f")]))
+    ['exif', 'interop', 'main 010f']
+    """
+    lost = {it.where for it in steps if it.where}
+    return frozenset(lost.union(*(_BELOW.get(it, ()) for it in lost)))
 
 
 def words(steps: Sequence[Step]) -> str:

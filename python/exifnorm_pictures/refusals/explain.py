@@ -25,6 +25,9 @@ _OTHER_FILES = (
 )
 
 
+NO_REMEDY = "none is known. Each step of `exifnorm-pictures mend` was tried on this picture, and none makes a block that is accepted."
+
+
 @dataclass
 class Explanation:
     """The explanation of one block."""
@@ -34,27 +37,40 @@ class Explanation:
     cause: Optional[Cause] = None
     here: List[str] = field(default_factory=list)  # the parts at the offset
     octets: List[str] = field(default_factory=list)
+    is_without_remedy: bool = False  # of this picture: each step of `mend` was tried
+
+    @property
+    def _remedy(self) -> str:
+        return NO_REMEDY if self.is_without_remedy or self.cause is None else self.cause.remedy
+
+    def _here(self) -> List[str]:
+        """The parts at the offset, or for a block of another kind what is wrong, and the remedy."""
+        is_with_remedy = self.is_without_remedy and self.cause is None and bool(self.here)
+        return [*self.here[:-1], f"Remedy: {NO_REMEDY}"] if is_with_remedy else self.here
 
     def lines(self) -> List[str]:
         """The explanation as text."""
         if self.cause is None:
-            return [f"{self.kind}: {self.judgement.line}", *(f"  {it}" for it in self.here)]
+            return [f"{self.kind}: {self.judgement.line}", *(f"  {it}" for it in self._here())]
         found = [f"{self.kind}: {self.judgement.line}", f"  {self.cause.sentence} {self.cause.meaning}"]
         found += [f"  {it}" for it in self.here]
         found += [f"    {it}" for it in self.octets]
         if self.cause.writers:
             found.append("  Written by: " + "; ".join(f"{who} ({count})" for who, count in self.cause.writers) + ".")
-        found += [f"  Other readers: {self.cause.readers}", f"  Remedy: {self.cause.remedy}", f"  Cost: {self.cause.cost}"]
+        found += [f"  Other readers: {self.cause.readers}", f"  Remedy: {self._remedy}"]
+        found += [] if self.is_without_remedy else [f"  Cost: {self.cause.cost}"]
         return found
 
     def members(self) -> Members:
         """The explanation as a JSON object."""
         known: Members = {"kind": self.kind, "status": self.judgement.status, "cause": self.judgement.cause, "place": self.judgement.place}
         if self.cause is None and self.here:
-            known.update(sentence=self.here[0], remedy=self.here[-1].replace("Remedy: ", "", 1))
+            known.update(sentence=self.here[0], remedy=self._here()[-1].replace("Remedy: ", "", 1))
         if self.cause is not None:
             known.update(sentence=self.cause.sentence, meaning=self.cause.meaning, here=self.here, bytes=self.octets)
-            known.update(writers=[list(it) for it in self.cause.writers], remedy=self.cause.remedy, cost=self.cause.cost)
+            known.update(
+                writers=[list(it) for it in self.cause.writers], remedy=self._remedy, cost="" if self.is_without_remedy else self.cause.cost
+            )
         return known
 
 

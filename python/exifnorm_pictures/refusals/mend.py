@@ -59,39 +59,51 @@ class Mended:
     problem: str = ""
     repairs: Tuple[Step, ...] = ()  # what was repaired
     damage: List[str] = field(default_factory=list)  # what is left of a damaged file, and was not read
+    is_written: bool = False  # whether there is a copy
 
 
-def mend(picture: bytes, out: bytes, room: str, with_folders: bool = False) -> Mended:
+def mend(picture: bytes, out: bytes, room: str, with_folders: bool = False, lossless: bool = False) -> Mended:
     """Writes a copy with accepted blocks to the new file `out`. Raises `NotWritten`, `NeedsExifTool` and `programs.Failed`.
 
     The steps are tried in the order of `STEPS`. The first that changes no printed value is used; if none is, the one that loses
-    the fewest values and, among equals, adds the fewest. The values are those that ExifTool prints, without offsets. Without ExifTool
-    only a repair that loses nothing is used. Temporary files are in the folder `room`; `with_folders` makes the folders of `out`.
+    the fewest values and, among equals, adds the fewest; with `lossless` a copy that loses any isn't written. The values are those that
+    ExifTool prints, without offsets. Without ExifTool only a repair that loses nothing is used. Temporary files are in the folder `room`;
+    `with_folders` makes the folders of `out`.
     """
     if os.path.lexists(out):
         raise NotWritten("the copy is there already")
+    with tempfile.TemporaryDirectory(dir=room) as own:
+        result, made = attempt(picture, own)
+        if made is None or (lossless and result.lost):
+            return result
+        if with_folders:
+            _make_folders(out)
+        _put(made, picture, out)
+    result.is_written = True
+    return result
+
+
+def attempt(picture: bytes, room: str) -> Tuple[Mended, Optional[bytes]]:
+    """What `mend` does with a picture, and the file that it would write, which is in the folder `room`; none if no step helps. Raises
+    `NeedsExifTool` and `programs.Failed`."""
     taken = blocks_of(picture)
     if taken.problem:
-        return Mended(NONE, {}, problem=f"{taken.problem}: {taken.detail}")
+        return Mended(NONE, {}, problem=f"{taken.problem}: {taken.detail}"), None
     before, left = _refusals(taken), damage(it.what for it in taken.not_read)
-    if with_folders:
-        _make_folders(out)
     if not before:
-        _put(picture, picture, out)
-        return Mended(COPY, {}, damage=left)
-    with tempfile.TemporaryDirectory(dir=room) as own:
-        repair = _repaired(picture, taken, own)
-        if programs.is_there("exiftool"):
-            best = _best(picture, repair, own)
-        elif repair is not None and not loses(repair.steps):
-            best = ("repair", repair.file, [], [])
-        else:
-            raise NeedsExifTool(taken.type, repair)
-        if best is None:
-            return Mended(NONE, before, damage=left)
-        step, made, lost, gained = best
-        _put(os.fsencode(made), picture, out)
-        return Mended(step, before, lost, gained, "", repair.steps if repair and step == "repair" else (), left)
+        return Mended(COPY, {}, damage=left), picture
+    repair = _repaired(picture, taken, room)
+    if programs.is_there("exiftool"):
+        best = _best(picture, repair, room)
+    elif repair is not None and not loses(repair.steps):
+        best = ("repair", repair.file, [], [])
+    else:
+        raise NeedsExifTool(taken.type, repair)
+    if best is None:
+        return Mended(NONE, before, damage=left), None
+    step, made, lost, gained = best
+    repairs = repair.steps if repair and step == "repair" else ()
+    return Mended(step, before, lost, gained, "", repairs, left), os.fsencode(made)
 
 
 def _make_folders(out: bytes) -> None:

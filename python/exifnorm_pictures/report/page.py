@@ -92,6 +92,8 @@ def _overview(found: Gathered) -> str:
     cards += f'<li class="odd"><b>{contradicting:,}</b> contradict themselves</li>' if contradicting else ""
     if found.since:
         cards += f'<li class="odd"><b>{changed.number_changed(found.results):,}</b> changed since the older catalogue</li>'
+        undecided = changed.number_undecided(found.results)
+        cards += f'<li class="odd"><b>{undecided:,}</b> not wholly compared with the older catalogue</li>' if undecided else ""
     return f'<section><h2>At a glance</h2><ul class="cards">{cards}</ul>{_share(found)}</section>\n'
 
 
