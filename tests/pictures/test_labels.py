@@ -1,10 +1,12 @@
 """The labels of `captions` as words of --only and --ignore: each stands for its fields over Exif, IPTC and XMP. ExifTool writes the fields."""
 
 import subprocess
+from pathlib import Path
 
 import pytest
+from exifnorm_pictures.fields.labels import POSITION, fields_by_label
 from made_files import app1, exif, jpeg
-from studio import needs, put
+from studio import TOP, needs, put
 from test_captions import data_set, with_record, with_texts
 
 # By the IPTC Photo Metadata Standard (mapping of IIM and XMP), the guidelines of the Metadata Working Group, and Windows' own tags
@@ -18,11 +20,29 @@ FIELDS = {
     "headline": ["IPTC:Headline", "XMP-photoshop:Headline"],
     "creator's job": ["IPTC:By-lineTitle", "XMP-photoshop:AuthorsPosition"],
     "date created": ["ExifIFD:DateTimeOriginal", "XMP-photoshop:DateCreated"],
+    "source": ["IPTC:Source", "XMP-photoshop:Source"],
+    "job identifier": ["IPTC:OriginalTransmissionReference", "XMP-photoshop:TransmissionReference"],
+    "location": ["IPTC:Sub-location", "XMP-iptcCore:Location"],
+    "city": ["IPTC:City", "XMP-photoshop:City"],
+    "state": ["IPTC:Province-State", "XMP-photoshop:State"],
+    "country": ["IPTC:Country-PrimaryLocationName", "XMP-photoshop:Country"],
+    "instructions": ["IPTC:SpecialInstructions", "XMP-photoshop:Instructions"],
+    "usage terms": ["XMP-xmpRights:UsageTerms"],
     "comment": ["ExifIFD:UserComment"],
     "position": ["GPS:GPSLatitude", "XMP-exif:GPSLongitude"],
 }
 VALUES = {"date created": "2001:02:03 04:05:06", "position": "12.5"}
 BASE = jpeg(with_texts(artist=b"Anna"), with_record(data_set(15, b"one")))
+
+
+def test_each_label_has_its_row_and_its_documents(checks):
+    """A new label needs its fields in the table above, and a place in the documents that list the labels."""
+    for label in fields_by_label():
+        checks.check(label, label in FIELDS, "it has no fields in the table of this module")
+        for page in (
+            ("docs/JSON.md", "docs/CATALOGUE.md", "docs/exifnorm-pictures.1") if label != POSITION else ("docs/exifnorm-pictures.1",)
+        ):
+            checks.check(label, label in (Path(TOP) / page).read_text(encoding="utf-8"), f"{page} doesn't name it")
 
 
 @needs("exiftool")
