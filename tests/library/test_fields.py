@@ -166,10 +166,13 @@ NO_FORMS = {
     "a thumbnail directory that is the main one": (form_of((0x10F, 2, 1, 0), following=8), 1),
     "a directory after that of the thumbnail": (form_of((0x10F, 2, 1, 0), following=ONE, behind=form_of((1, 1, 1, 0), following=8)[8:]), 1),
     "a JPEG without a length": (form_of((0x10F, 2, 1, 0), following=ONE, behind=form_of((0x201, 4, 1, 44))[8:]), 1),
+    "a JPEG without an offset": (form_of((0x10F, 2, 1, 0), following=ONE, behind=form_of((0x202, 4, 1, 9))[8:]), 1),
     "a JPEG behind the end": (form_of((0x10F, 2, 1, 0), following=ONE, behind=form_of((0x201, 4, 1, 56), (0x202, 4, 1, 9))[8:]), 1),
     "strips without lengths": (form_of((0x10F, 2, 1, 0), following=ONE, behind=form_of((0x111, 4, 1, 44))[8:]), 1),
     "fewer lengths than strips": (
-        form_of((0x10F, 2, 1, 0), following=ONE, behind=form_of((0x111, 4, 2, 56), (0x117, 4, 1, 0), behind=bytes(8))[8:]),
+        form_of(
+            (0x10F, 2, 1, 0), following=ONE, behind=form_of((0x111, 4, 2, 56), (0x117, 4, 1, 0), behind=struct.pack(">2L", 64, 64))[8:]
+        ),
         1,
     ),
     "a DataSet behind the end": (bytes.fromhex("1C0219 0001 61 1C0219 0002 61"), 1),

@@ -263,7 +263,7 @@ class TestDebian:
         papers = ("changelog.Debian.gz", "changelog.gz", "copyright")
         expected = {f"usr/share/doc/{name}/{it}": FILE for name in self.NAMES for it in papers}
         for name, mode in Tree(Path("/"), "/usr", DEBIAN_PYTHON, ["PYTHONINCLUDE="]).expected().items():
-            moved = re.sub(r"^usr/lib/(lib|pkgconfig)", rf"{self.libraries}/\1", name).replace("site-functions", "vendor-completions")
+            moved = re.sub(r"^usr/lib/(cmake|lib|pkgconfig)", rf"{self.libraries}/\1", name).replace("site-functions", "vendor-completions")
             if not re.search(r"/$|LICENSE-|CHANGELOG|share/exifnorm/installed|exifnorm/libexifnorm", moved):
                 expected[f"{moved}.gz" if "/man/" in moved else moved] = mode
         assert found == expected
@@ -383,7 +383,7 @@ class TestArchive:
 
     def test_has_everything(self) -> None:
         found = {it.name.removeprefix(f"{self.name}/") for it in self.members if not it.isdir()}
-        folders = "bin", "include", "lib/lib", "lib/pkgconfig", "share"
+        folders = "bin", "include", "lib/cmake", "lib/lib", "lib/pkgconfig", "share"
         listed = (it.removeprefix("usr/") for it in Tree(Path("/"), "/usr", DEBIAN_PYTHON).expected() if not it.endswith("/"))
         wanted = {it for it in listed if it.startswith(folders)} - {"share/exifnorm/installed"}  # which `make uninstall` reads
         assert {it for it in found if it.startswith(folders) and "/crates/" not in it} == wanted | {

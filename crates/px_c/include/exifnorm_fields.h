@@ -184,26 +184,17 @@ static inline void exifnorm_table_(struct exifnorm_fields *fields) {
         exifnorm_broken_(fields);
 }
 
-/* Begins the strips, of which both lists have the same count. */
-static inline void exifnorm_strips_(struct exifnorm_fields *fields) {
-    if (fields->strip_counts[0] == fields->strip_counts[1] && !fields->strips[0] == !fields->strips[1])
-        fields->left = fields->strip_counts[0];
-    else
-        exifnorm_broken_(fields);
-}
-
 /* Begins what follows a stage that is at its end. */
 static inline void exifnorm_enter_(struct exifnorm_fields *fields) {
     fields->stage++;
     if (fields->stage == EXIFNORM_STAGE_END_) {
         fields->whole = fields->placed == fields->length;
     } else if (fields->stage == EXIFNORM_STAGE_STRIPS_) {
-        exifnorm_strips_(fields);
+        fields->left = fields->strip_counts[0];
     } else if (fields->stage == EXIFNORM_STAGE_JPEG_) {
-        if (!fields->jpeg[0] != !fields->jpeg[1])
+        fields->left = fields->jpeg[0] != 0;
+        if (!fields->jpeg[0] != !fields->jpeg[1] || fields->strip_counts[0] != fields->strip_counts[1])
             exifnorm_broken_(fields);
-        else
-            fields->left = fields->jpeg[0] != 0;
     } else if (fields->stage == EXIFNORM_DIRECTORY_RECORD) {
         fields->at = fields->record[0];
         fields->left = fields->record[1];

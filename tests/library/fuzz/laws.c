@@ -1,7 +1,7 @@
 #define _GNU_SOURCE
 #include "laws.h"
 #include "memory.h"
-#include <exifnorm.h>
+#include <exifnorm_fields.h>
 #include <stdio.h>
 #include <string.h>
 #include <sys/mman.h>
@@ -277,10 +277,35 @@ static size_t judge_text(Call *made, const unsigned char *block, size_t length, 
     return kept_length;
 }
 
+/* The lines of a listing that are fields: not those that name a directory, or count what follows. */
+static size_t fields_of_listing(const unsigned char *text, size_t length) {
+    static const char *const others[] = {"exif\n", "iim\n", "[", "record ", "strips "};
+    const unsigned char *line, *end = text + length;
+    size_t count = 0;
+    for (line = text; line && line < end; line = (const unsigned char *)memchr(line, '\n', end - line) + 1) {
+        int is_field = 1;
+        for (size_t i = 0; i < sizeof others / sizeof *others; i++)
+            is_field = is_field && !begins(line, end - line, others[i]);
+        count += is_field;
+    }
+    return count;
+}
+
+/* The form ends where a page begins that can't be read. */
+static void judge_fields(void) {
+    struct exifnorm_fields fields;
+    struct exifnorm_field field;
+    size_t count = 0;
+    exifnorm_fields_start(&fields, laid(&other_area, now.form, now.form_length), now.form_length);
+    while (exifnorm_fields_next(&fields, &field))
+        count++;
+    holds(LAW_FIELDS, exifnorm_fields_whole(&fields) && count == fields_of_listing(now.listing, now.listing_length));
+}
+
 static void judge_texts(const unsigned char *block, size_t length) {
     now.listing_length = judge_text(exifnorm_show, block, length, now.listing, LAW_SHOW, LAW_FORM_LISTING);
-    if (now.listing_length)
-        holds(LAW_LISTING, is_listing(now.listing, now.listing_length));
+    if (now.listing_length && holds(LAW_LISTING, is_listing(now.listing, now.listing_length)))
+        judge_fields();
     now.captions_length = judge_text(exifnorm_captions, block, length, now.captions, LAW_CAPTIONS, LAW_FORM_CAPTIONS);
     if (now.captions_length)
         holds(LAW_LABELS, are_captions(now.captions, now.captions_length));

@@ -30,6 +30,7 @@
     LAW(MORE_ROOM, "a longer output changes no result") \
     LAW(SHOW, "show accepts what check accepts, with the same fault otherwise") \
     LAW(LISTING, "a listing is lines of ASCII below the kind") \
+    LAW(FIELDS, "exifnorm_fields.h finds the fields of the listing in the form, and passes all of it") \
     LAW(LISTINGS_TELL, "two blocks have one listing exactly if their forms are equal") \
     LAW(FORM_LISTING, "a form has its block's listing") \
     LAW(CAPTIONS, "captions accepts what check accepts, with the same fault otherwise") \

@@ -46,6 +46,7 @@
     MISTAKE(SECOND_IS_FIRST, "the fault of the second is returned as one of the first") \
     MISTAKE(SECOND_UNJUDGED, "a refused second block means something else") \
     MISTAKE(LISTING_EMPTY, "the listing is the kind alone") \
+    MISTAKE(LISTING_SHORT, "the last line of a listing is missing") \
     MISTAKE(LISTING_OF_PLACES, "the listing depends on the layout") \
     MISTAKE(LISTING_UNENDED, "the listing's last line is not ended") \
     MISTAKE(LISTING_BINARY, "the listing has a byte that is not printable") \
@@ -391,6 +392,8 @@ uint32_t exifnorm_show(const unsigned char *block, size_t length, unsigned char 
         return status;
     if (wrong == LISTING_EMPTY)
         return put(out, 5, out, room, written);
+    if (wrong == LISTING_SHORT)
+        return put(out, (unsigned char *)memrchr(out, '\n', *written - 1) + 1 - out, out, room, written);
     if (wrong == LISTING_OF_PLACES && block[length / 2] % 2)
         out[*written - 2] ^= 1;
     if (wrong == LISTING_UNENDED)
