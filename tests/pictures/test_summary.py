@@ -10,14 +10,17 @@ from collections import Counter
 
 import pytest
 from exact_fields import field
+from hypothesis import given
+from hypothesis import strategies as st
 from made_blocks import BLOCKS
-from made_files import app1, exif, jpeg
+from made_files import app1, exif, jpeg, with_record
 from studio import SMALL_JPEG, needs, tool
 
 from exifnorm_pictures.cli import summary as page
 from exifnorm_pictures.comparison import summary
 from exifnorm_pictures.comparison.changed import RESULTS, Compared
 from exifnorm_pictures.comparison.differing import differences
+from exifnorm_pictures.comparison.wording import apart
 
 
 @pytest.fixture
@@ -353,3 +356,22 @@ def test_labelled_fields_are_counted_beyond_the_limit():
     found.add(Compared(b"p", "different", changes=[*changes, *differences([COPYRIGHT], [])]))
     names = [it.name for it in found.fields()]
     assert names[0] == "IFD0:Copyright" and len(names) <= summary.FIELDS + 100
+
+
+@given(st.text("ab ", max_size=120), st.text("abc ", max_size=90), st.text("abc ", max_size=90), st.sampled_from([30, 60]))
+def test_two_texts_that_differ_never_look_alike(common, before, after, widest):
+    """However long the beginning is that they have in common."""
+    one, other = f'"{common}{before}"', f'"{common}{after}"'
+    if one != other:
+        sides = apart(one, other, widest).split(" -> ")
+        assert sides[0] != sides[1] and all(len(it) <= widest for it in sides)
+
+
+def test_the_end_of_a_long_caption(called, folder):
+    text = b"A long but ordinary caption text of a museum, with the place found in Switzerland and its year 1820"
+    for side, octets in (("before", text), ("after", text.replace(b"1820", b"1280"))):
+        (folder / side).mkdir()
+        for name in ("a.jpg", "b.jpg"):
+            (folder / side / name).write_bytes(jpeg(with_record(b"\x1c\2\x78\0" + bytes((len(octets),)) + octets)))
+    printed = called("changed", "before", "after")[1]
+    assert re.search(r'".. [a-z ]*year 1820" -> ".. [a-z ]*year 1280" +2 pictures', printed), printed

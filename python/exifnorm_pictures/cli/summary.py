@@ -134,13 +134,12 @@ def _field(it: FieldCount) -> List[Line]:
         rows.append(Line(f"{it.name}: {next(iter(it.steps))}", it.has_value))
     elif len(it.values) <= SHOWN_VALUES and not it.uncounted:
         for value in sorted(it.values.values(), key=lambda one: -one.count):
-            before = f": {value.first.before}" if value.is_one and value.first.before else ""
-            rows.append(Line(f"{it.name}{before}{value.first.text}", value.count, _had_none(value.came, value.count)))
+            text = (value.is_one and value.first.change) or value.first.text
+            rows.append(Line(f"{it.name}{text}", value.count, _had_none(value.came, value.count)))
     else:
         first = next(iter(it.values.values())).first
         many = f"more than {len(it.values)}" if it.uncounted else f"{len(it.values)}"
-        example = f"{cut(first.before, 30)}{' ' * bool(first.before)}{cut(first.text.strip(' :'), 34)}"
-        rows.append(Line(f"{it.name}: {many} different values ({example} ..)", it.has_value, _had_none(it.came, it.has_value)))
+        rows.append(Line(f"{it.name}: {many} different values ({first.example} ..)", it.has_value, _had_none(it.came, it.has_value)))
     rows += [Line(f"{it.name} removed", it.went, _with_parts(it))] * bool(it.went)
     return [row._replace(is_labelled=it.is_labelled) for row in rows]
 

@@ -3,6 +3,7 @@
 from __future__ import annotations
 
 import hashlib
+import os.path
 import re
 from collections import Counter
 from datetime import datetime, timedelta
@@ -26,7 +27,9 @@ class What(NamedTuple):
 
     key: bytes  # equal for all pictures with the same new value
     text: str  # to be written after the field's name
-    before: str = ""  # the value that was replaced
+    before: bytes = b""  # equal for all pictures with the same value before; empty if there was none
+    change: str = ""  # in place of the text, if all pictures had the same value before: both values, as far as they differ
+    example: str = ""  # the same, shorter
     step: str = ""  # how much later or earlier a date is
 
 
@@ -78,17 +81,47 @@ def what(it: Difference) -> What:
     if listed:
         return _what(listed)
     before, after = sides(it)
-    key = hashlib.sha256(repr([(*one[:4], listing.exact(one)) for one in it.after]).encode("utf-8", "surrogatepass")).digest()
-    return What(key, f" -> {cut(after or '')}", cut(before or ""), step(it))
+    if not before:
+        return What(_key(it.after), f" -> {cut(after or '')}", example=f"-> {cut(after or '', 34)}")
+    change, example = apart(before, after or "", WIDEST), apart(before, after or "", 30)
+    return What(_key(it.after), f" -> {cut(after or '')}", _key(it.before), f": {change}", example, step(it))
+
+
+def _key(fields: Sequence[Field]) -> bytes:
+    """A digest of the values of some fields."""
+    return hashlib.sha256(repr([(*one[:4], listing.exact(one)) for one in fields]).encode("utf-8", "surrogatepass")).digest()
 
 
 def _what(text: str) -> What:
-    return What(text.encode("utf-8", "surrogatepass"), cut(text, 2 * WIDEST))
+    return What(text.encode("utf-8", "surrogatepass"), cut(text, 2 * WIDEST), example=cut(text.strip(" :"), 34))
 
 
 def cut(text: str, widest: int = WIDEST) -> str:
-    """The beginning of a text that is too long for a line."""
-    return text if len(text) <= widest else text[: widest - 3] + " .."
+    """The beginning of a text that is too long for a line.
+
+    >>> cut("a vase of 1880", 9), cut('"a vase of 1880"', 11)
+    ('a vase ..', '"a vase .."')
+    """
+    if len(text) <= widest:
+        return text
+    return text[: widest - 4] + ' .."' if text[:1] == text[-1:] == '"' else text[: widest - 3] + " .."
+
+
+_BEFORE = 10  # characters of a common beginning that stay before the first difference
+
+
+def apart(before: str, after: str, widest: int) -> str:
+    """Two texts that differ, each cut to a line: without their common beginning if otherwise the difference may be cut away.
+
+    >>> apart('"a bowl that was found in the east wing"', '"a bowl that was found in the west wing"', 30)
+    '".. found in the east wing" -> ".. found in the west wing"'
+    """
+    at = len(os.path.commonprefix((before, after))) - _BEFORE
+    if at > 4 and max(len(before), len(after)) > widest:
+        at = before.rfind(" ", at - _BEFORE, at) + 1 or at  # a whole word, if it is short
+        dots = '".. ' if before[:1] == '"' else ".. "
+        before, after = dots + before[at:], dots + after[at:]
+    return f"{cut(before, widest)} -> {cut(after, widest)}"
 
 
 # Lists
