@@ -169,9 +169,21 @@ def switch(texts: Iterable[Tuple[str, str]]) -> str:
     return "".join(f"    case EXIFNORM_{name}: return {literal(text)};\n" for name, text in texts)
 
 
-def causes() -> List[Tuple[str, str]]:
+def statuses(source: str) -> List[Tuple[str, str]]:
+    """The constant and the sentence of each status that exifnorm.h lists.
+
+    >>> statuses("/* The statuses. */ enum { EXIFNORM_DONE = 0 };")
+    [('DONE', 'The call has succeeded.')]
+    """
+    listed = re.findall(r"EXIFNORM_(\w+) = ", source.partition("/* The statuses. */")[2].partition("};")[0])
+    if unknown := [name for name in listed if name not in STATUSES]:
+        sys.exit(f"packaging/names.py has no sentence for the status {unknown[0]}")
+    return [(name, STATUSES[name]) for name in listed]
+
+
+def causes(source: str) -> List[Tuple[str, str]]:
     """The constant and the sentence of each cause that exifnorm.h lists."""
-    listed = re.findall(r"EXIFNORM_(CAUSE_\w+|JPEG_\w+) = (\d+)", (HEADER.parent / "exifnorm.h").read_text(encoding="utf-8"))
+    listed = re.findall(r"EXIFNORM_(CAUSE_\w+|JPEG_\w+) = (\d+)", source)
     names = ((constant, JPEG_CAUSES.get(int(number), name_of_cause(constant))) for constant, number in listed)
     return [(constant, WORDS[name][0]) for constant, name in names if name in WORDS]
 
@@ -189,7 +201,8 @@ def header() -> str:
     """The text of the header."""
     arrays, cases = tables()
     groups = [literal(group_of(directory)) for directory in DIRECTORIES]
-    switches = {"statuses": switch(STATUSES.items()), "causes": switch(causes())}
+    source = (HEADER.parent / "exifnorm.h").read_text(encoding="utf-8")
+    switches = {"statuses": switch(statuses(source)), "causes": switch(causes(source))}
     size = sum(len(text) - 1 for text in re.findall(r'"(?:[^"\\]|\\.)*"', arrays + "".join(switches.values())))
     pictures = {key: literal(plain_name("thumb", key)) for key in ("jpeg", "strip")}
     return TEXT.format(tables=arrays, cases=cases, groups=", ".join(groups), count=len(groups), bytes=size, **pictures, **switches)
