@@ -31,6 +31,8 @@ STATUSES = {
     "NO_MEMORY": "There is not enough memory.",
     "TOO_LITTLE_ROOM": "The output is too short.",
     "SECOND_REFUSED": "The second block or JPEG is refused.",
+    "NOT_READ": "Two JPEGs are the same as far as they were read; a part of the first was not read.",
+    "SECOND_NOT_READ": "Two JPEGs are the same as far as they were read; a part of the second was not read.",
 }
 
 TEXT = """/* exifnorm_names.h: names of fields, and sentences for statuses and causes. packaging/names.py prints this file.

@@ -26,7 +26,7 @@ from ._calls import Block, digest, kind, normal, same, show, version
 from ._captions import Caption, captions
 from ._errors import LIMIT, HeadRefused, LibraryMissing, NormalTooLong, PictureRefused, Refused, TooMany
 from ._fields import Field, Ratio, Values
-from ._jpeg import JpegBlock, JpegPart, Resource, Unread, jpeg_blocks, jpeg_parts, jpeg_same, jpeg_unread, photoshop_resources
+from ._jpeg import JpegBlock, JpegPart, NotRead, Resource, Unread, jpeg_blocks, jpeg_parts, jpeg_same, jpeg_unread, photoshop_resources
 from ._library import Status
 from ._reading import fields
 
@@ -42,6 +42,7 @@ __all__ = [
     "LIMIT",
     "LibraryMissing",
     "NormalTooLong",
+    "NotRead",
     "PictureRefused",
     "Ratio",
     "Refused",

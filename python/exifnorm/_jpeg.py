@@ -3,7 +3,7 @@
 from __future__ import annotations
 
 import operator
-from typing import Any, Dict, Iterator, List, NamedTuple, NoReturn, Optional, Tuple
+from typing import Any, Dict, Iterator, List, NamedTuple, NoReturn, Optional, Tuple, Union
 
 from ._calls import Block
 from ._errors import HeadRefused, PictureRefused, TooMany
@@ -225,10 +225,34 @@ class Unread(NamedTuple):
     """The offset."""
 
 
+class NotRead(NamedTuple):
+    """Two JPEGs have the same Exif and IPTC as far as they are read, and one has a place that isn't read: the first one. It is neither true
+    nor false, so a test of it raises TypeError.
+
+    >>> if NotRead(1, Unread(False, 6)):
+    ...     print("the same")
+    Traceback (most recent call last):
+    TypeError: jpeg_same: the same as far as it was read; JPEG 1 has a part at 6 that was not read. Test whether the result `is True`
+    """
+
+    side: int
+    """The number of the JPEG, 1 or 2; 2 only if all of the first is read."""
+    unread: Unread
+    """The place, as `jpeg_unread` returns it."""
+
+    def __bool__(self) -> bool:
+        place = f"{self.unread.start}{' of its joined blocks' * self.unread.joined}"
+        raise TypeError(
+            f"jpeg_same: the same as far as it was read; JPEG {self.side} has a part at {place} that was not read. "
+            "Test whether the result `is True`"
+        )
+
+
 def jpeg_unread(picture: Block) -> Optional[Unread]:
-    """The first place in a JPEG at which something is that other programs read as Exif or IPTC, or may, and that `jpeg_same` doesn't read:
-    a segment APP1 that seems to be Exif by another mark, APP13 with another mark than Photoshop's, resource 0422, or bytes other than zeros
-    after the last resource. None if there is none: of two such JPEGs `jpeg_same` reads all.
+    """The first place in a JPEG at which something is that other programs read as Exif or IPTC, or may, and `jpeg_same` doesn't, or the
+    reverse: a segment APP1 that seems to be Exif by another mark, APP13 with another mark than Photoshop's, resource 0422, resource 0404
+    with another signature than 8BIM, or bytes other than zeros after the last resource. None if there is none: of two such JPEGs
+    `jpeg_same` reads all.
 
     The bytes may be a whole file or only its first bytes. Raises HeadRefused, with the first fault, if they don't begin with the whole
     head of a JPEG; MemoryError and LibraryMissing.
@@ -249,9 +273,12 @@ def jpeg_unread(picture: Block) -> Optional[Unread]:
     return Unread(found[0] == 1, found[1]) if found else None
 
 
-def jpeg_same(first: Block, second: Block) -> bool:
+def jpeg_same(first: Block, second: Block) -> Union[bool, NotRead]:
     """Whether two JPEGs have the same Exif and IPTC: as many blocks of each kind as `jpeg_blocks` finds, which mean the same, pair by pair,
     in their order. So two JPEGs without metadata are the same. XMP, pixels, and what follows the head are not compared.
+
+    If they are the same as far as they are read, and `jpeg_unread` finds a place in one of them, the result is that place, a `NotRead`, which
+    has no truth value: `if` raises TypeError, so nobody takes it for the same. Ask `is True` or `is False` where that may be.
 
     The bytes may be whole files or only their first bytes. Raises PictureRefused, with the first fault, if one of them doesn't begin with
     the whole head of a JPEG, or has a block that breaks the rules; MemoryError and LibraryMissing.
@@ -266,6 +293,9 @@ def jpeg_same(first: Block, second: Block) -> bool:
     (True, False)
     """
     found = library().jpeg_same(_bytes_of(first), _bytes_of(second))
-    if isinstance(found, tuple):
-        _raise_for_pair(found)
-    return found == 1
+    if isinstance(found, int):
+        return found == 1
+    status, _, joined, _, start = found
+    if status in (Status.NOT_READ, Status.SECOND_NOT_READ):
+        return NotRead(2 if status == Status.SECOND_NOT_READ else 1, Unread(joined == 1, start))
+    _raise_for_pair(found)

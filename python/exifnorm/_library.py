@@ -47,7 +47,8 @@ Failure = Tuple[int, int, int]
 """The status of a call that returns no result, and the number of the cause and the byte offset if a block is refused."""
 
 PictureFailure = Tuple[int, int, int, int, int]
-"""The same of two JPEGs: the status, the number of the cause, the number of the block's kind or 0, its index, and the byte offset."""
+"""The same of two JPEGs: the status, the number of the cause, the number of the block's kind or 0, its index, and the byte offset. For a place
+that isn't read the status, 0, 1 if it is in the joined bytes, 0, and the byte offset."""
 
 Number = Union[int, Failure]
 Pair = Union[int, PictureFailure]
@@ -58,7 +59,7 @@ UnreadPlace = Union[Tuple[()], Tuple[int, int], Failure]
 
 
 class Status(enum.IntEnum):
-    """The statuses of the library's calls. Each one but DONE is raised as an exception.
+    """The statuses of the library's calls. Each one but DONE, NOT_READ and SECOND_NOT_READ is raised as an exception.
 
     >>> Status(5).name
     'TOO_LITTLE_ROOM'
@@ -70,6 +71,8 @@ class Status(enum.IntEnum):
     NO_MEMORY = 4
     TOO_LITTLE_ROOM = 5
     SECOND_REFUSED = 6
+    NOT_READ = 7
+    SECOND_NOT_READ = 8
 
 
 _DONE, _REFUSED, _TOO_LITTLE_ROOM = int(Status.DONE), int(Status.REFUSED), int(Status.TOO_LITTLE_ROOM)
@@ -147,7 +150,7 @@ ARGUMENTS = {
     "exifnorm_captions": [*_BLOCK, *_OUT, _FAULT],
     "exifnorm_jpeg_parts": [*_BLOCK, ctypes.POINTER(Part), *_ROOM, _JPEG_FAULT],
     "exifnorm_photoshop_resources": [*_BLOCK, ctypes.POINTER(Resource), *_ROOM],
-    "exifnorm_jpeg_same": [*_BLOCK, *_BLOCK, _NUMBER, _PICTURE_FAULT],
+    "exifnorm_jpeg_same": [*_BLOCK, *_BLOCK, _NUMBER, ctypes.POINTER(Unread), _PICTURE_FAULT],
     "exifnorm_jpeg_blocks": [
         *_BLOCK,
         ctypes.POINTER(Place),
@@ -220,9 +223,11 @@ class ByCtypes:
         return self._rows(self._library.exifnorm_photoshop_resources, octets, most, Resource)
 
     def jpeg_same(self, first: bytes, second: bytes) -> Pair:
-        same, fault = ctypes.c_uint32(), PictureFault()
+        same, unread, fault = ctypes.c_uint32(), Unread(), PictureFault()
         pictures = first, len(first), second, len(second)
-        status = self._library.exifnorm_jpeg_same(*pictures, ctypes.byref(same), ctypes.byref(fault))
+        status = self._library.exifnorm_jpeg_same(*pictures, ctypes.byref(same), ctypes.byref(unread), ctypes.byref(fault))
+        if status in (Status.NOT_READ, Status.SECOND_NOT_READ):
+            return status, 0, unread.joined, 0, unread.start
         return same.value if status == _DONE else (status, fault.cause, fault.kind, fault.number, fault.place)
 
     def jpeg_blocks(self, picture: bytes) -> Places:

@@ -22,7 +22,8 @@ typedef uint32_t (*compare_call)(const unsigned char *, size_t, const unsigned c
 typedef uint32_t (*text_call)(const unsigned char *, size_t, unsigned char *, size_t, size_t *, struct exifnorm_fault *);
 typedef uint32_t (*parts_call)(const unsigned char *, size_t, struct exifnorm_jpeg_part *, size_t, size_t *, struct exifnorm_jpeg_fault *);
 typedef uint32_t (*resources_call)(const unsigned char *, size_t, struct exifnorm_photoshop_resource *, size_t, size_t *);
-typedef uint32_t (*same_call)(const unsigned char *, size_t, const unsigned char *, size_t, uint32_t *, struct exifnorm_picture_fault *);
+typedef uint32_t (*same_call)(const unsigned char *, size_t, const unsigned char *, size_t, uint32_t *, struct exifnorm_jpeg_unread *,
+                              struct exifnorm_picture_fault *);
 
 typedef uint32_t (*blocks_call)(const unsigned char *, size_t, struct exifnorm_jpeg_block *, size_t, unsigned char *, size_t,
                                 struct exifnorm_jpeg_sizes *, struct exifnorm_jpeg_fault *);
@@ -302,6 +303,7 @@ static PyObject *jpeg_same(PyObject *capsule, PyObject *arguments)
 {
     struct calls *calls = PyCapsule_GetPointer(capsule, NULL);
     struct exifnorm_picture_fault fault = {0, 0, 0, 0};
+    struct exifnorm_jpeg_unread unread = {0, 0, 0};
     struct bytes first, second;
     uint32_t status, same = 0;
 
@@ -309,10 +311,13 @@ static PyObject *jpeg_same(PyObject *capsule, PyObject *arguments)
         return NULL;
     }
     Py_BEGIN_ALLOW_THREADS
-    status = calls->jpeg_same(first.start, first.length, second.start, second.length, &same, &fault);
+    status = calls->jpeg_same(first.start, first.length, second.start, second.length, &same, &unread, &fault);
     Py_END_ALLOW_THREADS
     if (status == EXIFNORM_DONE) {
         return PyLong_FromUnsignedLong(same);
+    }
+    if (status == EXIFNORM_NOT_READ || status == EXIFNORM_SECOND_NOT_READ) {
+        return Py_BuildValue("(IIInn)", (unsigned int)status, 0u, (unsigned int)unread.joined, (Py_ssize_t)0, (Py_ssize_t)unread.start);
     }
     return Py_BuildValue("(IIInn)", (unsigned int)status, (unsigned int)fault.cause, (unsigned int)fault.kind, (Py_ssize_t)fault.number,
                          (Py_ssize_t)fault.place);
@@ -374,7 +379,7 @@ static PyMethodDef of_library[] = {
     {"captions", captions, METH_O, "The text with the captions of a block."},
     {"jpeg_parts", jpeg_parts, METH_VARARGS, "The parts of a JPEG's head, at most so many."},
     {"photoshop_resources", photoshop_resources, METH_VARARGS, "Photoshop's image resources, at most so many."},
-    {"jpeg_same", jpeg_same, METH_VARARGS, "1 if two JPEGs have the same Exif and IPTC, else 0."},
+    {"jpeg_same", jpeg_same, METH_VARARGS, "1 if two JPEGs have the same Exif and IPTC, 0 if not, or a place that isn't read."},
     {"jpeg_blocks", jpeg_blocks, METH_O, "Where the blocks of a JPEG are, and the bytes of those in several pieces."},
 };
 #define COUNT ((Py_ssize_t)(sizeof of_library / sizeof of_library[0]))
@@ -481,7 +486,8 @@ static PyMethodDef methods[] = {
      "The functions check, normalise, compare, show, captions, jpeg_parts, photoshop_resources, jpeg_same and jpeg_blocks that call the "
      "library's functions at these nine addresses. Each takes bytes, jpeg_parts and photoshop_resources also the most rows, and returns its result, "
      "or a tuple of the status, the number of the cause and the offset, with jpeg_parts also the rows before the fault, and with jpeg_same "
-     "the kind and the index of the block before the offset."},
+     "the kind and the index of the block before the offset. For a place that isn't read that is the status, 0, whether it is in the joined "
+     "bytes, 0, and the offset."},
     {"normal", (PyCFunction)(void (*)(void))normal, METH_VARARGS | METH_KEYWORDS,
      "normal($module, /, block)\n"
      "--\n\n"

@@ -79,7 +79,7 @@ class Watch:
     """The counts of watched.c."""
 
     CALLS = ("check", "normalise", "compare", "show", "captions", "cause_name", "version", "jpeg_parts", "photoshop_resources", "jpeg_same")
-    CALLS += ("jpeg_blocks",)
+    CALLS += ("jpeg_blocks", "jpeg_unread")
 
     def __init__(self, path):
         self.library = ctypes.CDLL(str(path))

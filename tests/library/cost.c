@@ -35,6 +35,7 @@ static uint32_t called(const char *name, struct block block, void *out, size_t r
     struct exifnorm_fault fault;
     struct exifnorm_jpeg_fault of_head;
     struct exifnorm_picture_fault of_picture;
+    struct exifnorm_jpeg_unread unread;
     uint32_t number;
     if (!strcmp(name, "check"))
         return exifnorm_check(block.bytes, block.length, &number, &fault);
@@ -51,7 +52,9 @@ static uint32_t called(const char *name, struct block block, void *out, size_t r
     if (!strcmp(name, "photoshop_resources"))
         return exifnorm_photoshop_resources(block.bytes, block.length, out, room / sizeof(struct exifnorm_photoshop_resource), written);
     if (!strcmp(name, "jpeg_same"))
-        return exifnorm_jpeg_same(block.bytes, block.length, block.bytes, block.length, &number, &of_picture);
+        return exifnorm_jpeg_same(block.bytes, block.length, block.bytes, block.length, &number, &unread, &of_picture);
+    if (!strcmp(name, "jpeg_unread"))
+        return exifnorm_jpeg_unread(block.bytes, block.length, &unread, &of_head);
     exit(2);
 }
 

@@ -173,6 +173,13 @@ static void try_names(int count, char **names) {
         try_name(at + 1, names[at]);
         REQUIRE(strlen(names[at]) < EXIFNORM_NAME_ROOM);
     }
+    try_name(EXIFNORM_JPEG_NO_START, "JpegNoStart");
+    try_name(EXIFNORM_JPEG_NO_MARKER, "JpegNoMarker");
+    try_name(EXIFNORM_JPEG_LENGTH_FORM, "JpegLength");
+    try_name(EXIFNORM_JPEG_HEAD_CUT, "JpegCut");
+    try_name(EXIFNORM_JPEG_TOO_LONG, "JpegTooLong");
+    try_name(EXIFNORM_JPEG_NO_START - 1, "");
+    try_name(EXIFNORM_JPEG_TOO_LONG + 1, "");
     try_name(0, "");
     try_name(count + 1, "");
     try_name(0xFFFFFFFF, "");

@@ -147,12 +147,12 @@ def test_arguments_of_calls(loaded, wrong):
 @pytest.mark.parametrize(
     "wrong, error",
     [
-        ((0, 1, 1, 1, 1, 1, 1, 1), "ValueError"),
-        ((1, 1, 1, 1, 1, 1, 1, 0), "ValueError"),
-        ((1, 1, 1, 1, 1, 1, 1), "TypeError"),
-        ((1, 1, 1, 1, 1, 1, 1, None), "TypeError"),
-        ((1, 1, 1, 1, 1, 1, 1, 1.5), "TypeError"),
-        ((1, 1, 1, 1, 1, 1, 1, 1 << 70), "OverflowError"),
+        ((0, 1, 1, 1, 1, 1, 1, 1, 1), "ValueError"),
+        ((1, 1, 1, 1, 1, 1, 1, 1, 0), "ValueError"),
+        ((1, 1, 1, 1, 1, 1, 1, 1), "TypeError"),
+        ((1, 1, 1, 1, 1, 1, 1, 1, None), "TypeError"),
+        ((1, 1, 1, 1, 1, 1, 1, 1, 1.5), "TypeError"),
+        ((1, 1, 1, 1, 1, 1, 1, 1, 1 << 70), "OverflowError"),
     ],
 )
 def test_addresses(native, wrong, error):
@@ -237,7 +237,7 @@ def test_memory_after_many_comparisons_of_pictures(loaded, second):
 
 def addresses(loaded):
     """Those of the library's functions, as the extension module takes them."""
-    names = ("check", "normalise", "compare", "show", "captions", *OF_JPEGS, "jpeg_same")
+    names = ("check", "normalise", "compare", "show", "captions", *OF_JPEGS, "jpeg_same", "jpeg_blocks")
     return [ctypes.cast(getattr(loaded._library, f"exifnorm_{it}"), ctypes.c_void_p).value for it in names]
 
 

@@ -137,6 +137,7 @@ def test_python_has_the_same_numbers_and_structs_of_jpegs():
     numbers = numbers_of_jpegs()
     assert {name: number for name, number in numbers.items() if number in kinds.values()} == kinds
     assert sorted(_jpeg.CAUSES) == sorted({*numbers.values()} - {*kinds.values()})
+    assert all(_library.library().cause_name(number) == name for number, name in _jpeg.CAUSES.items())
     structs = {
         "jpeg_part": _library.Part,
         "photoshop_resource": _library.Resource,
@@ -151,7 +152,8 @@ def test_python_has_the_same_numbers_and_structs_of_jpegs():
         f"exifnorm_{name}": [ctypes.sizeof(it), *(getattr(it, field).offset for field, _ in it._fields_)] for name, it in structs.items()
     }
     assert found == dict(structs_of_the_sources())
-    assert (_library.PART.size, _library.RESOURCE.size) == (ctypes.sizeof(_library.Part), ctypes.sizeof(_library.Resource))
+    rows = ((_library.PART, _library.Part), (_library.RESOURCE, _library.Resource), (_library.PLACE, _library.Place))
+    assert [it.size for it, _ in rows] == [ctypes.sizeof(it) for _, it in rows]
 
 
 # The names that ctypes has for the types of the header on this machine.

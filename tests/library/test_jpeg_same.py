@@ -10,17 +10,17 @@ import pytest
 
 import exifnorm
 import jpegs
-from exifnorm import PictureRefused, _library
+from exifnorm import NotRead, PictureRefused, Unread, _library
 from kinds import small_kinds
 from meanings import Record
 from reading import CAUSES, Fault, datasets, exif_block
 from small_blocks import CAPTION, LOOP, ONE, outcome
 
-DONE, REFUSED, NO_MEMORY, SECOND_REFUSED = 0, 2, 4, 6
+DONE, REFUSED, NO_MEMORY, SECOND_REFUSED, NOT_READ, SECOND_NOT_READ = 0, 2, 4, 6, 7, 8
 HEADS = {"JpegNoStart": 101, "JpegNoMarker": 102, "JpegLength": 103, "JpegCut": 104}
 NUMBERS = {name: number for number, name in enumerate(CAUSES, 1)}
 KINDS = ["", "exif", "iim"]
-FAULT, FILLER, UNSET = Struct("IINN"), 0xA5, 0x5EED5EED
+FAULT, UNREAD, FILLER, UNSET = Struct("IINN"), Struct("IIN"), 0xA5, 0x5EED5EED
 SEED, PAIRS = 1, 20_000
 
 START, END = b"\xff\xd8", b"\xff\xd9"
@@ -35,8 +35,8 @@ def segment(marker, data):
     return bytes((0xFF, marker)) + (len(data) + 2).to_bytes(2, "big") + data
 
 
-def resource(number, data):
-    return b"8BIM" + number.to_bytes(2, "big") + b"\0\0" + len(data).to_bytes(4, "big") + data + bytes(len(data) % 2)
+def resource(number, data, signature=b"8BIM"):
+    return signature + number.to_bytes(2, "big") + b"\0\0" + len(data).to_bytes(4, "big") + data + bytes(len(data) % 2)
 
 
 def exif(data):
@@ -66,9 +66,13 @@ def compared(shared):
     def call(first, second):
         same, fault = ctypes.c_uint32(UNSET), ctypes.create_string_buffer(bytes((FILLER,)) * FAULT.size, FAULT.size)
         sizes = ctypes.c_size_t(len(first)), ctypes.c_size_t(len(second))
-        status = library.exifnorm_jpeg_same(first, sizes[0], second, sizes[1], ctypes.byref(same), fault)
+        unread = ctypes.create_string_buffer(bytes((FILLER,)) * UNREAD.size, UNREAD.size)
+        status = library.exifnorm_jpeg_same(first, sizes[0], second, sizes[1], ctypes.byref(same), unread, fault)
         assert (same.value == UNSET) == (status != DONE), "the result"
+        assert (unread.raw == bytes((FILLER,)) * UNREAD.size) == (status not in (NOT_READ, SECOND_NOT_READ)), "the place that isn't read"
         assert (fault.raw == bytes((FILLER,)) * FAULT.size) == (status not in (REFUSED, SECOND_REFUSED)), "the fault"
+        if status in (NOT_READ, SECOND_NOT_READ):
+            return status, UNREAD.unpack(unread.raw)
         return status, same.value if status == DONE else FAULT.unpack(fault.raw) if status != NO_MEMORY else None
 
     return call
@@ -83,6 +87,13 @@ def see(compared, way):
         if isinstance(expected, bool):
             assert found == (DONE, int(expected))
             assert exifnorm.jpeg_same(first, second) is expected
+            return
+        if isinstance(expected, NotRead):
+            side, (joined, start) = expected
+            assert found == (SECOND_NOT_READ if side == 2 else NOT_READ, (1, int(joined), start))
+            assert exifnorm.jpeg_same(first, second) == expected
+            with pytest.raises(TypeError, match=f"JPEG {side} has a part at {start}"):
+                bool(exifnorm.jpeg_same(first, second))
             return
         cause, place, side, kind, index = expected
         number = (NUMBERS if kind else HEADS)[cause]
@@ -114,10 +125,10 @@ SAME = {
         picture(exif(TURNED), iptc(LONG_CAPTION), exif(UPRIGHT), COMMENT, iptc(URN)),
     ),
     "an empty resource is no block": (picture(iptc(b"")), picture()),
-    "XMP and the Exif of Photoshop": (
-        picture(segment(0xE1, XMP + b"<x/>"), photoshop(resource(0x0422, ONE) + resource(0x0424, b"<x/>"))),
-        picture(),
-    ),
+    "XMP": (picture(segment(0xE1, XMP + b"<x/>"), photoshop(resource(0x0424, b"<x/>"))), picture()),
+    "zeros after the resources": (picture(photoshop(resource(0x0404, CAPTION) + bytes(5))), picture(iptc(CAPTION))),
+    "empty resources that aren't read": (picture(photoshop(resource(0x0422, b"") + resource(0x0404, b"", b"AgHg"))), picture()),
+    "an empty APP13, and APP1 without the word": (picture(segment(0xED, b""), segment(0xE1, b"Exif\0")), picture()),
     "what is behind the head": (picture(end=SCAN + exif(ONE)), picture(end=SCAN)),
 }
 DIFFERENT = {
@@ -129,6 +140,25 @@ DIFFERENT = {
     "a caption more": (picture(iptc(CAPTION), COMMENT, iptc(CAPTION)), picture(iptc(CAPTION))),
     "another order of blocks": (picture(exif(ONE), exif(UPRIGHT)), picture(exif(UPRIGHT), exif(ONE))),
     "the second of two": (picture(exif(ONE), exif(ONE)), picture(exif(ONE), exif(UPRIGHT))),
+}
+# A picture, another one that is the same as far as it is read, and the place in the first that isn't read.
+NOT_ALL = {
+    "APP1 with another mark": (picture(segment(0xE1, b"Exif\0\xff" + ONE)), picture(), (False, 6)),
+    "APP1 in capitals": (picture(COMMENT, segment(0xE1, b"EXIF\0\0" + ONE)), picture(), (False, 6 + len(COMMENT))),
+    "APP1 after four bytes": (picture(exif(ONE), segment(0xE1, b"abcdExif\0\0" + ONE)), picture(exif(TURNED)), (False, 6 + len(exif(ONE)))),
+    "APP13 with another mark": (picture(segment(0xED, b"Adobe_Photoshop2.5:" + CAPTION)), picture(), (False, 6)),
+    "Exif of Photoshop": (picture(photoshop(resource(0x0422, ONE))), picture(), (False, 6 + 14 + 12)),
+    "IPTC by another signature": (picture(photoshop(resource(0x0404, CAPTION, b"AgHg"))), picture(iptc(CAPTION)), (False, 6 + 14 + 12)),
+    "what follows the last resource": (
+        picture(photoshop(resource(0x0404, CAPTION) + b"8BIM")),
+        picture(iptc(CAPTION)),
+        (False, 20 + 12 + len(CAPTION) + 1),
+    ),
+    "a resource in two pieces": (
+        picture(photoshop(b"8BIM\4\x22"), photoshop(resource(0x0422, ONE)[6:])),
+        picture(),
+        (True, 12),
+    ),
 }
 # Each with a picture that is whole: the fault's cause and offset, the kind of the block, and how many of its kind are before it.
 FAULTS = {
@@ -154,6 +184,15 @@ FAULTS = {
 def test_the_same(see, first, second):
     for pair in ((first, second), (second, first), (first, first), (second, second)):
         see(*pair, True)
+
+
+@pytest.mark.parametrize("some, all_read, place", NOT_ALL.values(), ids=NOT_ALL)
+def test_the_same_as_far_as_it_is_read(see, some, all_read, place):
+    """The first picture's place comes before that of the second."""
+    for pair, side in (((some, all_read), 1), ((all_read, some), 2), ((some, some), 1)):
+        see(*pair, NotRead(side, Unread(*place)))
+    assert exifnorm.jpeg_unread(some) == place and exifnorm.jpeg_unread(all_read) is None
+    see(some, picture(exif(UPRIGHT), iptc(URN)), False)
 
 
 @pytest.mark.parametrize("first, second", DIFFERENT.values(), ids=DIFFERENT)
@@ -216,12 +255,24 @@ def expected_of(first, second):
                 except Fault as why:
                     return (*why.args, side, kind, index)
         forms.append(meant)
-    return forms[0] == forms[1]
+    place = place_of(first, second)
+    return forms[0] == forms[1] if forms[0] != forms[1] or place is None else place
+
+
+def place_of(first, second):
+    """The first place that isn't read, by the independent reader."""
+    places = [jpegs.unread(it) for it in (first, second)]
+    return next((NotRead(side, Unread(*place)) for side, place in enumerate(places, 1) if place), None)
 
 
 KNOWN = [block for kind in small_kinds() for block in kind.blocks if len(block) < 3000]
 EXIFS = [it for it in KNOWN if it[:1] != b"\x1c"] + [ONE, TURNED, UPRIGHT] * 20 + [LOOP, b""]
 RECORDS = [it for it in KNOWN if it[:1] == b"\x1c"] + [CAPTION, LONG_CAPTION, URN] * 20 + [b"", CAPTION[:-1]]
+
+
+def made_resource(chance):
+    number, signature = chance.choice((0x0404, 0x0404, 0x0404, 0x0422)), chance.choice((b"8BIM",) * 9 + jpegs.SIGNATURES)
+    return resource(number, chance.choice(RECORDS), signature)
 
 
 def made(chance):
@@ -234,7 +285,7 @@ def made(chance):
             at = chance.randrange(4, len(block)) if way == 2 and len(block) > 4 else len(block)
             pieces += [exif(block[:at])] + ([exif(block[at:])] if at < len(block) else [])
         elif way < 6:
-            data = b"".join(resource(chance.choice((0x0404, 0x0404, 0x0422)), chance.choice(RECORDS)) for _ in range(chance.randint(1, 2)))
+            data = b"".join(made_resource(chance) for _ in range(chance.randint(1, 2))) + chance.choice((b"", b"", b"\0\0", b"\0x"))
             at = chance.randrange(len(data)) if way == 5 else len(data)
             pieces += [photoshop(data[:at])] + ([photoshop(data[at:])] if at < len(data) else [])
         else:
@@ -261,6 +312,11 @@ def test_pairs_that_are_made_by_chance(compared):
             assert (status, found) == (DONE, int(expected)), (first.hex(), second.hex())
             met[expected] = met.get(expected, 0) + 1
             continue
+        if isinstance(expected, NotRead):
+            side, (joined, start) = expected
+            assert (status, found) == ((NOT_READ, SECOND_NOT_READ)[side - 1], (1, joined, start)), (first.hex(), second.hex())
+            met["not read", side, joined] = met.get(("not read", side, joined), 0) + 1
+            continue
         cause, place, side, kind, index = expected
         number = (NUMBERS if kind else HEADS)[cause]
         assert (status, found) == ((REFUSED, SECOND_REFUSED)[side - 1], (number, KINDS.index(kind), index, place)), (
@@ -268,7 +324,8 @@ def test_pairs_that_are_made_by_chance(compared):
             second.hex(),
         )
         met[side, kind] = met.get((side, kind), 0) + 1
-    assert min(met.get(it, 0) for it in (True, False, *((side, kind) for side in (1, 2) for kind in KINDS))) > PAIRS // 400, met
+    kinds = (True, False, *((side, kind) for side in (1, 2) for kind in KINDS), *(("not read", side, False) for side in (1, 2)))
+    assert min(met.get(it, 0) for it in kinds) > PAIRS // 400 and met["not read", 1, True], met
 
 
 # ---- the package
@@ -286,7 +343,7 @@ def test_ways_to_give_bytes(way):
 
 
 def test_a_library_that_answers_otherwise(way, monkeypatch):
-    for failure, expected in (((4, 0, 0, 0, 0), "MemoryError"), ((3, 0, 0, 0, 0), "AssertionError"), ((7, 0, 0, 0, 0), "AssertionError")):
+    for failure, expected in (((4, 0, 0, 0, 0), "MemoryError"), ((3, 0, 0, 0, 0), "AssertionError"), ((9, 0, 0, 0, 0), "AssertionError")):
         monkeypatch.setattr(_library.library(), "jpeg_same", lambda *_, it=failure: it)
         assert outcome(exifnorm.jpeg_same, picture(), picture())[0] == expected
     monkeypatch.setattr(_library.library(), "jpeg_same", lambda *_: (6, 105, 0, 0, 0))
@@ -297,3 +354,4 @@ def test_a_library_that_answers_otherwise(way, monkeypatch):
 
 def test_one_call_of_the_library(watch):
     assert watch.of(exifnorm.jpeg_same, picture(exif(ONE)), picture(exif(TURNED))) == {"jpeg_same": 1}
+    assert watch.of(exifnorm.jpeg_unread, picture(exif(ONE))) == {"jpeg_unread": 1}

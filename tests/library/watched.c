@@ -15,8 +15,8 @@
 #include <time.h>
 
 /* How often each call was made: check, normalise, compare, show, captions, cause_name, version, jpeg_parts, photoshop_resources,
- * jpeg_same, jpeg_blocks. */
-unsigned long watched_calls[11];
+ * jpeg_same, jpeg_blocks, jpeg_unread. */
+unsigned long watched_calls[12];
 /* The length of the output of the calls for texts: of the last one, and of all together. */
 unsigned long watched_room, watched_rooms;
 /* The most threads that were inside such a call at once. */
@@ -128,13 +128,15 @@ uint32_t exifnorm_photoshop_resources(const unsigned char *bytes, size_t length,
 }
 
 uint32_t exifnorm_jpeg_same(const unsigned char *first, size_t first_length, const unsigned char *second, size_t second_length, uint32_t *same,
-                            struct exifnorm_picture_fault *fault) {
-    uint32_t (*call)(const unsigned char *, size_t, const unsigned char *, size_t, uint32_t *, struct exifnorm_picture_fault *);
+                            struct exifnorm_jpeg_unread *unread, struct exifnorm_picture_fault *fault) {
+    uint32_t (*call)(const unsigned char *, size_t, const unsigned char *, size_t, uint32_t *, struct exifnorm_jpeg_unread *,
+                     struct exifnorm_picture_fault *);
     uint32_t status;
     count_call(9);
     need(first, second, same, fault);
+    need(unread, unread, unread, unread);
     *(void **)&call = dlsym(right, "exifnorm_jpeg_same");
-    return has_status(&status) ? status : call(first, first_length, second, second_length, same, fault);
+    return has_status(&status) ? status : call(first, first_length, second, second_length, same, unread, fault);
 }
 
 uint32_t exifnorm_jpeg_blocks(const unsigned char *bytes, size_t length, struct exifnorm_jpeg_block *blocks, size_t room, unsigned char *out,
@@ -147,6 +149,15 @@ uint32_t exifnorm_jpeg_blocks(const unsigned char *bytes, size_t length, struct 
     need(fault, fault, fault, fault);
     *(void **)&call = dlsym(right, "exifnorm_jpeg_blocks");
     return has_status(&status) ? status : call(bytes, length, blocks, room, out, out_length, sizes, fault);
+}
+
+uint32_t exifnorm_jpeg_unread(const unsigned char *bytes, size_t length, struct exifnorm_jpeg_unread *unread, struct exifnorm_jpeg_fault *fault) {
+    uint32_t (*call)(const unsigned char *, size_t, struct exifnorm_jpeg_unread *, struct exifnorm_jpeg_fault *);
+    uint32_t status;
+    count_call(11);
+    need(bytes, unread, fault, fault);
+    *(void **)&call = dlsym(right, "exifnorm_jpeg_unread");
+    return has_status(&status) ? status : call(bytes, length, unread, fault);
 }
 
 uint32_t exifnorm_cause_name(uint32_t cause, char *out, size_t room, size_t *written) {

@@ -191,6 +191,7 @@ COMPARED = [
     [app13(resource(0x0404, K + b"\0"), resource(0x0404, L))],
     [app1(A[:-1])],
     [app1(A), app13(resource(0x0404, K + b"x"))],
+    [app1(A), app13(resource(0x0404, K) + b"rest")],
 ]
 
 
@@ -211,9 +212,10 @@ def test_pictures_are_the_same_exactly_if_the_library_says_so(folder):
             assert found - {verdicts.ABSENT, verdicts.SAME, verdicts.DIFFERENT}, "a block is refused"
             expected = None
         else:
-            assert found <= {verdicts.ABSENT, verdicts.SAME} if expected else verdicts.DIFFERENT in found
+            assert verdicts.DIFFERENT in found if expected is False else found <= {verdicts.ABSENT, verdicts.SAME}
+            expected = expected if isinstance(expected, bool) else "not all read"
         met.add(expected)
-    assert met == {True, False, None}
+    assert met == {True, False, None, "not all read"}
 
 
 def test_segments_of_a_coded_picture():

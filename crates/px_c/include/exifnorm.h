@@ -17,7 +17,7 @@
  * For every call:
  *
  *   Pointers   No pointer may be NULL, even if a length is 0. Each must point to as many bytes, or elements, as its length argument
- *              gives. What a call writes to (out, written, kind, same, fault, parts, resources, count) must not overlap any other
+ *              gives. What a call writes to (out, written, kind, same, unread, fault, parts, resources, blocks, sizes, count) must not overlap any other
  *              argument. The two blocks or pictures of a comparison may overlap or be the same, since they are only read.
  *   Ownership  The caller keeps ownership of all arguments. A call keeps no pointer after it returns, and frees what it allocated.
  *   Threads    Calls share nothing and keep no state. Any number of threads may call at once, and may read the same block, if each
@@ -66,7 +66,11 @@ enum {
     EXIFNORM_TOO_LITTLE_ROOM = 5,
     /* The first of two blocks is valid, and the second is refused; or the first fault of two pictures is in the second. fault has
        the cause. */
-    EXIFNORM_SECOND_REFUSED = 6
+    EXIFNORM_SECOND_REFUSED = 6,
+    /* Two pictures are the same as far as they are read, and a part of the first isn't read. unread has its place. */
+    EXIFNORM_NOT_READ = 7,
+    /* The same, and a part of the second isn't read; all of the first is. unread has its place. */
+    EXIFNORM_SECOND_NOT_READ = 8
 };
 
 /* The kinds of block. */
@@ -176,7 +180,8 @@ enum {
     EXIFNORM_JPEG_NO_MARKER = 102,   /* a part doesn't begin with FF, or 0 follows its bytes FF */
     EXIFNORM_JPEG_LENGTH_FORM = 103, /* a segment's length is less than 2 */
     EXIFNORM_JPEG_HEAD_CUT = 104,    /* the bytes end before the head does */
-    EXIFNORM_JPEG_TOO_LONG = 105     /* blocks in several pieces have more than 16 times EXIFNORM_LIMIT bytes; exifnorm_jpeg_same alone */
+    EXIFNORM_JPEG_TOO_LONG = 105     /* blocks in several pieces have more than 16 times EXIFNORM_LIMIT bytes; exifnorm_jpeg_same and
+                                        exifnorm_jpeg_unread alone */
 };
 
 /* A part of a head: a marker, with the data of its segment if it has one. */
@@ -264,27 +269,6 @@ struct exifnorm_picture_fault {
                        offset in it, as exifnorm_check returns it */
 };
 
-/* Compares the Exif and the IPTC of two JPEG pictures: same is 1 if they have as many blocks of Exif and as many of IPTC, and these
- * mean the same, pair by pair, in their order; else 0. So two pictures without metadata are the same. Exif is what the segments APP1
- * contain, and IPTC is Photoshop's resource 0x0404 in segments APP13; one without a byte is no block. XMP, Photoshop's resource 0x0422,
- * pixels, and what follows the head are not looked at. The first bytes of a file may be enough, as for exifnorm_jpeg_parts.
- *
- * So same is 1 if the pictures have the same as far as they are read: other programs may find Exif or IPTC elsewhere. Of a picture in
- * which exifnorm_jpeg_unread finds nothing, all of it is read.
- *
- * Both heads are read first. Then all blocks of the first picture are checked, and then those of the second: in each picture the Exif
- * blocks before the IPTC blocks.
- *
- *   DONE            same is set.
- *   REFUSED         fault is set, and describes the first picture.
- *   SECOND_REFUSED  fault is set, and describes the second picture.
- *   NO_MEMORY       nothing is set.
- */
-uint32_t exifnorm_jpeg_same(const unsigned char *first, size_t first_length,   /* a picture, or its first bytes */
-                            const unsigned char *second, size_t second_length, /* the other picture */
-                            uint32_t *same,                                    /* is set to 1 or 0 */
-                            struct exifnorm_picture_fault *fault);             /* is set to the cause of a refusal */
-
 /* A place in a picture that isn't read. */
 struct exifnorm_jpeg_unread {
     uint32_t found;  /* 1 if there is one, else 0 */
@@ -292,10 +276,35 @@ struct exifnorm_jpeg_unread {
     size_t start;    /* the byte offset */
 };
 
-/* Finds the first place in a picture at which something is that other programs read as metadata, or may, and that exifnorm_jpeg_same
- * doesn't read: a segment APP1 that has "Exif" in any case and a zero among its first nine bytes, but doesn't begin with "Exif" and two
- * zeros; a segment APP13 with any data that doesn't begin with "Photoshop 3.0" and a zero; Photoshop's resource 0x0422 with any data; or
- * what follows the last resource, unless all of it is zeros. Segments come before resources.
+/* Compares the Exif and the IPTC of two JPEG pictures. Two pictures have the same if they have as many blocks of Exif and as many of
+ * IPTC, and these mean the same, pair by pair, in their order. So two pictures without metadata have the same. Exif is what the segments
+ * APP1 contain, and IPTC is Photoshop's resource 0x0404 in segments APP13; one without a byte is no block (docs/FORMAT.md, "The head of a
+ * JPEG"). XMP, pixels, and what follows the head are not compared. The first bytes of a file may be enough, as for exifnorm_jpeg_parts.
+ *
+ * Other programs read Exif and IPTC in more places. If the pictures have the same, and one of them has something in such a place, then
+ * the status is NOT_READ or SECOND_NOT_READ and same is unchanged: they may differ there. exifnorm_jpeg_unread lists these places.
+ *
+ * Both heads are read first. Then all blocks of the first picture are checked, and then those of the second: in each picture the Exif
+ * blocks before the IPTC blocks.
+ *
+ *   DONE             same is set: 1 if the pictures have the same and there is no such place in them, 0 if they don't have the same.
+ *   NOT_READ         they have the same, as far as they are read; unread is the first such place, in the first picture.
+ *   SECOND_NOT_READ  the same; the first picture has no such place, and unread is the first one in the second picture.
+ *   REFUSED          fault is set, and describes the first picture.
+ *   SECOND_REFUSED   fault is set, and describes the second picture.
+ *   NO_MEMORY        nothing is set.
+ */
+uint32_t exifnorm_jpeg_same(const unsigned char *first, size_t first_length,   /* a picture, or its first bytes */
+                            const unsigned char *second, size_t second_length, /* the other picture */
+                            uint32_t *same,                                    /* is set to 1 or 0 */
+                            struct exifnorm_jpeg_unread *unread,               /* is set to the first place that isn't read */
+                            struct exifnorm_picture_fault *fault);             /* is set to the cause of a refusal */
+
+/* Finds the first place in a picture at which something is that other programs read as Exif or IPTC, or may, and exifnorm_jpeg_same
+ * doesn't, or the reverse: a segment APP1 that has "Exif" in any case and a zero among its first nine bytes, but doesn't begin with "Exif"
+ * and two zeros; a segment APP13 with any data that doesn't begin with "Photoshop 3.0" and a zero; Photoshop's resource 0x0422 with any
+ * data; resource 0x0404 with another signature than "8BIM", which only some programs read; or what follows the last resource, unless all
+ * of it is zeros. Segments come before resources.
  *
  *   DONE       unread is set.
  *   REFUSED    fault is set: the bytes have no head, or EXIFNORM_JPEG_TOO_LONG.
@@ -305,7 +314,8 @@ uint32_t exifnorm_jpeg_unread(const unsigned char *bytes, size_t length, /* the 
                               struct exifnorm_jpeg_unread *unread,       /* is set to the place */
                               struct exifnorm_jpeg_fault *fault);        /* is set to the cause of a refusal */
 
-/* Writes the name of a cause, as "Overlap", and a zero byte to the beginning of out. A number that is no cause has the empty name.
+/* Writes the name of a cause, as "Overlap" or "JpegCut", and a zero byte to the beginning of out. A number that is no cause has the
+ * empty name.
  * EXIFNORM_NAME_ROOM bytes are always enough.
  *
  *   DONE             out begins with the name and its zero byte; written counts both.

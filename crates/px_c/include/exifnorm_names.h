@@ -4,7 +4,7 @@
  *         printf("%s:%s\n", exifnorm_field_group(&field), exifnorm_field_name(&field));      IFD0:Artist
  *
  * The names and the groups are those that ExifTool and the command exifnorm-pictures print. All texts are ASCII, are in the program
- * itself, and end with a zero byte. A header alone, for C99 and C++11; a program that doesn't need its 5,763 bytes of texts leaves it out.
+ * itself, and end with a zero byte. A header alone, for C99 and C++11; a program that doesn't need its 5,930 bytes of texts leaves it out.
  */
 #ifndef EXIFNORM_NAMES_H
 #define EXIFNORM_NAMES_H
@@ -144,6 +144,8 @@ static inline const char *exifnorm_status_text(uint32_t status) {
     case EXIFNORM_NO_MEMORY: return "There is not enough memory.";
     case EXIFNORM_TOO_LITTLE_ROOM: return "The output is too short.";
     case EXIFNORM_SECOND_REFUSED: return "The second block or JPEG is refused.";
+    case EXIFNORM_NOT_READ: return "Two JPEGs are the same as far as they were read; a part of the first was not read.";
+    case EXIFNORM_SECOND_NOT_READ: return "Two JPEGs are the same as far as they were read; a part of the second was not read.";
     default: return "";
     }
 }

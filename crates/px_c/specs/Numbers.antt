@@ -1,5 +1,5 @@
 -- The numbers of statuses and kinds in C, and the names of causes by number.
-use Rattle.std.specs.Prelude.{ℕ, List, [], Option, Some, None}
+use Rattle.std.specs.Prelude.{ℕ, List, [], codes, ◌==◌, if◌then◌else◌, Option, Some, None}
 use Rattle.px_bytes.specs.declared.Cause.{Cause}
 use Rattle.px_bytes.specs.Causes.{name_of, cause_of}
 use Rattle.px_engine.specs.declared.kinds.BlockKind.{BlockKind}
@@ -10,8 +10,15 @@ abbrev pub text_of : Option Cause → List ℕ
 text_of (Some c) = name_of c
 text_of None = []
 
-abbrev pub cause_name : ℕ → List ℕ
-cause_name n = text_of (cause_of n)
+-- of a JPEG's head: the numbers are those of `head_cause`, and 105 for too many joined bytes
+unfoldable pub cause_name : ℕ → List ℕ
+cause_name n =
+    if n == 101 then codes "JpegNoStart"
+    else if n == 102 then codes "JpegNoMarker"
+    else if n == 103 then codes "JpegLength"
+    else if n == 104 then codes "JpegCut"
+    else if n == 105 then codes "JpegTooLong"
+    else text_of (cause_of n)
 
 -- ---- kinds
 
@@ -44,3 +51,11 @@ too_little_room = 5
 -- of two blocks, the second has no meaning
 abbrev pub second_refused : ℕ
 second_refused = 6
+
+-- two pictures are the same as far as they are read; the first has a place that isn't read
+abbrev pub not_read : ℕ
+not_read = 7
+
+-- they are the same as far as they are read; the first has no place that isn't read, and the second has one
+abbrev pub second_not_read : ℕ
+second_not_read = 8

@@ -1,15 +1,20 @@
 -- What the comparison of two JPEG pictures returns.
-use Rattle.std.specs.Prelude.{◌≡◌, ◌≤◌, ◌==◌, ℕ, List, Some}
+use Rattle.std.specs.Prelude.{◌≡◌, ◌≤◌, ◌==◌, ℕ, if◌then◌else◌, List, Some}
 use Rattle.px_bytes.specs.Causes.{cause_of}
 use Rattle.px_pictures.specs.declared.faults.BlockKind.{BlockKind}
 use Rattle.px_pictures.specs.declared.faults.BlockKind.TheVariants as kind
 use Rattle.px_pictures.specs.declared.faults.Fault.{Fault}
 use Rattle.px_pictures.specs.declared.faults.Fault.TheVariants.{Head, TooLong, Block, OutOfMemory}
 use Rattle.px_pictures.specs.declared.faults.Side.{Side}
+use Rattle.px_pictures.specs.declared.unread.Unread.{Unread}
 use Rattle.px_pictures.specs.Faults.{IsFaultOf}
-use Rattle.px_pictures.specs.Same.{SaysSameMetadata}
+use Rattle.px_pictures.specs.Same.{IsComparison}
+use Rattle.px_pictures.specs.declared.faults.Comparison.{Comparison}
+use Rattle.px_pictures.specs.declared.faults.Comparison.TheVariants.{Same, Different, NotRead}
 use Rattle.px_c.specs.declared.pictures.ExifnormPictureFault.{ExifnormPictureFault}
+use Rattle.px_c.specs.declared.unread.ExifnormJpegUnread.{ExifnormJpegUnread}
 use Rattle.px_c.specs.Jpeg.{head_cause}
+use Rattle.px_c.specs.Unread.{seen_unread}
 
 -- the numbers of the kinds of block
 abbrev pub block_kind : BlockKind → ℕ
@@ -28,6 +33,15 @@ IsSeenFault OutOfMemory seen = ⊥
 abbrev pub RefusesPicture : Side → List ℕ → List ℕ → ExifnormPictureFault → Type 0
 RefusesPicture side f g seen = (e : Fault) × (refused : ℕ) × IsSeenFault e seen × IsFaultOf side f g refused e
 
--- the blocks of both pictures have meanings: 1 if these are the same, otherwise 0
+-- the comparison with this number: 1 if the pictures are the same, otherwise 0
+abbrev pub answer_of : ℕ → Comparison
+answer_of n = if n == 1 then Same else Different
+
+-- the blocks of both pictures have meanings: 1 if these are the same and there is no place in the pictures that isn't read; 0 if they are
+-- different
 abbrev pub ArePicturesCompared : List ℕ → List ℕ → ℕ → Type 0
-ArePicturesCompared f g n = (n ≤ 1) × SaysSameMetadata f g (n == 1)
+ArePicturesCompared f g n = (n ≤ 1) × IsComparison f g (answer_of n)
+
+-- the meanings are the same, and the picture of this side has this first place that isn't read; if that is the second, the first has none
+abbrev pub LeavesUnread : Side → List ℕ → List ℕ → ExifnormJpegUnread → Type 0
+LeavesUnread side f g seen = (u : Unread) × IsComparison f g (NotRead side u) × (seen ≡ seen_unread (Some u))

@@ -22,7 +22,7 @@ ghost use Rattle.px_c.specs.Blocks.{StoresBlocks, LacksRoomForBlocks, RefusesHea
 ghost use Rattle.px_c.specs.Jpeg.{StoresHead, StoresFront, LacksRoom, StoresResources, LacksRoomForResources};
 ghost use Rattle.px_c.specs.Numbers.{cause_name};
 ghost use Rattle.px_c.specs.Outcomes.{Refuses, PutsText, PutsSaid, IsOfKind, AreCompared};
-ghost use Rattle.px_c.specs.Pictures.{ArePicturesCompared, RefusesPicture};
+ghost use Rattle.px_c.specs.Pictures.{ArePicturesCompared, LeavesUnread, RefusesPicture};
 ghost use Rattle.px_c.specs.Unread.{ShowsUnread, RefusesJoining};
 ghost use Rattle.px_c.specs.Numbers as status;
 
@@ -246,30 +246,38 @@ pub extern "C" fn exifnorm_jpeg_blocks(
     }
 }
 
-/// Stores in `same` whether two pictures have the same Exif and IPTC: 1 if they have as many blocks of each kind, and
-/// these mean the same, pair by pair, in order; otherwise 0. Exif is that of APP1, IPTC that of Photoshop's resource
-/// 0x0404, of which one without a byte is no block. Each picture may be its first bytes, as far as its head goes.
-/// Allocates what `same_metadata_in` of px_pictures does: the blocks in several pieces, and the meanings of two blocks at a time.
+/// Stores in `same` whether two pictures have the same Exif and IPTC: 1 if they have as many blocks of each kind, these
+/// mean the same, pair by pair, in order, and `exifnorm_jpeg_unread` finds nothing in either; 0 if they have not as many,
+/// or one pair doesn't mean the same. Exif is that of APP1, IPTC that of Photoshop's resource 0x0404, of which one
+/// without a byte is no block. Each picture may be its first bytes, as far as its head goes. Allocates what
+/// `compare_metadata_in` of px_pictures does: the blocks in several pieces, and the meanings of two blocks at a time.
 ///
-/// `REFUSED`: `fault` is in the first picture; `SECOND_REFUSED`: in the second. It is the first fault: that of the first
-/// head, then of the second head, then of a block of the first picture, then of the second. `NO_MEMORY`: an allocation
-/// failed. Only success changes `same`, and only a refusal changes `fault`.
+/// `NOT_READ`: what is read is the same, and `unread` is the first place of the first picture that isn't read.
+/// `SECOND_NOT_READ`: there is none in the first, and `unread` is that of the second. `REFUSED`: `fault` is in the first
+/// picture; `SECOND_REFUSED`: in the second. It is the first fault: that of the first head, then of the second head, then
+/// of a block of the first picture, then of the second. `NO_MEMORY`: an allocation failed. Only success changes `same`,
+/// only `NOT_READ` and `SECOND_NOT_READ` change `unread`, and only a refusal changes `fault`.
 #[unsafe(no_mangle)]
 pub extern "C" fn exifnorm_jpeg_same(
     alloc: Global,
     first: &[u8],
     second: &[u8],
     same: &mut u32,
+    unread: &mut ExifnormJpegUnread,
     fault: &mut ExifnormPictureFault,
 ) -> u32
-    ensures known { (result ≡ status.done) ⊎ (result ≡ status.refused) ⊎ (result ≡ status.no_memory) ⊎ (result ≡ status.second_refused) }
+    ensures known { (result ≡ status.done) ⊎ (result ≡ status.refused) ⊎ (result ≡ status.no_memory) ⊎ (result ≡ status.second_refused)
+        ⊎ (result ≡ status.not_read) ⊎ (result ≡ status.second_not_read) }
     ensures done { result ≡ status.done → ArePicturesCompared first.now second.now same.new }
+    ensures left { result ≡ status.not_read → LeavesUnread First first.now second.now unread.new }
+    ensures left_second { result ≡ status.second_not_read → LeavesUnread Second first.now second.now unread.new }
     ensures refused { result ≡ status.refused → RefusesPicture First first.now second.now fault.new }
     ensures second { result ≡ status.second_refused → RefusesPicture Second first.now second.now fault.new }
     ensures same { result ≢ status.done → same.new ≡ same.old }
+    ensures unread { result ≢ status.not_read → result ≢ status.second_not_read → unread.new ≡ unread.old }
     ensures fault { result ≢ status.refused → result ≢ status.second_refused → fault.new ≡ fault.old }
 {
-    jpeg_same_in(&mut Memory::new(alloc), first, second, same, fault)
+    jpeg_same_in(&mut Memory::new(alloc), first, second, same, unread, fault)
 }
 
 /// Stores in `unread` the first place in a picture at which something is that other programs read as metadata, or may,
@@ -320,7 +328,7 @@ pub extern "C" fn exifnorm_photoshop_resources(
     DONE
 }
 
-/// Writes the name of the cause with this number and a zero byte to the start of `out`, and the number of
+/// Writes the name of the cause with this number, of a block or of a JPEG's head, and a zero byte to the start of `out`, and the number of
 /// these bytes to `written`. A number of no cause has the empty name. `TOO_LITTLE_ROOM`: `out` is too short
 /// and unchanged; 20 bytes are always enough. It allocates nothing.
 #[unsafe(no_mangle)]

@@ -8,10 +8,10 @@ ghost use Rattle.px_engine.specs.Files.{Said};
 ghost use Rattle.px_engine.specs.Hand.{PutsForm, IsUnwritten};
 ghost use Rattle.px_engine.specs.Input.{IsSaid};
 ghost use Rattle.px_engine.specs.Prints.{caption_text, listing};
-ghost use Rattle.px_pictures.specs.Asking.{AsksForBoth, join_request};
+ghost use Rattle.px_pictures.specs.Asking.{AsksToCompare, join_request};
 ghost use Rattle.px_pictures.specs.declared.faults.Side.TheVariants.{First, Second};
 ghost use Rattle.px_c.specs.Outcomes.{Refuses, PutsSaid, IsOfKind, AreCompared};
-ghost use Rattle.px_c.specs.Pictures.{ArePicturesCompared, RefusesPicture};
+ghost use Rattle.px_c.specs.Pictures.{ArePicturesCompared, LeavesUnread, RefusesPicture};
 ghost use Rattle.px_c.specs.Unread.{ShowsUnread, RefusesJoining};
 ghost use Rattle.px_c.specs.Numbers as status;
 
@@ -19,11 +19,13 @@ use crate::faults::{ExifnormFault, fault_from};
 use crate::giving::give;
 use crate::jpeg::{ExifnormJpegFault, head_cause};
 use crate::pictures::{ExifnormPictureFault, TOO_LONG as JOINED_TOO_LONG, seen_fault};
-use crate::statuses::{DONE, NO_MEMORY, REFUSED, SECOND_REFUSED, TOO_LITTLE_ROOM, TOO_LONG};
+use crate::statuses::{
+    DONE, NO_MEMORY, NOT_READ, REFUSED, SECOND_NOT_READ, SECOND_REFUSED, TOO_LITTLE_ROOM, TOO_LONG,
+};
 use crate::unread::{ExifnormJpegUnread, seen_unread};
 use px_bytes::Memory;
 use px_engine::{BlockKind, Fault, Given, Side};
-use px_pictures::{Fault as HeadFault, Side as PictureSide};
+use px_pictures::{Comparison, Fault as HeadFault, Side as PictureSide};
 
 // The kind of the block in a file.
 pub(crate) fn check_in(
@@ -210,32 +212,45 @@ pub(crate) fn captions_in(
     }
 }
 
-// Whether two JPEG pictures have the same Exif and IPTC.
+// Whether two JPEG pictures have the same Exif and IPTC, and whether all of it is read.
 pub(crate) fn jpeg_same_in(
     memory: &mut Memory,
     first: &[u8],
     second: &[u8],
     same: &mut u32,
+    unread: &mut ExifnormJpegUnread,
     fault: &mut ExifnormPictureFault,
 ) -> u32
-    ensures known { (result ≡ status.done) ⊎ (result ≡ status.refused) ⊎ (result ≡ status.no_memory) ⊎ (result ≡ status.second_refused) }
+    ensures known { (result ≡ status.done) ⊎ (result ≡ status.refused) ⊎ (result ≡ status.no_memory) ⊎ (result ≡ status.second_refused)
+        ⊎ (result ≡ status.not_read) ⊎ (result ≡ status.second_not_read) }
     ensures done { result ≡ status.done → ArePicturesCompared first.now second.now same.new }
+    ensures left { result ≡ status.not_read → LeavesUnread First first.now second.now unread.new }
+    ensures left_second { result ≡ status.second_not_read → LeavesUnread Second first.now second.now unread.new }
     ensures refused { result ≡ status.refused → RefusesPicture First first.now second.now fault.new }
     ensures second { result ≡ status.second_refused → RefusesPicture Second first.now second.now fault.new }
     ensures same { result ≢ status.done → same.new ≡ same.old }
+    ensures unread { result ≢ status.not_read → result ≢ status.second_not_read → unread.new ≡ unread.old }
     ensures fault { result ≢ status.refused → result ≢ status.second_refused → fault.new ≡ fault.old }
     ensures lacking { result ≡ status.no_memory → memory.new.refusals ≡ memory.old.refusals + 1 }
     ensures memory { result ≢ status.no_memory → memory.new.refusals ≡ memory.old.refusals }
-    ensures asked { AsksForBoth first.now second.now memory.old memory.new }
+    ensures asked { AsksToCompare first.now second.now memory.old memory.new }
 {
-    match px_pictures::same_metadata_in(memory, first, second) {
-        Ok(true) => {
+    match px_pictures::compare_metadata_in(memory, first, second) {
+        Ok(Comparison::Same) => {
             *same = 1;
             DONE
         }
-        Ok(false) => {
+        Ok(Comparison::Different) => {
             *same = 0;
             DONE
+        }
+        Ok(Comparison::NotRead(PictureSide::First, place)) => {
+            *unread = seen_unread(Some(place));
+            NOT_READ
+        }
+        Ok(Comparison::NotRead(PictureSide::Second, place)) => {
+            *unread = seen_unread(Some(place));
+            SECOND_NOT_READ
         }
         Err(e) => match (seen_fault(e.fault), e.side) {
             (None, _) => NO_MEMORY,

@@ -12,3 +12,7 @@ pub const NO_MEMORY: u32 = 4;
 pub const TOO_LITTLE_ROOM: u32 = 5;
 /// The second of two blocks has no meaning.
 pub const SECOND_REFUSED: u32 = 6;
+/// Two pictures are the same as far as they are read, and a part of the first isn't read.
+pub const NOT_READ: u32 = 7;
+/// Two pictures are the same as far as they are read, and a part of the second isn't read; all of the first is.
+pub const SECOND_NOT_READ: u32 = 8;

@@ -1,6 +1,7 @@
 -- What a picture contains beside its blocks that other programs read as metadata, or may: a comparison of blocks doesn't see it.
 use Rattle.std.specs.Prelude.{◌≡◌, ◌+◌, ◌%◌, ◌==◌, ◌&&◌, ◌||◌, ℕ, nat_le, nat_lt, Bool, true, false, if◌then◌else◌}
-use Rattle.std.specs.Prelude.{Option, Some, None, List, [], ◌∷◌, length, drop, slice_index}
+use Rattle.std.specs.Prelude.{Option, Some, None, List, [], ◌∷◌, length, drop, nat_eq, slice_index}
+use Rattle.std.specs.List.{starts_with}
 use Rattle.px_jpeg.specs.declared.HeadPart.{HeadPart}
 use Rattle.px_jpeg.specs.declared.Kind.{Kind}
 use Rattle.px_jpeg.specs.declared.Kind.TheVariants.{Photoshop}
@@ -47,18 +48,14 @@ unread_segment b (h ∷ hs) =
 
 -- ---- resources
 
--- Photoshop's resource 0x0422 has Exif
-abbrev pub has_exif : Resource → Bool
-has_exif r = (r.number == 1058) && nat_lt 0 r.size
+-- the signature '8BIM', which is Adobe's
+unfoldable pub is_adobe : List ℕ → Bool
+is_adobe s = starts_with nat_eq s (56 ∷ 66 ∷ 73 ∷ 77 ∷ [])
 
-abbrev pub unread_resource : List Resource → Option ℕ
-unread_resource [] = None
-unread_resource (r ∷ rs) = if has_exif r then Some r.start else unread_resource rs
-
--- the offset after these resources, and after the byte that pads the last
-abbrev pub end_from : ℕ → List Resource → ℕ
-end_from at [] = at
-end_from at (r ∷ rs) = end_from (r.start + r.size + r.size % 2) rs
+-- Photoshop's resource 0x0422 has Exif, which isn't read; and IPTC by another signature than Adobe's is read by this comparison, and by
+-- some other programs alone. The resource begins with the four bytes s.
+unfoldable pub is_doubtful : List ℕ → Resource → Bool
+is_doubtful s r = ((r.number == 1058) || ((r.number == 1028) && (if is_adobe s then false else true))) && nat_lt 0 r.size
 
 abbrev pub are_zeros : List ℕ → Bool
 are_zeros [] = true
@@ -68,13 +65,15 @@ are_zeros (o ∷ x) = (o == 0) && are_zeros x
 abbrev pub unread_rest : List ℕ → ℕ → Option ℕ
 unread_rest x at = if are_zeros (drop at x) then None else Some at
 
-abbrev pub first_of : Option ℕ → Option ℕ → Option ℕ
-first_of (Some at) other = Some at
-first_of None other = other
+-- the offset of the data of the first doubtful resource, or else of that rest; the resources rs begin at an offset in the bytes x
+abbrev pub unread_from : List ℕ → ℕ → List Resource → Option ℕ
+unread_from x at [] = unread_rest x at
+unread_from x at (r ∷ rs) =
+    if is_doubtful (range x at 4) r then Some r.start else unread_from x (r.start + r.size + r.size % 2) rs
 
 -- the offset in the bytes x of Photoshop's resources at which something is that isn't read
 abbrev pub unread_resources : List ℕ → Option ℕ
-unread_resources x = first_of (unread_resource (resources_of 0 x)) (unread_rest x (end_from 0 (resources_of 0 x)))
+unread_resources x = unread_from x 0 (resources_of 0 x)
 
 -- ---- pictures
 

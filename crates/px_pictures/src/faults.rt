@@ -1,4 +1,5 @@
 // Why pictures are not compared.
+use crate::unread::Unread;
 use px_bytes::Cause;
 use px_jpeg::HeadFault;
 
@@ -40,6 +41,18 @@ pub enum Side {
     First,
     /// The second.
     Second,
+}
+
+/// What a comparison of two pictures says.
+#[derive(Clone, Copy, Debug, PartialEq, Eq)]
+pub enum Comparison {
+    /// They have the same Exif and IPTC, and of both all is read that other programs may read as such.
+    Same,
+    /// Their Exif or IPTC is different.
+    Different,
+    /// The Exif and IPTC that is read is the same, and the picture of this side has this first place that isn't read.
+    /// In the second picture only if there is none in the first.
+    NotRead(Side, Unread),
 }
 
 /// Why two pictures are not compared.

@@ -4,6 +4,7 @@
 
 mod blocks;
 mod compared;
+mod comparison;
 mod faults;
 mod found;
 mod joining;
@@ -17,7 +18,8 @@ mod same;
 mod unread;
 
 pub use blocks::{ExifBlocks, IptcBlocks};
-pub use faults::{BlockKind, Fault, PictureFault, Side};
+pub use comparison::compare_metadata_in;
+pub use faults::{BlockKind, Comparison, Fault, PictureFault, Side};
 pub use found::{Metadata, metadata_of_in};
 pub use places::{BlockPlace, Places, block_count, joined_len, places_of, put_joined};
 pub use same::{same_metadata, same_metadata_in};

@@ -1,12 +1,13 @@
 // What a picture contains beside its blocks that other programs read as metadata, or may.
-ghost use Rattle.std.specs.Prelude.{◌≡◌, ◌<◌, ◌≤◌, if◌then◌else◌, length, None, IfSome, IfOk, IfErr};
+ghost use Rattle.std.specs.Prelude.{◌≡◌, ◌<◌, ◌≤◌, if◌then◌else◌, length, true, None, IfSome, IfOk, IfErr};
 ghost use Rattle.px_bytes.specs.Lacking.{AsksAtMost};
 ghost use Rattle.px_jpeg.specs.Head.{HasHead};
 ghost use Rattle.px_jpeg.specs.Pieces.{range, with_pieces};
 ghost use Rattle.px_pictures.specs.Asking.{join_request};
 ghost use Rattle.px_pictures.specs.Faults.{IsHeadFault, LacksFound};
 ghost use Rattle.px_pictures.specs.Places.{joined_bytes};
-ghost use Rattle.px_pictures.specs.Unread.{is_letter, names_exif, seems_exif, may_tell, unread_segment, unread_resources, are_zeros};
+ghost use Rattle.px_pictures.specs.Unread.{is_letter, names_exif, seems_exif, may_tell, unread_segment, are_zeros};
+ghost use Rattle.px_pictures.specs.Unread.{is_adobe, is_doubtful, unread_rest, unread_resources};
 ghost use Rattle.px_pictures.specs.Unread.{IsUnread, unread_in_block, unread_in_blocks};
 
 use crate::faults::Fault;
@@ -14,9 +15,11 @@ use crate::joining::{join_in, joined_size};
 use crate::places::{BlockPlace, Places, places_of};
 use crate::ranges::range;
 use px_bytes::Memory;
-use px_jpeg::{Head, Kind, find_resources, read_head, with_pieces};
+use px_jpeg::{Head, Kind, Resource, find_resources, read_head, with_pieces};
 
-// The number of the image resource with Exif.
+// The number of the image resource with IPTC's DataSets, and that of the one with Exif.
+const IPTC: usize = 0x0404;
+
 const EXIF: usize = 0x0422;
 
 /// A place in a picture from which on something is not read.
@@ -98,6 +101,35 @@ fn are_zeros(octets: &[u8]) -> bool
     true
 }
 
+// Whether a signature is Adobe's.
+#[tactic(auto, unfolding(crate::specs::Unread::is_adobe))]
+fn is_adobe(signature: &[u8]) -> bool
+    ensures { result ≡ is_adobe signature.now }
+{
+    signature.starts_with(b"8BIM")
+}
+
+// Whether a resource has Exif, which isn't read, or IPTC by another signature than Adobe's.
+#[tactic(auto, unfolding(crate::specs::Unread::is_doubtful))]
+fn is_doubtful(signature: &[u8], resource: &Resource) -> bool
+    ensures value { result ≡ is_doubtful signature.now resource.now }
+    ensures some { result ≡ true → 0 < resource.now.size }
+{
+    (resource.number == EXIF || (resource.number == IPTC && !is_adobe(signature)))
+        && resource.size > 0
+}
+
+// What follows the last resource, unless it is zeros.
+fn unread_rest(octets: &[u8], at: usize) -> Option<usize>
+    ensures value { result ≡ unread_rest octets.now at }
+    ensures within { IfSome result (λ at. at < length octets.now) }
+{
+    if are_zeros(octets.split_at(at.min(octets.len())).1) {
+        return None;
+    }
+    Some(at)
+}
+
 // The offset in Photoshop's resources at which something is that isn't read.
 fn unread_resources(octets: &[u8]) -> Option<usize>
     ensures value { result ≡ unread_resources octets.now }
@@ -106,18 +138,14 @@ fn unread_resources(octets: &[u8]) -> Option<usize>
     let mut left = find_resources(octets);
     let mut at = 0;
     loop {
-        let Some(found) = left.next() else {
-            break;
+        let Some(resource) = left.next() else {
+            return unread_rest(octets, at);
         };
-        if found.number == EXIF && found.size > 0 {
-            return Some(found.start);
+        if is_doubtful(range(octets, at, 4), &resource) {
+            return Some(resource.start);
         }
-        at = found.start + found.size + found.size % 2;
+        at = resource.start + resource.size + resource.size % 2;
     }
-    if are_zeros(octets.split_at(at.min(octets.len())).1) {
-        return None;
-    }
-    Some(at)
 }
 
 // The bytes of which a block is a range.
@@ -180,8 +208,9 @@ fn unread_of(head: &Head, all: &[u8]) -> Option<Unread>
 /// The first place in a picture at which something is that other programs read as metadata, or may, and that
 /// `same_metadata_in` doesn't read. `None`: there is none, so two such pictures are the same exactly if
 /// `same_metadata_in` says so. Such a place is an APP1 segment that seems to be Exif by another mark, an APP13 segment
-/// with another mark than Photoshop's, Photoshop's resource 0x0422, or what follows the last resource, unless that is
-/// zeros. The first of the segments comes first. Allocates what `metadata_of_in` does, and has its faults.
+/// with another mark than Photoshop's, Photoshop's resource 0x0422, resource 0x0404 by another signature than `8BIM`,
+/// which is read here and by some other programs alone, or what follows the last resource, unless that is zeros. The
+/// first of the segments comes first. Allocates what `metadata_of_in` does, and has its faults.
 pub fn unread_in(memory: &mut Memory, bytes: &[u8]) -> Result<Option<Unread>, Fault>
     ensures found { IfOk result (IsUnread bytes.now) }
     ensures fault { IfErr result (IsHeadFault bytes.now memory.new.refusals) }

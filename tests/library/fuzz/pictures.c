@@ -80,7 +80,8 @@ static struct picture made(int which, int is_record, unsigned copies, const unsi
 
 static struct result compared(struct picture one, struct picture two) {
     struct result it = {UNSET, UNSET, NO_FAULT};
-    it.status = exifnorm_jpeg_same(one.bytes, one.length, two.bytes, two.length, &it.same, &it.fault);
+    struct exifnorm_jpeg_unread unread;
+    it.status = exifnorm_jpeg_same(one.bytes, one.length, two.bytes, two.length, &it.same, &unread, &it.fault);
     return it;
 }
 
