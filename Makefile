@@ -8,6 +8,7 @@
 #   make wasm                             the library as WebAssembly, in out/wasm
 #   make npm                              a JavaScript package with it, in out/npm
 #   make c-source                         the library as C source for other machines, in out/c
+#   make sdist                            the Python packages as source, which compile it, in out/sdist
 #   make dist                             an archive of all that install writes, its sums and its components, in out/dist
 #   make release SIGN=KEY                 all packages, the archives and their sums, in out/release; signed if a key is given
 #   make clean                            removes what was built, except the proofs in out/proved
@@ -56,7 +57,7 @@ papers = LICENSE-APACHE LICENSE-MIT CHANGELOG.md $(addprefix docs/,CATALOGUE.md 
 # all that is installed, before it is copied to its folder
 stage = out/stage
 
-.PHONY: all program library check stage install uninstall wheel wasm npm c-source dist release clean help
+.PHONY: all program library check stage install uninstall wheel wasm npm c-source sdist dist release clean help
 .DELETE_ON_ERROR:
 
 all: program library
@@ -167,6 +168,9 @@ npm: wasm
 
 c-source: $(archive)
 	@python3 packaging/c_source.py $(VERSION) $(epoch) out/c
+
+sdist: c-source
+	@python3 packaging/sdist.py out/c/exifnorm-$(VERSION)-c $(epoch) out/sdist
 
 # Everything in one folder that can be unpacked anywhere.
 dist_name = exifnorm-$(VERSION)-$(shell uname -s | tr A-Z a-z)-$(shell uname -m)

@@ -313,8 +313,8 @@ def archive(folder: Path, seconds: int) -> Path:
     """Writes a folder as an archive beside it: the same bytes for the same files."""
     octets = io.BytesIO()
     with tarfile.open(fileobj=octets, mode="w", format=tarfile.GNU_FORMAT) as tar:
-        for file in sorted(folder.iterdir()):
-            member = tarfile.TarInfo(f"{folder.name}/{file.name}")
+        for file in sorted(path for path in folder.rglob("*") if path.is_file()):
+            member = tarfile.TarInfo(str(file.relative_to(folder.parent)))
             member.size, member.mtime, member.mode = file.stat().st_size, seconds, 0o644
             tar.addfile(member, io.BytesIO(file.read_bytes()))
     target = folder.with_name(f"{folder.name}.tar.gz")

@@ -21,10 +21,18 @@ from pathlib import Path
 from typing import Iterator
 
 TOP = Path(__file__).resolve().parent.parent
+sys.dont_write_bytecode = True
+sys.path.insert(0, str(TOP / "build"))
+
+import module
+from crates import Crates
+from prove import NotBuilt
+
 WORK, MADE = TOP / "out" / "releasing", TOP / "out" / "release"
 TOKEN = "OWNER-" + "FILLS-IN"  # marks what only the owner of the repository knows; in two parts, so that it doesn't mark this line
 PYTHON = "/usr/bin/python3"  # that of the packages
 TOOLS = {"dpkg-buildpackage": "dpkg-dev", "dh": "debhelper", "dh_python3": "dh-python", "rt": "the Rattle kit", "git": "git"}
+TOOLS |= {"wasm-opt": "binaryen", "wasm2c": "wabt"}
 KEPT = ("px_cli", "libpx_c.a", "*.made-from")  # of out/proved: with these nothing is proved again
 
 
@@ -95,13 +103,20 @@ def copy_proofs(target: Path) -> None:
             shutil.copy2(it, target)
 
 
+def copy_module(out: Path) -> None:
+    """Copies the library's module, which is not made again without the proved crates below it."""
+    kept = module.kept(Crates.read(TOP))
+    shutil.copytree(kept, out / "module" / kept.name)
+
+
 def build(tree: Path, source: Path) -> list[Path]:
     """Builds everything in a folder with the sources and the proofs. The results, without the archive of the sources."""
-    for words in (["all"], ["dist", f"PYTHON={PYTHON}"], ["wheel", f"PYTHON={PYTHON}"]):
+    for words in (["all"], ["dist", f"PYTHON={PYTHON}"], ["wheel", f"PYTHON={PYTHON}"], ["sdist"]):
         run("make", *words, folder=tree)
     run("dpkg-buildpackage", "-b", "-us", "-uc", folder=tree)
     run("dpkg-source", "-b", source.name, folder=source.parent)
     from_make = [*(tree / "out/dist").glob("exifnorm-*"), *(tree / "out/wheel").glob("*.whl")]
+    from_make += [*(tree / "out/c").glob("*.tar.gz"), *(tree / "out/sdist").glob("*.tar.gz")]
     return [*from_make, *tree.parent.glob("*.deb"), *source.parent.glob("*.dsc"), *source.parent.glob("*.debian.tar.*")]
 
 
@@ -129,6 +144,7 @@ def release(version: str, seconds: int, key: str) -> None:
     archive_sources(sources_archive, root, seconds)
     unpack(sources_archive, WORK / "build")
     copy_proofs(WORK / "build" / root / "out" / "proved")
+    copy_module(WORK / "build" / root / "out")
     unpack(sources_archive, WORK / "source")
     shutil.copy2(sources_archive, WORK / "source")
     for it in build(WORK / "build" / root, WORK / "source" / root):
@@ -150,7 +166,7 @@ def main(words: list[str]) -> int:
         with open(WORK.with_suffix(".lock"), "wb") as lock:
             fcntl.flock(lock, fcntl.LOCK_EX)  # another run uses the same folder, so it is waited for
             release(words[0], int(words[1]), "".join(words[2:]))
-    except (Failed, OSError, subprocess.SubprocessError) as why:
+    except (Failed, NotBuilt, OSError, subprocess.SubprocessError) as why:
         print(f"release: {why}", file=sys.stderr)
         return 1
     print(f"release: {MADE.relative_to(TOP)} has {len(list(MADE.iterdir()))} files; its README says which is for whom")

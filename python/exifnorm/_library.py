@@ -23,6 +23,7 @@ import ctypes
 import enum
 import functools
 import importlib
+import importlib.util
 import os
 from struct import Struct
 from typing import Any, Callable, Dict, Iterator, List, Tuple, Type, Union
@@ -338,13 +339,16 @@ def _opened(place: str) -> ctypes.CDLL:
 
 
 def places() -> Iterator[str]:
-    """The files to load the library from: only the file of EXIFNORM_LIBRARY if that is set; otherwise the one beside these
-    modules, and then the one that the system's loader finds."""
+    """The files to load the library from: only the file of EXIFNORM_LIBRARY if that is set; otherwise the one beside these modules, the
+    one that was compiled from C source when the package was installed, and the one that the system's loader finds."""
     named = os.environ.get("EXIFNORM_LIBRARY")
     if named:
         yield named
         return
     yield os.path.join(os.path.dirname(os.path.abspath(__file__)), NAME)
+    compiled = importlib.util.find_spec("exifnorm._in_c")
+    if compiled and compiled.origin:
+        yield compiled.origin
     yield NAME
 
 

@@ -12,8 +12,10 @@ from pathlib import Path
 
 import pytest
 
+import module
 import next_steps
 import release
+from crates import Crates
 
 TOP = Path(__file__).resolve().parents[2]
 
@@ -54,6 +56,8 @@ def clone(folder):
     for pattern in release.KEPT:
         for it in (TOP / "out/proved").glob(pattern):
             shutil.copy2(it, folder / "out/proved")
+    kept = module.kept(Crates.read(TOP))
+    shutil.copytree(kept, folder / "out/module" / kept.name)
     run("git", "init", "-q", cwd=folder)
     run("git", "add", "-A", cwd=folder)
     return folder
@@ -119,7 +123,7 @@ def test_two_runs_in_different_folders_write_the_same_bytes(releases):
 
 def test_it_has_each_form_and_the_sums(made):
     assert sorted(it.name.partition("_")[0] for it in made.glob("*.deb")) == sorted(DEBS)
-    for pattern in ("*.whl", "*-linux-*.tar.gz", "*.orig.tar.gz", "*.dsc", "*.debian.tar.*", "*.spdx.json", "README"):
+    for pattern in ("*.whl", "*-linux-*.tar.gz", "*.orig.tar.gz", "*.dsc", "*.debian.tar.*", "*.spdx.json", "*-c.tar.gz", "README"):
         one(made, pattern)
     run("sha256sum", "--check", "--strict", "SHA256SUMS", cwd=made)
     assert len((made / "SHA256SUMS").read_text().splitlines()) == len(list(made.iterdir())) - 1
@@ -168,6 +172,17 @@ def test_the_wheel_is_used_in_a_venv(made, tmp_path):
     uses(None, tmp_path / "venv/bin/exifnorm-pictures", TOP)
     said = run(tmp_path / "venv/bin/python", "-c", "import exifnorm; print(exifnorm.version())", env=environment(), cwd=tmp_path)
     assert re.match(r"\d+\.\d+\.\d+$", said)
+
+
+def test_pip_compiles_the_source_distribution(made, tmp_path):
+    """Without the kit and without another library, with any C compiler."""
+    version = re.search(r"(?m)^version = .(.*).$", (TOP / "python/pyproject.toml").read_text())[1]
+    run(PYTHON, "-m", "venv", "--without-pip", "--system-site-packages", tmp_path / "venv")
+    words = ["--no-index", "--no-deps", "--no-build-isolation", "--disable-pip-version-check", made / f"exifnorm-{version}.tar.gz"]
+    run(PYTHON, "-m", "pip", "--python", tmp_path / "venv/bin/python", "install", *words, env=environment(CFLAGS="-O0"))
+    uses(None, tmp_path / "venv/bin/exifnorm-pictures", TOP)
+    said = run(tmp_path / "venv/bin/python", "-c", "import exifnorm; print(exifnorm.version())", env=environment(), cwd=tmp_path)
+    assert said == f"{version} (C)\n"
 
 
 def test_the_wheel_has_a_description_and_extras(made, tmp_path):
@@ -260,6 +275,7 @@ def small(tmp_path, monkeypatch):
         return sorted((tree / "out").glob("a*"))
 
     monkeypatch.setattr(release, "build", built)
+    monkeypatch.setattr(release, "copy_module", lambda out: None)
     return top
 
 
