@@ -18,6 +18,7 @@ from .fields import labels, listing, plain_values, typed
 from .fields.block_fields import fields_of
 from .fields.plain_names import exact_key, group_name
 from .files import opening
+from .files.session import Session
 from .judge.judge import judge_all
 from .judge.reading import Reading
 from .model.budgets import Budget, TooMuch
@@ -476,7 +477,7 @@ def read_bytes(data: bytes, *, name: str = "", whole: bool = False) -> Picture:
     return _read_bytes(data, name, whole, False)
 
 
-def _read(source: Source, whole: bool, pixels: bool) -> Picture:
+def _read(source: Source, whole: bool, pixels: bool, session: Optional[Session] = None) -> Picture:
     if not isinstance(source, (str, bytes, os.PathLike)):
         if not hasattr(source, "read"):
             raise TypeError(f"a path or a binary file is expected, not {type(source).__name__}; of bytes read_bytes reads a picture")
@@ -484,7 +485,7 @@ def _read(source: Source, whole: bool, pixels: bool) -> Picture:
     path = os.fsencode(source)
     number, size = opening.opened(path)
     stamp = Stamp.of(os.fstat(number))
-    return _picture(File(number, size, Budget(whole)), path, os.fsdecode(path), whole, stamp)
+    return _picture(File(number, size, Budget(whole)), path, os.fsdecode(path), whole, stamp, session)
 
 
 def _read_bytes(data: bytes, name: str, whole: bool, pixels: bool) -> Picture:
@@ -507,9 +508,11 @@ def _digests_of_file(path: bytes) -> Optional[_Digests]:
         return None
 
 
-def _picture(file: Union[File, Memory], path: bytes, name: str, whole: bool, stamp: Optional[Stamp]) -> Picture:
+def _picture(
+    file: Union[File, Memory], path: bytes, name: str, whole: bool, stamp: Optional[Stamp], session: Optional[Session] = None
+) -> Picture:
     try:
-        blocks = extraction.blocks_in(file, path or os.fsencode(name), whole)
+        blocks = extraction.blocks_in(file, path or os.fsencode(name), whole, session)
         if blocks.problem:
             raise _error(blocks, name)
         return Picture(name, Reading(os.fsencode(name), blocks, judge_all(blocks)), path, stamp)
@@ -592,7 +595,8 @@ def compare(before: Union[Picture, Source], after: Union[Picture, Source], *, as
     records = one._whole_record(), other._whole_record()
     if records[0].sha256 and records[0].sha256 == records[1].sha256:
         return Comparison(True, SAME, "the two files are identical, byte for byte", (), coded.SAME)
-    found = two_pictures.compared_records(*records, ask_exiftool and bool(one._path and other._path))
+    with Session() as session:
+        found = two_pictures.compared_records(*records, session if ask_exiftool and one._path and other._path else None)
     differences = tuple(_difference(it) for it in found.changes)
     return Comparison(changed.decided(found.result), found.result, found.note, differences, found.picture)
 

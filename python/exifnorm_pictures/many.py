@@ -12,7 +12,8 @@ from typing import Deque, Iterable, Iterator, List, Optional, Sequence, Tuple, U
 
 from exifnorm import LibraryMissing
 
-from .api import NoPicture, NotReadable, PathLike, Picture, read
+from .api import NoPicture, NotReadable, PathLike, Picture, _read
+from .files.session import Session
 
 CHUNK = 8  # pictures that a process gets at once
 AHEAD = 4  # such chunks of each process that are given out before the first result is taken
@@ -34,13 +35,14 @@ def read_all(paths: Iterable[PathLike], *, jobs: Optional[int] = None) -> Iterat
 
 
 def _here(paths: Iterable[PathLike]) -> Iterator[Tuple[PathLike, Result]]:
-    for path in paths:
-        yield path, _result(path)
+    with Session() as session:
+        for path in paths:
+            yield path, _result(path, session)
 
 
-def _result(path: PathLike) -> Result:
+def _result(path: PathLike, session: Session) -> Result:
     try:
-        return read(path)
+        return _read(path, False, False, session)
     except LibraryMissing:  # an OSError too, but not of this file
         raise
     except (OSError, NoPicture, NotReadable) as error:
@@ -50,7 +52,8 @@ def _result(path: PathLike) -> Result:
 
 
 def _results(paths: Sequence[PathLike]) -> List[Result]:
-    return [_result(path) for path in paths]
+    with Session() as session:  # one ExifTool for all of them, if they need it
+        return [_result(path, session) for path in paths]
 
 
 class _Task:

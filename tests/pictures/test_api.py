@@ -295,14 +295,14 @@ def test_a_process_that_dies_ends_nothing(tmp_path, monkeypatch):
     paths = [tmp_path / f"{number:03}.jpg" for number in range(40)]
     for path in paths:
         path.write_bytes((BEFORE / BOWL).read_bytes())
-    parent, read = os.getpid(), many.read
+    parent, read = os.getpid(), many._read
 
-    def dies(path):
+    def dies(path, *more):
         if path in (paths[11], paths[30]) and os.getpid() != parent:
             os._exit(1)
-        return read(path)
+        return read(path, *more)
 
-    monkeypatch.setattr(many, "read", dies)
+    monkeypatch.setattr(many, "_read", dies)
     results = list(pictures.read_all(paths, jobs=2))
     assert [path for path, _ in results] == paths
     died = [path for path, found in results if isinstance(found, pictures.NotReadable)]

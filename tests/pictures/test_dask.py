@@ -16,7 +16,6 @@ from made_blocks import MAKE, block, with_exif
 from studio import SMALL_JPEG, Studio, WithPictures, interpreter_with, needs, run, write
 
 from exifnorm_pictures.extract import programs
-from exifnorm_pictures.files import session
 from exifnorm_pictures.model.records import Picture, Stamp
 from exifnorm_pictures.scan import cluster
 from exifnorm_pictures.scan.batches import How
@@ -233,12 +232,16 @@ class Tasks(unittest.TestCase):
 
     def looked(self, near, work, elsewhere=None, seconds=60.0):
         """The results for some files, each looked at as if it were a GIF."""
+
+        def look(it, how, session):
+            self.seconds = session.seconds
+            return Picture.of(it.path, it.root, it.stamp, "GIF" if how.whole else "JPEG")
+
         with mock.patch.multiple(cluster, create=True, distributed=near, KilledWorker=Killed, CommClosedError=Closed), mock.patch.object(
-            cluster.looking, "look", lambda it, whole: Picture.of(it.path, it.root, it.stamp, "GIF" if whole else "JPEG")
-        ), session.Session(1.0) as now:
+            cluster.looking, "look", look
+        ):
             looker = cluster.looker(FAR, elsewhere, [b"/"])
             result = list(looker(work, How(seconds=seconds, room="/tmp/room", whole=True)))
-        self.seconds = now.seconds
         return result
 
     def test_tasks_have_pictures_of_one_folder(self):

@@ -23,6 +23,7 @@ from exifnorm import _jpeg
 from exifnorm_pictures.extract import coded_picture, extraction
 from exifnorm_pictures.extract.formats import jpeg as jpeg_
 from exifnorm_pictures.judge import judge
+from exifnorm_pictures.files.session import Session
 from exifnorm_pictures.model import verdicts
 from exifnorm_pictures.model.budgets import Budget
 from exifnorm_pictures.model.found import EXIF, IPTC, Blocks, Broken
@@ -321,7 +322,7 @@ def test_a_fault_of_the_library_is_none_of_the_picture(monkeypatch, folder, call
     (folder / "a.jpg").write_bytes(jpeg(app1(A), app13(resource(0x0404, K))))
     library = Failing(call, outcome)
     monkeypatch.setattr(_jpeg, "library", lambda: library)
-    found = looking.look(FoundFile(path, os.fsencode(folder), None), How())
+    found = looking.look(FoundFile(path, os.fsencode(folder), None), How(), Session())
     assert (found.problem, found.blocks) == ("InternalError", ())
 
 

@@ -206,12 +206,20 @@ def basis_by(found):
     return "maker note" if reads and only_notes and found["result"] in BY_NOTES else None
 
 
+class Shared(session.Session):
+    """A session that goes on after a command."""
+
+    def close(self):
+        pass
+
+
 @pytest.fixture
 def one_exiftool(folder, monkeypatch):
     """One ExifTool for all commands of a test: each would start its own."""
-    with session.Session(room=str(folder / "room")) as one:
-        monkeypatch.setattr(exiftool, "current", lambda: one)
-        yield
+    shared = Shared(room=str(folder))
+    monkeypatch.setattr(main, "Session", lambda: shared)
+    yield
+    session.Session.close(shared)
 
 
 @needs("exiftool")

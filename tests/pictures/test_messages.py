@@ -318,12 +318,11 @@ class Messages(WithPictures):
         self.assertEqual(
             self.raised(programs.Failed, programs.start, [self.path("nothing")]), "nothing can't be started: no such file or directory"
         )
-        with mock.patch.object(session.current(), "seconds", 0.05):
-            self.assertEqual(
-                self.raised(programs.Failed, programs.run, [shutil.which("sleep"), "60"]), "sleep took longer than 0.05 seconds"
-            )
-            words = [shutil.which("sh"), "-c", "exec >&-; exec sleep 60"]  # it ends its output, but not itself
-            self.assertEqual(self.raised(programs.Failed, programs.run, words), "sh took longer than 0.05 seconds")
+        self.assertEqual(
+            self.raised(programs.Failed, programs.run, [shutil.which("sleep"), "60"], 0.05), "sleep took longer than 0.05 seconds"
+        )
+        words = [shutil.which("sh"), "-c", "exec >&-; exec sleep 60"]  # it ends its output, but not itself
+        self.assertEqual(self.raised(programs.Failed, programs.run, words, 0.05), "sh took longer than 0.05 seconds")
         with mock.patch.object(workers, "ProcessPoolExecutor", mock.Mock(side_effect=OSError(11, "Resource temporarily unavailable"))):
             self.assertEqual(
                 self.raised(programs.Failed, workers._pool, How(), 2),
@@ -364,11 +363,11 @@ class Messages(WithPictures):
             write(self.path("exiftool"), f"#!/bin/sh\nread line\n{script}\n".encode())
             os.chmod(self.path("exiftool"), 0o755)
             with mock.patch.object(programs, "needed", lambda _: self.path("exiftool")):
-                it = exiftool.Process(self.path("room"))
+                it = exiftool.Process(self.path("room"), 60.0)
                 self.assertEqual(self.raised(programs.Failed, it.ask, [b"a"], [], ()), text)
                 it.close()
         with mock.patch.object(programs, "needed", lambda _: shutil.which("true")):
-            it = exiftool.Process(self.path("room"))
+            it = exiftool.Process(self.path("room"), 60.0)
             it.process.wait()
             self.assertEqual(self.raised(programs.Failed, it.ask, [b"a"], ["x" * 100_000], ()), "ExifTool ended before it was asked")
             it.close()
@@ -386,7 +385,7 @@ class Messages(WithPictures):
             ),
         ):
             with mock.patch.object(looking.extraction, "blocks_of", mock.Mock(side_effect=why)):
-                self.assertEqual(looking.look(found, How()), expected)
+                self.assertEqual(looking.look(found, How(), session.Session()), expected)
         self.assertEqual(
             self.raised(OSError, opening.opened, os.fsencode(self.folder)),
             f"[Errno 22] it is no regular file: {os.fsencode(self.folder)!r}",

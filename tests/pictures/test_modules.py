@@ -190,7 +190,7 @@ class Extracted(WithPictures):
         answer = {"SourceFile": "a", "A:FileType": "GIF", "A:MIMEType": "image/gif"}
         with mock.patch.object(exiftool, "ask", lambda *_: answer), mock.patch.object(exiftool, "WHOLE_FILE", 3):
             for octets, whole, is_known in ((b"abc", False, True), (b"abcd", False, False), (b"abcd", True, True)):
-                found = exiftool.by_others(b"a", io.BytesIO(octets), whole, "")
+                found = exiftool.by_others(session.Session(), b"a", io.BytesIO(octets), whole, "")
                 expected = hashlib.sha256(octets).hexdigest() if is_known else ""
                 self.assertEqual([(it.what, it.digest) for it in found.not_read], [(mock.ANY, expected)])
 
@@ -207,13 +207,13 @@ class Extracted(WithPictures):
         self.assertEqual([(it["kind"], it["name"]) for it in found["blocks"]], [("xmp", "XMP"), ("xmp", "second XMP")])
 
     def test_an_output_without_end(self):
-        with mock.patch.object(programs, "OUTPUT", 100_000), mock.patch.object(session.current(), "seconds", 10.0):
+        with mock.patch.object(programs, "OUTPUT", 100_000):
             with self.assertRaisesRegex(programs.Failed, "^yes wrote more than 100,000 bytes about one file$"):
-                programs.run([shutil.which("yes")])
+                programs.run([shutil.which("yes")], 10.0)
         with mock.patch.object(programs, "OUTPUT", 100):
-            self.assertEqual(programs.run(["head", "-c", "100", "/dev/zero"]).stdout, bytes(100))
+            self.assertEqual(programs.run(["head", "-c", "100", "/dev/zero"], 10.0).stdout, bytes(100))
             with self.assertRaisesRegex(programs.Failed, "^head wrote more than 100 bytes about one file$"):
-                programs.run(["head", "-c", "101", "/dev/zero"])
+                programs.run(["head", "-c", "101", "/dev/zero"], 10.0)
 
     def test_a_damaged_chunk(self):
         good = png(chunk(b"eXIf", exif(b"Abc")))
@@ -368,9 +368,9 @@ class Mended(WithPictures):
         """Offsets, padding and the digest of the record are no values of a picture."""
         lines = b"[IFD0] Make : Abc\n[IFD0] StripOffsets : 8\n[ExifIFD] Padding : 1\n[Photoshop] IPTCDigest : 00ff\n[IFD1] Make  :  Abc\n"
         with mock.patch.object(programs, "exiftool", lambda *words: list(words)), mock.patch.object(
-            programs, "run", lambda _: programs.Done(0, lines)
+            programs, "run", lambda *_: programs.Done(0, lines)
         ):
-            self.assertEqual(sorted(mend._printed("a")), ["[IFD0] Make : Abc", "[IFD1] Make : Abc"])
+            self.assertEqual(sorted(mend._printed(session.Session(), "a")), ["[IFD0] Make : Abc", "[IFD1] Make : Abc"])
 
     def test_statuses(self):
         """Those of `mend --help`; the greatest counts."""
@@ -382,7 +382,7 @@ class Mended(WithPictures):
             "none": (mend.Mended("none", {}), 2),
             "problem": (mend.Mended("none", {}, problem="NoPicture"), 2),
         }
-        asked = argparse.Namespace(json=False, files_from=None, catalogue=None, lossless=False)
+        asked = argparse.Namespace(json=False, files_from=None, catalogue=None, lossless=False, session=None)
         for name, (found, status) in ends.items():
             with mock.patch.object(mend, "mend", lambda *_, found=found: found), contextlib.redirect_stdout(io.StringIO()):
                 self.assertEqual(mend_cli._mend_one(asked, b"a", b"b")[0], status, name)
@@ -396,5 +396,5 @@ class Mended(WithPictures):
         os.symlink("nowhere", self.path("out.jpg"))
         with mock.patch.object(programs, "needed", lambda _: ""), mock.patch.object(mend, "blocks_of", lambda _: self.fail("it is read")):
             with self.assertRaisesRegex(mend.NotWritten, "there already"):
-                mend.mend(os.fsencode(self.path("a.jpg")), os.fsencode(self.path("out.jpg")), self.folder)
+                mend.mend(os.fsencode(self.path("a.jpg")), os.fsencode(self.path("out.jpg")), session.Session(room=self.folder))
         self.assertEqual((os.readlink(self.path("out.jpg")), read(self.path("a.jpg"))), ("nowhere", b""))

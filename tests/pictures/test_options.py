@@ -8,6 +8,7 @@ from made_files import A, app1, jpeg
 from studio import TOP
 
 from exifnorm_pictures.cli import parser
+from exifnorm_pictures.files.session import Session
 
 BOWL, PHONE = f"{TOP}/samples/before/ceramics/2003-12-bowl.jpg", f"{TOP}/samples/before/arrivals/IMG_20240502.jpg"
 LISTED = ("--files-from", "list", "-0")
@@ -56,6 +57,7 @@ def test_each_option_is_looked_at(command, archive, capsys):
     """An option that no statement looks at would be accepted and have no effect. `main` itself looks at --debug, --limit and --xlsx."""
     arguments = parser.parsers()[0].parse_args([command, *COMMANDS[command]], Recorded())
     accepted = set(vars(arguments)) - {"read", "command", "version", "debug", "limit", "xlsx"}
+    arguments.session = Session()
     arguments.read.clear()
     importlib.import_module(f"exifnorm_pictures.cli.{command}").run(arguments)
     assert accepted <= arguments.read, "an option of this command is never looked at"

@@ -4,7 +4,6 @@ import hashlib
 import io
 import os
 import unittest
-from types import SimpleNamespace
 from unittest import mock
 
 from made_files import app1, app13
@@ -12,6 +11,7 @@ from studio import WithPictures, write
 
 from exifnorm_pictures.extract import exiftool, programs, readers
 from exifnorm_pictures.extract.formats import bigtiff, tiff
+from exifnorm_pictures.files.session import Session
 from exifnorm_pictures.model.found import PROBLEMS, Blocks, NotRead
 
 ASKED = ("-EXIF:Exif", "-IPTC:IPTC", "-XMP:XMP", "-FileType#", "-MIMEType#", "-Error#")
@@ -81,14 +81,15 @@ class Files(WithPictures):
         self.asked, answers = [], list(answers)
         os.makedirs(self.path("room"), exist_ok=True)
 
-        def ask(path, words):
+        def ask(_, path, words):
             self.asked.append((path, words))
             return answers.pop(0)
 
-        with mock.patch.multiple(exiftool, ask=ask, current=lambda: SimpleNamespace(folder=lambda: self.path("room"))), mock.patch.multiple(
+        with mock.patch.object(exiftool, "ask", ask), mock.patch.multiple(
             programs, is_there=lambda it: has_exiv2 and it == "exiv2", needed=lambda it: f"/bin/{it}", run=run or self.fail
         ):
-            return exiftool.by_others(b"a.x", io.BytesIO(octets), whole, why)
+            self.session = Session(room=self.path("room"))
+            return exiftool.by_others(self.session, b"a.x", io.BytesIO(octets), whole, why)
 
     def test_what_is_not_extracted(self):
         answer = {"FileType": "GIF", "MIMEType": "image/gif", "XMP": "<x>"}
@@ -112,15 +113,15 @@ class Files(WithPictures):
         """exiv2 extracts their Exif block into a file of its own form."""
         calls = []
 
-        def run(words, folder):
+        def run(words, _, folder):
             calls.append((words, folder, os.readlink(words[-1]), os.listdir(folder)))
             write(os.path.join(folder, "picture.exv"), b"\xff\1Exiv2" + app1(b"MM*") + app13(b"other") + b"\xff\xd9")
 
-        folder = self.path("room", "exiv2")
         for kind in RAW:
             calls.clear()
-            link = os.path.join(folder, f"picture.{kind.lower()}")
             found = self.read([{"FileType": kind, "MIMEType": "image/x"}], run=run)
+            folder = os.path.join(self.session.folder(), "exiv2")
+            link = os.path.join(folder, f"picture.{kind.lower()}")
             self.assertEqual(
                 calls, [(["/bin/exiv2", "-q", "-ee", "-l", folder, link], folder, os.path.abspath("a.x"), [os.path.basename(link)])]
             )
@@ -137,7 +138,7 @@ class Files(WithPictures):
         found = self.read([answer], run=lambda *_: None)
         self.assertEqual((found.problem, found.detail, found.found), failed)
         for octets in (b"", b"\xff\1Exiv2", b"\xff\1Exiv2" + app13(b"other") + b"\xff\xd9", b"\xff\1Exiv2\xff\xe1\xff\xffExif\0\0MM"):
-            found = self.read([answer], run=lambda words, folder: write(os.path.join(folder, "picture.exv"), octets))
+            found = self.read([answer], run=lambda words, _, folder: write(os.path.join(folder, "picture.exv"), octets))
             self.assertEqual((found.problem, found.detail, found.found), failed, octets)
         found = self.read([answer], has_exiv2=False)
         self.assertEqual((found.problem, found.detail, found.found), ("NeedsExiv2", PROBLEMS["NeedsExiv2"], []))
@@ -150,11 +151,11 @@ class Files(WithPictures):
             blocks = Blocks(type="JPEG")
             blocks.add("iim", b"known", "APP13 segment at 2")
             with mock.patch.object(exiftool, "ask", ask):
-                exiftool.add_trailers(blocks, b"a.jpg")
+                exiftool.add_trailers(Session(), blocks, b"a.jpg")
             return blocks
 
         calls = []
-        blocks = added(lambda *words: calls.append(words) or answer)
+        blocks = added(lambda _, *words: calls.append(words) or answer)
         self.assertEqual(calls, [(b"a.jpg", ASKED)])
         self.assertEqual(
             seen(blocks),

@@ -26,7 +26,7 @@ def made(found):
         return report.page(found, 'Pictures & "more"').replace(STYLE, "STYLE")
 
 
-def small_pictures(paths):
+def small_pictures(paths, _):
     return {it: "data:image/png;base64,AAAA" for it in paths if it == b"/p/one.jpg"}
 
 

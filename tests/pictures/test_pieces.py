@@ -318,7 +318,7 @@ class Work(WithPictures):
         found = [FoundFile(b"/%d" % it, b"/", None) for it in range(4)]
         times = iter([0.0, 1.9, 2.0, 2.1])
         with mock.patch.object(
-            workers, "look", lambda it, how: Picture.of(it.path, it.root, problem="NoPicture" if how.whole else "Vanished")
+            workers, "_look", lambda it, how: Picture.of(it.path, it.root, problem="NoPicture" if how.whole else "Vanished")
         ), mock.patch.object(workers.time, "monotonic", lambda: next(times)):
             it = workers.look_at_some(workers.Task(found, self.path("rows")), batches.How(whole=True))
         self.assertEqual((it.file, it.states, it.lines, it.unread, it.left), (self.path("rows"), {"NoPicture": 3}, [], [], found[3:]))
@@ -434,9 +434,9 @@ class Sessions(WithPictures):
             b'[{"SourceFile": "./link.Jpg"}]{done 3}\n',
         ]
         with mock.patch.multiple(
-            programs, start=start, needed=lambda it: it, read_until=lambda _, complete: self.complete(answers.pop(0), complete)
+            programs, start=start, needed=lambda it: it, read_until=lambda _, complete, __: self.complete(answers.pop(0), complete)
         ):
-            it = exiftool.Process(self.folder)
+            it = exiftool.Process(self.folder, 60.0)
             self.assertEqual(it.ask([b"/a/b.jpg"], ("-EXIF:Exif", "-XMP"), exiftool._OPTIONS), [{"EXIF": "x"}])
             self.assertEqual(it.ask([b"/a/c"], (), exiftool._OPTIONS), [{}])
             self.assertEqual(it.ask([b"/a/ d.Jpg"], (), exiftool._OPTIONS), [{}])
@@ -458,7 +458,7 @@ class Sessions(WithPictures):
 
     def test_names_that_exiftool_could_misread(self):
         with mock.patch.multiple(programs, start=lambda *_, **__: None, needed=lambda it: it):
-            it = exiftool.Process(self.folder)
+            it = exiftool.Process(self.folder, 60.0)
         for path in (b"/a/b.jpg", b"/A_z0-9./+,@%~()="):
             self.assertEqual((it._handed_over(path, 0), os.listdir(self.folder)), (path, []))
         for path, link in (
@@ -485,16 +485,28 @@ class Sessions(WithPictures):
         with session.Session(room=self.folder) as own, mock.patch.object(exiftool, "Process") as made:
             here, counts = made.return_value, lambda: (made.call_count, made.return_value.close.call_count)
             here.process.poll.return_value = None
-            self.assertEqual([exiftool.ask(it, ()) for it in (b"a", b"b", b"c")], [here.ask.return_value[0]] * 3)
-            self.assertEqual((made.call_args, counts()), (mock.call(own.folder()), (1, 0)))
+            self.assertEqual([exiftool.ask(own, it, ()) for it in (b"a", b"b", b"c")], [here.ask.return_value[0]] * 3)
+            self.assertEqual((made.call_args, counts()), (mock.call(own.folder(), own.seconds), (1, 0)))
             here.process.poll.return_value = 1
-            exiftool.ask(b"d", ())
+            exiftool.ask(own, b"d", ())
             self.assertEqual(counts(), (2, 1))
             here.process.poll.return_value, here.ask.side_effect = None, programs.Failed("it ended")
-            self.assertRaises(programs.Failed, exiftool.ask, b"e", ())
+            self.assertRaises(programs.Failed, exiftool.ask, own, b"e", ())
             self.assertEqual((counts(), own.tool), ((2, 2), None))
             own.close_tool()
             self.assertEqual(counts(), (2, 2))
+
+    def test_two_sessions_share_nothing(self):
+        """Each thread may have its own: its folder, its time limit and its ExifTool."""
+        with session.Session(1.0, room=self.folder) as first, mock.patch.object(exiftool, "Process") as made:
+            made.side_effect = lambda *_: mock.Mock(process=mock.Mock(poll=lambda: None), ask=lambda *_: [{}])
+            with session.Session(2.0, room=self.folder) as second:
+                for its in (first, second):
+                    exiftool.ask(its, b"a", ())
+                self.assertEqual(made.call_args_list, [mock.call(first.folder(), 1.0), mock.call(second.folder(), 2.0)])
+                self.assertNotEqual(first.folder(), second.folder())
+                tools = first.tool, second.tool
+            self.assertEqual([it.close.call_count for it in tools], [0, 1])
 
     def test_how_a_program_is_started(self):
         """In a session of its own, in the C locale, without standard error; it ends with this process, and gets the signals that this one gets."""
@@ -526,12 +538,15 @@ class Sessions(WithPictures):
         ):
             calls = []
             with mock.patch.multiple(
-                programs, is_there=lambda _: True, needed=lambda it: it, run=lambda words: calls.append(words) or programs.Done(0, printed)
+                programs,
+                is_there=lambda _: True,
+                needed=lambda it: it,
+                run=lambda words, _: calls.append(words) or programs.Done(0, printed),
             ):
-                self.assertEqual(programs.version.__wrapped__(program), expected)
+                self.assertEqual(programs.version.__wrapped__(program, 60.0), expected)
             self.assertEqual(calls, [["exiftool", "-config", "", "-ver"] if program == "exiftool" else ["exiv2", "--version"]])
         with mock.patch.object(programs, "is_there", lambda _: False):
-            self.assertIsNone(programs.version.__wrapped__("exiv2"))
+            self.assertIsNone(programs.version.__wrapped__("exiv2", 60.0))
 
 
 class Small(WithPictures):
@@ -546,7 +561,7 @@ class Small(WithPictures):
         blocks = Blocks()
         blocks.add("exif", b"MM", "")
         with mock.patch.object(thumbnails.exifnorm, "fields", fields.__getitem__), mock.patch.object(
-            thumbnails.extraction, "blocks_of", lambda _: blocks if embedded else Blocks()
+            thumbnails.extraction, "blocks_of", lambda *_, **__: blocks if embedded else Blocks()
         ):
             found = thumbnails.small_pictures([*names, names[0]])
         return {os.path.basename(os.fsdecode(name)): uri for name, uri in found.items()}

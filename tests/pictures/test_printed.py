@@ -174,7 +174,7 @@ class Commands(InProcess):
             ("report", "--catalogue", "@/c", "--html", "@/page.html"),
             ("export", "@/c", "@/tables"),
         ):
-            begun, begin = [], session.Session.begin
-            with mock.patch.object(session.Session, "begin", lambda it: begun.append(it) or begin(it)):
+            begun, begin = [], session.Session.__enter__
+            with mock.patch.object(session.Session, "__enter__", lambda it: begun.append(it) or begin(it)):
                 self.printed(*words, "--limit", "7.5")
             self.assertEqual({it.seconds for it in begun}, {7.5}, words)

@@ -491,7 +491,7 @@ class Pictures(Promises):
             with mock.patch.object(
                 mend, "mend", return_value=mend.Mended(step, {}, lost, is_written=bool(lost))
             ), contextlib.redirect_stdout(io.StringIO()):
-                asked = argparse.Namespace(json=False, files_from=None, catalogue=None, lossless=False)
+                asked = argparse.Namespace(json=False, files_from=None, catalogue=None, lossless=False, session=None)
                 self.assertEqual(mend_cli._mend_one(asked, b"a", b"b")[0], status)
 
     @needs("exiftool")

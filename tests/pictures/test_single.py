@@ -16,6 +16,7 @@ from studio import WithPictures, read, write
 from exifnorm_pictures.cli import index, mend as mend_cli
 from exifnorm_pictures.extract import named, programs
 from exifnorm_pictures.files import tempdir
+from exifnorm_pictures.files.session import Session
 from exifnorm_pictures.model.found import Blocks
 from exifnorm_pictures.refusals import mend
 
@@ -34,12 +35,12 @@ class Steps(unittest.TestCase):
         """What a step calls, if its programs end like this, and its result."""
         ends, calls = list(ends), []
 
-        def run(words):
+        def run(words, _):
             calls.append(words)
             return programs.Done(*ends.pop(0))
 
         with mock.patch.multiple(programs, run=run, needed=lambda it: it, is_there=lambda it: there and it == "exiv2"):
-            result = step("p")
+            result = step(Session(), "p")
         self.assertEqual(ends, [], "fewer programs are called")
         return calls, result
 
@@ -128,11 +129,11 @@ class Copies(WithPictures):
         """The result for a picture whose blocks are judged like this, at first and after each remedy, and the names that are used."""
         self.used, refusals = [], list(refusals)
 
-        def read_blocks(path):
+        def read_blocks(path, **_):
             self.used.append(os.fsdecode(os.path.basename(path)))
             return blocks or self.GOOD
 
-        def touch(path):
+        def touch(_, path):
             write(path, read(path) + b"+")
             return True
 
@@ -143,12 +144,12 @@ class Copies(WithPictures):
         changed = {
             "blocks_of": read_blocks,
             "_refusals": lambda _: refusals.pop(0),
-            "_printed": lambda _: mend.Counter("ab"),
+            "_printed": lambda *_: mend.Counter("ab"),
             "_REMEDIES": {it: remedy or touch for it in mend.STEPS},
         }
         os.makedirs(self.path("room"), exist_ok=True)
         with mock.patch.multiple(mend, **changed), mock.patch.object(programs, "needed", lambda it: it):
-            return mend.mend(os.fsencode(self.path(name)), os.fsencode(self.path(out)), self.path("room"))
+            return mend.mend(os.fsencode(self.path(name)), os.fsencode(self.path(out)), Session(room=self.path("room")))
 
     def test_what_is_written(self):
         """The copy has the mode and times of the picture, which stays as it is; nothing else stays."""
@@ -167,7 +168,7 @@ class Copies(WithPictures):
     def test_without_a_copy(self):
         self.assertEqual(self.mended(refusals=[self.BAD, self.BAD, self.BAD, self.BAD]), mend.Mended("none", self.BAD))
         self.assertEqual(self.used, ["a.jpg", "touch.jpg", "exiv2.jpg", "rebuild.jpg"])
-        self.assertEqual(self.mended(remedy=lambda _: False), mend.Mended("none", self.BAD))
+        self.assertEqual(self.mended(remedy=lambda *_: False), mend.Mended("none", self.BAD))
         gone = Blocks(problem="NoPicture", detail="text/plain")
         self.assertEqual(self.mended(blocks=gone), mend.Mended("none", {}, problem="NoPicture: text/plain"))
         self.assertEqual(sorted(os.listdir(self.folder)), ["a.jpg", "room"])
@@ -264,7 +265,9 @@ class Lines(WithPictures):
     def printed(self, why, as_json):
         with mock.patch.object(mend, "mend", mock.Mock(side_effect=why)), contextlib.redirect_stdout(io.StringIO()) as lines:
             self.assertEqual(
-                mend_cli._mend_one(argparse.Namespace(json=as_json, files_from=None, catalogue=None, lossless=False), b"a\xff", b"b\n")[0],
+                mend_cli._mend_one(
+                    argparse.Namespace(json=as_json, files_from=None, catalogue=None, lossless=False, session=None), b"a\xff", b"b\n"
+                )[0],
                 4 if isinstance(why, mend.NotWritten) else 2,
             )
         return lines.getvalue()
@@ -310,7 +313,7 @@ class Problems(unittest.TestCase):
         missing = programs.Missing("exiftool")
         for raised, problem in ((programs.Failed("it ended"), "ToolFailed"), (missing, "NeedsExifTool")):
             with mock.patch.object(named.extraction, "blocks_of", mock.Mock(side_effect=raised)):
-                found = named.blocks_of(b"a.gif")
+                found = named.blocks_of(b"a.gif", Session())
             self.assertEqual((found.problem, found.detail, found.found), (problem, str(raised), []))
             self.assertIn(problem, index.NOT_READABLE)
 

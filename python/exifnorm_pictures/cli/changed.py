@@ -22,7 +22,6 @@ from ..fields.left_out import lines as lines_of_choice
 from ..fields.listing import MAKER_NOTE
 from ..fields.plain_names import group_name
 from ..files import signals
-from ..files.session import current
 from ..model.errors import WrongUse
 from ..model.texts import shown_path
 from ..scan.index import IndexOptions, index
@@ -54,7 +53,9 @@ def run(arguments: argparse.Namespace) -> int:
         before, after = (open_.enter_context(_side(it, arguments)) for it in (arguments.before, arguments.after))
         choice = choice_of(arguments)
         refuse_unknown(choice, itertools.chain(listings_of(before), listings_of(after)))
-        found = changes.changed(before, after, counts, only, arguments.all, not arguments.no_exiftool, choice, pictures)
+        found = changes.changed(
+            before, after, counts, only, arguments.all, None if arguments.no_exiftool else arguments.session, choice, pictures
+        )
         listed = (it for it in found if it.result not in changes.UNCHANGED or arguments.all)
         if arguments.csv:
             changed_tables.print_table(listed, choice)
@@ -160,7 +161,7 @@ def _side(name: str, arguments: argparse.Namespace) -> Catalogue:
     """A catalogue, or a new one of a folder."""
     if not os.path.isdir(name):
         return Catalogue(name)
-    room = tempfile.mkdtemp(dir=current().room)
+    room = tempfile.mkdtemp(dir=arguments.session.room)
     made = Catalogue(os.path.join(room, "catalogue"), make=True)
     try:
         closed: List[str] = []

@@ -32,10 +32,10 @@ from .tables import Table
 def run(arguments: argparse.Namespace) -> int:
     """Compares two pictures."""
     refuse_folders(arguments.before, arguments.after)
-    how = How(1, whole=arguments.whole, pixels=True, seconds=arguments.limit)
-    one, other = (read(os.fsencode(it), how) for it in (arguments.before, arguments.after))
+    how = How(1, whole=arguments.whole, pixels=True, seconds=arguments.limit, debug=arguments.session.debug)
+    one, other = (read(os.fsencode(it), how, arguments.session) for it in (arguments.before, arguments.after))
     choice = _choice(arguments, one, other)
-    found = compare(one, other, arguments.exact, not arguments.no_exiftool, choice)
+    found = compare(one, other, arguments.exact, None if arguments.no_exiftool else arguments.session, choice)
     rows = found.rows if arguments.exact else with_position(found.rows, one, other)
     names = [os.fsencode(it) for it in (arguments.before, arguments.after)]
     choice.add_left_out(found.left_out)

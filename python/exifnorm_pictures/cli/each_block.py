@@ -29,7 +29,10 @@ def status_of(it: Reading) -> int:
 
 def each_picture(arguments: argparse.Namespace) -> Iterator[Reading]:
     """The pictures that are named. What is printed of one is written before the next name of standard input is read."""
-    yield from (Reading.of(it, blocks_of(it, arguments.whole, arguments.block)) for it in each_name(arguments, arguments.pictures))
+    yield from (
+        Reading.of(it, blocks_of(it, arguments.session, arguments.whole, arguments.block))
+        for it in each_name(arguments, arguments.pictures)
+    )
 
 
 def each_block(arguments: argparse.Namespace, describe: Describe, refused_too: bool = False) -> int:

@@ -9,7 +9,7 @@ from typing import List, Optional
 
 from ..extract import programs
 from ..fields.block_fields import fields_of
-from ..files.session import current
+from ..files.session import Session
 from ..model import steps
 from ..model.budgets import TooMuch
 from ..model.found import EXIF, XMP, FoundBlock
@@ -23,7 +23,7 @@ from .output import block_members
 
 def run(arguments: argparse.Namespace) -> int:
     """Explains refusals, and tries whether `mend` helps."""
-    tried = functools.lru_cache(maxsize=1)(_tried)
+    tried = functools.lru_cache(maxsize=1)(functools.partial(_tried, arguments.session))
 
     def describe(name: bytes, found: FoundBlock, it: Block) -> Described:
         line = f"{it.name}: {'ok' if it.status == ACCEPTED else it.line}"
@@ -38,11 +38,11 @@ def run(arguments: argparse.Namespace) -> int:
     return each_block(arguments, describe, refused_too=True)
 
 
-def _tried(name: bytes) -> Optional[mend.Mended]:
+def _tried(session: Session, name: bytes) -> Optional[mend.Mended]:
     """What `mend` does with a picture, without a copy; None if that isn't known, because a program is missing or fails."""
     try:
-        with tempfile.TemporaryDirectory(dir=current().room) as own:
-            return mend.attempt(name, own)[0]
+        with tempfile.TemporaryDirectory(dir=session.room) as own:
+            return mend.attempt(session, name, own)[0]
     except (programs.Failed, programs.Missing, TooMuch, OSError):
         return None
 

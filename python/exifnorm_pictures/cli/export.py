@@ -14,7 +14,6 @@ from ..catalogue.store import Catalogue
 from ..export.rows import Export
 from ..export.tables import VERSION, Tables, head_is_ours, tables
 from ..files import atomic
-from ..files.session import current
 from ..model.errors import WrongUse
 from ..model.texts import path_members, shown_path
 from .exit_codes import SUCCESS
@@ -28,10 +27,12 @@ def run(arguments: argparse.Namespace) -> int:
     _refuse_table(arguments.file)
     chosen = chosen_paths(arguments)
     with Catalogue(arguments.catalogue) as catalogue:
-        made = os.path.join(current().room, "export")
+        made = os.path.join(arguments.session.room, "export")
         with tables(made) as written:
             _add_about(written, catalogue)
-            work = Export(catalogue, written, None if chosen is None else catalogue.choose(chosen), not arguments.no_look)
+            work = Export(
+                catalogue, written, None if chosen is None else catalogue.choose(chosen), None if arguments.no_look else arguments.session
+            )
             work.all(arguments.quiet or not sys.stderr.isatty())
         _put(made, arguments)
         say_unknown(chosen or (), catalogue.has)

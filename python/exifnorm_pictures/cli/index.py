@@ -11,7 +11,6 @@ from typing import Iterator, List, Sequence
 
 from ..catalogue.store import Catalogue, NoCatalogue, head_is_ours
 from ..files import atomic, signals
-from ..files.session import current
 from ..model.errors import WrongUse
 from ..model.found import STATE_WORDS
 from ..model.records import AS_BEFORE
@@ -60,12 +59,12 @@ def run(arguments: argparse.Namespace) -> int:
         raise NothingThere(f"there is no folder or file {', '.join(map(shown_path, names))}")
     with Catalogue(arguments.catalogue, make=True) as catalogue:
         if arguments.keep_old:
-            keep_old(catalogue, arguments.keep_old, current().room)
+            keep_old(catalogue, arguments.keep_old, arguments.session.room)
         _check_sidecars(arguments, catalogue)
         arguments.pixels = arguments.pixels or catalogue.has_digests()  # of the pictures that changed, too
         lines = objects.record_lines if arguments.json else None if arguments.quiet else record_lines
         excluded = Excluded(arguments.exclude)
-        how = how_of(arguments, current().room, lines)
+        how = how_of(arguments, arguments.session.room, lines)
         options = IndexOptions(names, arguments.again, arguments.quiet, how, print_line, excluded=excluded, lines=lines or record_lines)
         options.moved_line = None if arguments.json or arguments.quiet else moved_line
         if arguments.scheduler:

@@ -72,7 +72,7 @@ def _in_folder(arguments: argparse.Namespace, folder: bytes) -> Iterator[Reading
 
 
 def _reading(arguments: argparse.Namespace, name: bytes) -> Reading:
-    return Reading.of(name, blocks_of(name, arguments.whole, arguments.block))
+    return Reading.of(name, blocks_of(name, arguments.session, arguments.whole, arguments.block))
 
 
 def refused(it: Reading) -> List[str]:

@@ -11,4 +11,4 @@ from ..scan.batches import How, Lines
 def how_of(arguments: argparse.Namespace, room: str, lines: Optional[Lines] = None) -> How:
     """How a command looks at pictures."""
     notes, pixels, sidecars = (getattr(arguments, it, False) for it in ("maker_notes", "pixels", "sidecars"))
-    return How(arguments.jobs, notes, arguments.whole, pixels, sidecars, arguments.limit, room, lines)
+    return How(arguments.jobs, notes, arguments.whole, pixels, sidecars, arguments.limit, room, arguments.session.debug, lines)

@@ -47,11 +47,12 @@ def main(words: Optional[Sequence[str]] = None) -> int:
 
 def _run(words: Optional[Sequence[str]]) -> int:
     """Runs a command in a session: its temporary files and programs end with it."""
-    command, session = "", Session(PROGRAM_SECONDS, debug=False)
+    command, session = "", Session()
     try:
         arguments = parsed(words)
         session.debug = session.debug or arguments.debug
         session.seconds = getattr(arguments, "limit", PROGRAM_SECONDS)
+        arguments.session = session
         # importing the modules of all commands would take longer than most commands do
         command = arguments.command
         module = importlib.import_module(f".{command}", __package__)
@@ -76,7 +77,7 @@ def _with_spreadsheet(module: ModuleType, arguments: argparse.Namespace) -> int:
     from . import sheets
 
     arguments.csv = True
-    with sheets.written(arguments.xlsx):
+    with sheets.written(arguments.xlsx, arguments.session):
         return int(module.run(arguments))
 
 

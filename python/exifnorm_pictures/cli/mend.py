@@ -10,7 +10,6 @@ from typing import Dict, Iterator, List, Tuple, Type
 from ..catalogue.store import Catalogue
 from ..extract import programs
 from ..files import atomic
-from ..files.session import current
 from ..model import steps
 from ..model.budgets import TooMuch
 from ..model.texts import Members, path_members, shown_path
@@ -52,7 +51,7 @@ def _counted(counts: "Counter[str]") -> str:
 def _mend_one(arguments: argparse.Namespace, picture: bytes, out: bytes) -> Tuple[int, str]:
     """The status of a picture, and by what it is counted."""
     try:
-        mended = mend.mend(picture, out, current().room, bool(arguments.files_from or arguments.catalogue), arguments.lossless)
+        mended = mend.mend(picture, out, arguments.session, bool(arguments.files_from or arguments.catalogue), arguments.lossless)
     except (mend.NotWritten, programs.Failed, programs.Missing, TooMuch) as error:
         names: Dict[Type[Exception], str] = {mend.NotWritten: "NotWritten", TooMuch: "TooMuch", programs.TooSlow: "TooSlow"}
         names.update({programs.Missing: "NeedsExifTool", mend.NeedsExifTool: "NeedsExifTool"})

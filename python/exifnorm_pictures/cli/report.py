@@ -27,7 +27,7 @@ def run(arguments: argparse.Namespace) -> int:
         old = open_.enter_context(Catalogue(arguments.since)) if arguments.since else None
         choice = choice_of(arguments)
         refuse_unknown(choice, (it for one in (catalogue, old) if one for it in listings_of(one)))
-        about = contents.About(catalogue, old, chosen, not arguments.no_look, choice)
+        about = contents.About(catalogue, old, chosen, not arguments.no_look, choice, arguments.session)
         if arguments.html:
             text = page.page(contents.gather(about), arguments.title)
             _write_page(arguments, text.encode("utf-8", "backslashreplace"))

@@ -109,7 +109,9 @@ def _groups(
 ) -> Iterator[groups.Group]:
     """The groups of the kind that is asked for. Raises `NoDigests`."""
     if arguments.kind != PIXELS:
-        return groups.groups(catalogue, kinds, only, look=not arguments.no_look, choice=choice, fewest=fewest, unknown=unknown)
+        return groups.groups(
+            catalogue, kinds, only, look=not arguments.no_look, choice=choice, fewest=fewest, unknown=unknown, session=arguments.session
+        )
     if choice or arguments.least_fields:
         raise NoDigests("--kind pixels compares coded pictures and no fields: leave out the options for fields")
     count = groups.without_coded_picture(catalogue, only)[0]

@@ -9,7 +9,7 @@ import shutil
 from typing import Iterator, Optional, Sequence, Union
 
 from ..files import atomic
-from ..files.session import current as session
+from ..files.session import Session
 from ..model.errors import Failure
 from ..model.texts import escaped, shown_path
 from .output import print_line
@@ -88,7 +88,7 @@ def current() -> Optional[Sheet]:
 
 
 @contextlib.contextmanager
-def written(name: Optional[str]) -> Iterator[None]:
+def written(name: Optional[str], session: Session) -> Iterator[None]:
     """Writes the table of a command to a file, which it makes at the end, and only if the command didn't fail. Raises `NoSpreadsheet`."""
     global _open
     if name is None:
@@ -96,7 +96,7 @@ def written(name: Optional[str]) -> Iterator[None]:
         return
     if os.path.lexists(name):
         raise NoSpreadsheet(atomic.not_written(escaped(name), "it is there already, and may have somebody's work in it"))
-    made = os.path.join(session().room, "table.xlsx")
+    made = os.path.join(session.room, "table.xlsx")
     _open = Sheet(made)
     try:
         yield

@@ -13,7 +13,6 @@ from typing import BinaryIO, Dict, Iterator, List, Sequence
 from ..catalogue.store import Catalogue, NoCatalogue
 from ..comparison import verified
 from ..files import atomic
-from ..files.session import current
 from ..model.errors import WrongUse
 from ..model.texts import escaped, path_members, shown_path
 from ..scan.batches import How
@@ -40,7 +39,7 @@ def run(arguments: argparse.Namespace) -> int:
         before = open_.enter_context(Catalogue(arguments.catalogue))
         given = bool(arguments.folders or arguments.files_from)
         folders = _folders(named(arguments, arguments.folders) if given else [], before)
-        now = open_.enter_context(_read_again(folders, arguments, before, current().room))
+        now = open_.enter_context(_read_again(folders, arguments, before))
         for it in verified.verified(before, now, folders):
             counts[it.state] += 1
             if it.state != verified.AS_IT_WAS or it.note:
@@ -70,12 +69,21 @@ def _folders(names: Sequence[bytes], catalogue: Catalogue) -> List[bytes]:
     return folders
 
 
-def _read_again(folders: Sequence[bytes], arguments: argparse.Namespace, before: Catalogue, room: str) -> Catalogue:
+def _read_again(folders: Sequence[bytes], arguments: argparse.Namespace, before: Catalogue) -> Catalogue:
     """A new catalogue of the files that are there now, with their digests."""
+    room = arguments.session.room
     made = Catalogue(os.path.join(room, "catalogue"), make=True)
     try:
         closed: List[str] = []
-        how = How(arguments.jobs, pixels=True, sidecars=before.has_sidecars(), seconds=arguments.limit, room=room, lines=closed_folder)
+        how = How(
+            arguments.jobs,
+            pixels=True,
+            sidecars=before.has_sidecars(),
+            seconds=arguments.limit,
+            room=room,
+            debug=arguments.session.debug,
+            lines=closed_folder,
+        )
         index(IndexOptions(folders, quiet=arguments.quiet or not sys.stderr.isatty(), how=how, print_line=closed.append), made)
         if closed:
             raise NoCatalogue("; ".join(closed))

@@ -15,6 +15,7 @@ from ..catalogue.store import Catalogue
 from ..fields.choosing import EVERYTHING, Choice
 from ..fields.listing import MAKER_NOTE
 from ..fields.plain_names import group_name, group_of
+from ..files.session import Session
 from ..judge.sides import Sides
 from ..model import steps
 from ..model.found import EXIF, NAMES, OWN, PROGRAMS
@@ -133,19 +134,19 @@ def changed(
     counts: "Counter[str]",
     only: Optional[Set[bytes]] = None,
     every: bool = False,
-    ask: bool = True,
+    session: Optional[Session] = None,
     choice: Choice = EVERYTHING,
     pictures: "Optional[Counter[str]]" = None,
 ) -> Iterator[Compared]:
     """Compares each picture of two catalogues, in the order of their names, or only some pictures, by name or by path.
 
-    Those that are the same are only counted, unless `every` is set. `ask` asks ExifTool for the values of MakerNotes. Fields that the
+    Those that are the same are only counted, unless `every` is set. In a session ExifTool is asked for the values of MakerNotes. Fields that the
     choice leaves out don't count. In the end `counts` has the number of each result, and `pictures` those of the coded pictures.
     """
     with contextlib.closing(Pairs(before, after, only)) as pairs:
         there = 0
         came = (Compared(name, MISSING_BEFORE) for name in pairs.came())
-        for it in heapq.merge((compared(pair, pairs, ask, choice) for pair in pairs.differing(every)), came, key=lambda one: one.name):
+        for it in heapq.merge((compared(pair, pairs, session, choice) for pair in pairs.differing(every)), came, key=lambda one: one.name):
             there += it.result != MISSING_BEFORE
             counts[it.result] += 1
             choice.add_left_out(it.left_out)
@@ -156,9 +157,9 @@ def changed(
             counts[SAME] += pairs.count() - there
 
 
-def compared(pair: Pair, pairs: Sides, ask: bool, choice: Choice = EVERYTHING) -> Compared:
+def compared(pair: Pair, pairs: Sides, session: Optional[Session], choice: Choice = EVERYTHING) -> Compared:
     """Compares one picture before and after. Its coded picture counts, unless only some fields do."""
-    it = _compared(pair, pairs, ask, choice)
+    it = _compared(pair, pairs, session, choice)
     found = coded.result_of(pair.old, pair.new)
     it.picture = found.result
     if choice.only or pair.place is not None:
@@ -173,7 +174,7 @@ def compared(pair: Pair, pairs: Sides, ask: bool, choice: Choice = EVERYTHING) -
     return it
 
 
-def _compared(pair: Pair, pairs: Sides, ask: bool, choice: Choice) -> Compared:
+def _compared(pair: Pair, pairs: Sides, session: Optional[Session], choice: Choice) -> Compared:
     name, one, other, place = pair
     if one is None or other is None:
         return Compared(name, MISSING_AFTER) if place is None else Compared(name, MOVED, moved_to=place)
@@ -196,7 +197,7 @@ def _compared(pair: Pair, pairs: Sides, ask: bool, choice: Choice) -> Compared:
         if looked_at:
             _add_details(it, blocks, pairs, parts, choice)
     if not choice.leaves_out_maker_notes:
-        parts = _judge_maker_notes(it, one, other, pairs, parts, ask)
+        parts = _judge_maker_notes(it, one, other, pairs, parts, session)
     it.note = _sentence(tuple(it.verdicts), tuple(parts)) + it.note
     if place is not None:
         it.result = MOVED if it.result in UNCHANGED else MOVED_EDITED
@@ -219,7 +220,7 @@ def _unread(name: bytes, one: Picture, other: Picture) -> Compared:
     return Compared(name, NOT_READ, ", ".join(notes))
 
 
-def _judge_maker_notes(it: Compared, one: Picture, other: Picture, pairs: Sides, parts: List[str], ask: bool) -> List[str]:
+def _judge_maker_notes(it: Compared, one: Picture, other: Picture, pairs: Sides, parts: List[str], session: Optional[Session]) -> List[str]:
     """Asks ExifTool where the bytes or the place of a MakerNote differ, or the bytes that only it can reach. Returns the parts that stay open."""
     lines = [change for change in it.changes if change[:2] == MAKER_NOTE and change.before and change.after]
     both = bool(one.maker_notes and other.maker_notes)
@@ -230,9 +231,9 @@ def _judge_maker_notes(it: Compared, one: Picture, other: Picture, pairs: Sides,
         return parts
     from ..judge import maker_notes  # which is seldom needed
 
-    found = maker_notes.compared(pairs, one, other) if ask else None
+    found = maker_notes.compared(session, pairs, one, other) if session else None
     if found is None:
-        gone = [word for word, picture in (("earlier", one), ("later", other)) if ask and not maker_notes.is_there(picture)]
+        gone = [word for word, picture in (("earlier", one), ("later", other)) if session and not maker_notes.is_there(picture)]
         if gone:
             note = f"differs in bytes, the {' and the '.join(gone)} picture {'is' if len(gone) == 1 else 'are'} gone or changed"
             it.changes = [change._replace(note=note) if change in lines else change for change in it.changes]

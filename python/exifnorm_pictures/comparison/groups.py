@@ -16,6 +16,7 @@ from ..catalogue.store import PICTURE_COLUMNS, Catalogue
 from ..extract.sidecars import Folders
 from ..fields.choosing import EVERYTHING, Choice, UnknownField
 from ..fields.packing import unpacked
+from ..files.session import Session
 from ..model import steps
 from ..model.found import EXIF, NAMES, each_kind
 from ..model.records import KINDS, NOT_THERE, WORDS, Picture, Stamp, is_marked_as, picture_of_row
@@ -234,11 +235,12 @@ def groups(
     choice: Choice = EVERYTHING,
     fewest: Optional[Fewest] = None,
     unknown: Optional[Unknown] = None,
+    session: Optional[Session] = None,
 ) -> Iterator[Group]:
     """The groups of two and more different files, those that rest on meaning first, and the largest first.
 
     With `look` each file is looked at: those that are gone or have changed are listed apart and don't count. Fields that the choice leaves
-    out don't count. `unknown` counts the pictures that may be the same as others but for their MakerNotes, by why that isn't known. Raises
+    out don't count. In a session ExifTool is asked for the values of MakerNotes. `unknown` counts the pictures that may be the same as others but for their MakerNotes, by why that isn't known. Raises
     `UnknownField` if the choice leaves out everything.
     """
     counted = [it for it in kinds if it in choice.kinds]
@@ -246,7 +248,7 @@ def groups(
         raise UnknownField("nothing is left to compare")
     fewest = fewest or Fewest()
     yielded = 0
-    readings = Readings(catalogue, look, Counter() if unknown is None else unknown)
+    readings = Readings(catalogue, look, session, Counter() if unknown is None else unknown)
     for group in _all_groups(catalogue, _queries(counted, only), counted, readings, _table(catalogue, choice), fewest):
         if fewest.is_enough(catalogue, group, choice):
             yield group
@@ -268,7 +270,7 @@ def _table(catalogue: Catalogue, choice: Choice) -> str:
 def of_coded_pictures(catalogue: Catalogue, only: Optional[str], look: bool, fewest: Fewest) -> Iterator[Group]:
     """The groups of files with the same coded picture, the largest first."""
     query = _Query(CODED_PICTURE, ("coded_picture",), _coded("!= ''", only))
-    return _all_groups(catalogue, [query], KINDS, Readings(catalogue, look, Counter()), "pictures", fewest)
+    return _all_groups(catalogue, [query], KINDS, Readings(catalogue, look, None, Counter()), "pictures", fewest)
 
 
 def without_coded_picture(catalogue: Catalogue, only: Optional[str] = None) -> Tuple[int, int]:

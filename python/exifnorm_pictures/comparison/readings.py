@@ -7,6 +7,7 @@ from collections import Counter
 from typing import TYPE_CHECKING, Dict, Iterable, NamedTuple, Optional, Set
 
 from ..catalogue.store import Catalogue
+from ..files.session import Session
 from ..model.records import Picture
 
 if TYPE_CHECKING:
@@ -49,8 +50,8 @@ class Read(NamedTuple):
 class Readings:
     """What ExifTool reads of the MakerNotes of a catalogue's pictures: each is asked for once, if it isn't kept, and only its key is in memory."""
 
-    def __init__(self, catalogue: Catalogue, look: bool, unknown: Unknown) -> None:
-        self.catalogue, self.look, self.unknown = catalogue, look, unknown
+    def __init__(self, catalogue: Catalogue, look: bool, session: Optional[Session], unknown: Unknown) -> None:
+        self.catalogue, self.look, self.session, self.unknown = catalogue, look, session, unknown
         self._known: Dict[int, Optional[Read]] = {}
         self._counted: Set[int] = set()
 
@@ -66,7 +67,8 @@ class Readings:
                 self._known[it.id] = Read.of(kept)
         asked = [it for it in wanted if it.id not in self._known]
         with contextlib.suppress(Missing):
-            for it, found in zip(asked, maker_notes.each_reading([it.path for it in asked])):
+            readings = maker_notes.each_reading(self.session, [it.path for it in asked]) if self.session else iter(())
+            for it, found in zip(asked, readings):
                 self._known[it.id] = None if found is None else Read.of(found)
         return self._known
 

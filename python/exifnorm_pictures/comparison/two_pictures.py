@@ -13,6 +13,7 @@ from ..fields.choosing import EVERYTHING, Choice
 from ..fields.listing import MAKER_NOTE, Field
 from ..fields.plain_names import group_name
 from ..fields.plain_values import POSITION, plain, position
+from ..files.session import Session
 from ..judge.sides import Fresh
 from ..model.found import NAMES, PROBLEMS
 from ..model.records import KINDS, Picture, Stamp
@@ -71,7 +72,7 @@ class Comparison:
         )
 
 
-def read(name: bytes, how: How) -> Picture:
+def read(name: bytes, how: How, session: Session) -> Picture:
     """Reads a picture, as `index` does."""
     path = os.path.abspath(name)
     stamp = None
@@ -79,13 +80,13 @@ def read(name: bytes, how: How) -> Picture:
         stamp = Stamp.of(os.stat(path))
     if stamp is None and not os.path.lexists(path):
         return Picture.of(path, b"", problem="NoFile", detail=PROBLEMS["NoFile"])
-    return look(FoundFile(path, os.path.dirname(path), stamp), how, packs=False)
+    return look(FoundFile(path, os.path.dirname(path), stamp), how, session, packs=False)
 
 
-def compare(one: Picture, other: Picture, each: bool, ask: bool, choice: Choice = EVERYTHING) -> Comparison:
-    """Compares two pictures that were read, by the fields that count. `ask` asks ExifTool for the values of MakerNotes; `each` has a row for
+def compare(one: Picture, other: Picture, each: bool, session: Optional[Session], choice: Choice = EVERYTHING) -> Comparison:
+    """Compares two pictures that were read, by the fields that count. In a session ExifTool is asked for the values of MakerNotes; `each` has a row for
     each that differs."""
-    found = compared_records(one, other, ask, choice)
+    found = compared_records(one, other, session, choice)
     result = Comparison((one, other), found, is_identical(one.path, other.path), has_only_fields=bool(choice.only))
     if not result.is_identical and found.changes:
         result.rows = _rows(found.changes)
@@ -94,9 +95,9 @@ def compare(one: Picture, other: Picture, each: bool, ask: bool, choice: Choice 
     return result
 
 
-def compared_records(one: Picture, other: Picture, ask: bool, choice: Choice = EVERYTHING) -> Compared:
+def compared_records(one: Picture, other: Picture, session: Optional[Session], choice: Choice = EVERYTHING) -> Compared:
     """What `changed` finds of two pictures that were read."""
-    return compared(Pair(os.path.basename(one.path), one, other, None), Fresh(), ask, choice)
+    return compared(Pair(os.path.basename(one.path), one, other, None), Fresh(), session, choice)
 
 
 def is_identical(one: bytes, other: bytes) -> bool:

@@ -17,6 +17,7 @@ from ..fields.block_fields import fields_of
 from ..fields.plain_names import exact_key, group_name
 from ..fields.plain_values import plain
 from ..fields.typed import typed
+from ..files.session import Session
 from ..model import steps
 from ..model.budgets import CACHED
 from ..model.records import WORDS, Block, Picture
@@ -30,8 +31,8 @@ _BEGINNING = datetime(1970, 1, 1, tzinfo=timezone.utc)
 class Export:
     """Fills the tables of an export."""
 
-    def __init__(self, catalogue: Catalogue, tables: Tables, only: Optional[str], look: bool) -> None:
-        self.catalogue, self.tables, self.only, self.look = catalogue, tables, only, look
+    def __init__(self, catalogue: Catalogue, tables: Tables, only: Optional[str], session: Optional[Session]) -> None:
+        self.catalogue, self.tables, self.only, self.session = catalogue, tables, only, session
         self.missing = 0  # pictures with a text that is too long to be kept
         self.fewest = Fewest()  # counts the groups that are left out
 
@@ -42,8 +43,10 @@ class Export:
         for count, it in enumerate(self.catalogue.pictures(self.only), 1):
             self._picture(it)
             progress.done(count)
-        for number, group in enumerate(groups(self.catalogue, only=self.only, look=self.look, fewest=self.fewest), 1):
-            keeps = keeping(group) if self.look else {}
+        for number, group in enumerate(
+            groups(self.catalogue, only=self.only, look=bool(self.session), fewest=self.fewest, session=self.session), 1
+        ):
+            keeps = keeping(group) if self.session else {}
             about = (number, group.basis, group.sentence())
             self.tables.add("groups", ((*about, it.id, *_keep_row(keeps.get(it.id, Keep()))) for it in group.members))
 

@@ -15,10 +15,9 @@ import os
 import re
 import shutil
 import subprocess
-import threading
 from typing import Dict, List, Optional, Sequence, cast
 
-from ..files.session import current
+from ..files.session import Session
 from ..model.budgets import OUTPUT, WHOLE_FILE, budget_of
 from ..model.found import EXIF, EXIFTOOL, EXIV2, IPTC, PROBLEMS, UNREAD_TRAILER, XMP, Blocks, NotRead
 from . import programs
@@ -43,9 +42,10 @@ _EXTENSION = re.compile(rb"\.[A-Za-z0-9]{1,8}\Z")
 class Process:
     """An ExifTool process in a folder of its own. After `Failed` it is over with this one."""
 
-    def __init__(self, room: str) -> None:
-        """Starts ExifTool in the folder `room`. Links with plain names in it replace names that ExifTool could misread."""
-        self.room = room
+    def __init__(self, room: str, seconds: float) -> None:
+        """Starts ExifTool in the folder `room`. Links with plain names in it replace names that ExifTool could misread. It may take so many
+        seconds for a file."""
+        self.room, self.seconds = room, seconds
         self.number = 0
         self.process = programs.start(programs.exiftool("-stay_open", "True", "-@", "-"), room, stdin=subprocess.PIPE)
 
@@ -60,7 +60,7 @@ class Process:
             self.process.stdin.write(b"\n".join(lines))
         except OSError:
             raise Failed("ExifTool ended before it was asked") from None
-        output = programs.read_until(self.process, lambda it: it.endswith(done))
+        output = programs.read_until(self.process, lambda it: it.endswith(done), self.seconds)
         if not output.endswith(done):
             raise Failed(f"ExifTool ended with status {self._status()} at this file")
         return _members(output[: -len(done)], names)
@@ -107,33 +107,28 @@ def _members(output: bytes, names: Sequence[bytes]) -> List[Dict[str, str]]:
     return found
 
 
-_TURNS = threading.Lock()  # the threads of a cluster's worker take turns
-
-
-def _process() -> Process:
-    """This session's ExifTool, which starts at the first call."""
-    now = current()
-    tool = cast(Optional[Process], now.tool)
+def _process(session: Session) -> Process:
+    """The session's ExifTool, which starts at the first call."""
+    tool = cast(Optional[Process], session.tool)
     if tool is not None and tool.process.poll() is not None:
-        now.close_tool()  # it ended between two questions
-    if now.tool is None:
-        now.tool = Process(now.folder())
-    return cast(Process, now.tool)
+        session.close_tool()  # it ended between two questions
+    if session.tool is None:
+        session.tool = Process(session.folder(), session.seconds)
+    return cast(Process, session.tool)
 
 
-def ask(path: bytes, words: Sequence[str]) -> Dict[str, str]:
+def ask(session: Session, path: bytes, words: Sequence[str]) -> Dict[str, str]:
     """ExifTool's tags of one file. If it fails, a new ExifTool reads the next file."""
-    return ask_several([path], words)[0]
+    return ask_several(session, [path], words)[0]
 
 
-def ask_several(paths: Sequence[bytes], words: Sequence[str], options: Sequence[str] = _OPTIONS) -> List[Dict[str, str]]:
+def ask_several(session: Session, paths: Sequence[bytes], words: Sequence[str], options: Sequence[str] = _OPTIONS) -> List[Dict[str, str]]:
     """ExifTool's tags of some files, which are asked for in one call."""
-    with _TURNS:
-        try:
-            return _process().ask(paths, words, options)
-        except BaseException:
-            current().close_tool()
-            raise
+    try:
+        return _process(session).ask(paths, words, options)
+    except BaseException:
+        session.close_tool()
+        raise
 
 
 def octets(value: str) -> bytes:
@@ -155,18 +150,18 @@ def values(answer: Dict[str, str], tag: str) -> List[str]:
     return [value for name, value in answer.items() if name.rpartition(":")[2] == tag]
 
 
-def by_others(path: bytes, stream: Stream, whole: bool, why: str) -> Blocks:
+def by_others(session: Session, path: bytes, stream: Stream, whole: bool, why: str) -> Blocks:
     """The blocks that ExifTool and exiv2 extract; `why` is the reason why the file was not read here, for a known format.
 
     Raises `programs.Missing` and `programs.Failed`.
     """
-    answer = ask(path, _WORDS)
+    answer = ask(session, path, _WORDS)
     blocks = _blocks(answer)
     blocks.budget = budget_of(stream)
     if blocks.problem:
         return blocks
     if blocks.type in _TIFF_TYPES and not blocks.of_kind(EXIF):
-        _add_by_exiv2(blocks, path)
+        _add_by_exiv2(session, blocks, path)
     size = size_of(stream)
     digest = digest_of(stream, 0, size) if whole or size <= WHOLE_FILE else ""
     what = f"what ExifTool does not extract from a {blocks.type} file" + (f" ({why})" if why else "")
@@ -195,17 +190,17 @@ def _blocks(answer: Dict[str, str]) -> Blocks:
     return Blocks(extractor=EXIFTOOL, type=blocks.type, problem=problem, detail=detail)
 
 
-def _add_by_exiv2(blocks: Blocks, path: bytes) -> None:
+def _add_by_exiv2(session: Session, blocks: Blocks, path: bytes) -> None:
     """Adds the Exif block that exiv2 extracts from a raw file, or the problem that it has none."""
     if not programs.is_there("exiv2"):
         blocks.problem, blocks.detail = "NeedsExiv2", PROBLEMS["NeedsExiv2"]
         return
-    folder = os.path.join(current().folder(), "exiv2")
+    folder = os.path.join(session.folder(), "exiv2")
     shutil.rmtree(folder, ignore_errors=True)
     os.mkdir(folder)
     link = os.path.join(folder, f"picture.{blocks.type.lower()}")
     os.symlink(os.path.abspath(path), os.fsencode(link))
-    programs.run([programs.needed("exiv2"), "-q", "-ee", "-l", folder, link], folder)
+    programs.run([programs.needed("exiv2"), "-q", "-ee", "-l", folder, link], session.seconds, folder)
     made = os.path.join(folder, "picture.exv")
     found = _exif_of_exiv2(made) if os.path.isfile(made) else b""
     if found:
@@ -224,11 +219,11 @@ def _exif_of_exiv2(path: str) -> bytes:
     return b""
 
 
-def add_trailers(blocks: Blocks, path: bytes) -> None:
+def add_trailers(session: Session, blocks: Blocks, path: bytes) -> None:
     """Adds the IPTC and XMP blocks that ExifTool finds in the trailer of a picture; the trailer itself was noted as not read."""
     known = {it.data for it in blocks.found}
     try:
-        answer = ask(path, _WORDS)
+        answer = ask(session, path, _WORDS)
         found = [(kind, octets(value)) for tag, kind in _TAGS.items() for value in values(answer, tag) if kind != EXIF]
     except (programs.Missing, programs.Failed):
         blocks.not_read.append(NotRead(UNREAD_TRAILER, ""))

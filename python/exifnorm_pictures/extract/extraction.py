@@ -5,12 +5,12 @@ from __future__ import annotations
 import contextlib
 import errno
 import os
-from typing import Union
+from typing import Optional, Union
 
 from exifnorm import LibraryMissing
 
 from ..files import opening, signals
-from ..files.session import current
+from ..files.session import Session
 from ..model.budgets import Budget, TooMuch
 from ..model.found import BROKEN, PROBLEMS, Blocks, Broken, LeftToOthers
 from ..model.texts import described
@@ -19,15 +19,15 @@ from .formats import jpeg
 from .formats.streams import File, Memory
 
 
-def blocks_of(path: bytes, whole: bool = False) -> Blocks:
+def blocks_of(path: bytes, whole: bool = False, session: Optional[Session] = None) -> Blocks:
     """All blocks of one file, unchanged, and the parts that were not read. A file that can't be read has a problem and no blocks.
 
     Of a JPEG the head, the tail and the pictures of its MPF index are read; with `whole` also everything between. ExifTool reads
-    the files that the readers here don't. Raises `programs.Missing` if it is needed and not installed, `programs.Failed`, and
+    the files that the readers here don't, in the session or in one of its own. Raises `programs.Missing` if it is needed and not installed, `programs.Failed`, and
     `LibraryMissing`.
     """
     try:
-        return blocks_in(File(*opening.opened(path), Budget(whole)), path, whole)
+        return blocks_in(File(*opening.opened(path), Budget(whole)), path, whole, session)
     except TooMuch as why:
         return too_much(why)
     except LibraryMissing:  # an OSError too, but not of this file
@@ -42,20 +42,23 @@ def blocks_of(path: bytes, whole: bool = False) -> Blocks:
         return Blocks(problem="Unreadable", detail=(error.strerror or str(error)).lower())
 
 
-def blocks_in(file: Union[File, Memory], path: bytes, whole: bool = False) -> Blocks:
+def blocks_in(file: Union[File, Memory], path: bytes, whole: bool = False, session: Optional[Session] = None) -> Blocks:
     """The blocks of a file that is open, which is closed then. The ending of its name shows what a sidecar or a raw picture is.
 
     Raises what `blocks_of` raises, `OSError` and `TooMuch`.
     """
+    if session is None:
+        with Session() as own:
+            return blocks_in(file, path, whole, own)
     with contextlib.closing(file):
         try:
             blocks = _read(file, path, whole)
         except LeftToOthers as why:
-            return by_others(_name(file, path), file, whole, str(why))
+            return by_others(session, _name(file, path), file, whole, str(why))
         except Broken as why:
-            return by_others(_name(file, path), file, True, f"{BROKEN}{why}")
+            return by_others(session, _name(file, path), file, True, f"{BROKEN}{why}")
         if blocks.has_more:
-            add_trailers(blocks, _name(file, path))
+            add_trailers(session, blocks, _name(file, path))
         return blocks
 
 
@@ -64,9 +67,9 @@ def _name(file: Union[File, Memory], path: bytes) -> bytes:
     return path if isinstance(file, File) else file.as_file(path)
 
 
-def failed_here(error: Exception) -> Blocks:
+def failed_here(error: Exception, session: Optional[Session]) -> Blocks:
     """The result for a file at which our own code failed, and no other program."""
-    if current().debug:
+    if session and session.debug:
         signals.trace(error)
     return Blocks(problem="InternalError", detail=f"{PROBLEMS['InternalError']}: {described(error)}")
 

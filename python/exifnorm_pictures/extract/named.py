@@ -5,6 +5,7 @@ from __future__ import annotations
 from exifnorm import LIMIT, LibraryMissing
 
 from ..files import opening
+from ..files.session import Session
 from ..model.found import EXIF, IPTC, NAMES, Blocks, FoundBlock
 from ..model.texts import reason
 from . import extraction, programs
@@ -13,11 +14,11 @@ from . import extraction, programs
 LONGEST = LIMIT + 7  # bytes of a block that are read: one more than any block and its six bytes in front can have
 
 
-def blocks_of(name: bytes, whole: bool = False, is_block: bool = False) -> Blocks:
+def blocks_of(name: bytes, session: Session, whole: bool = False, is_block: bool = False) -> Blocks:
     """The blocks of a picture, or the file as a block by itself."""
     if not is_block:
         try:
-            return extraction.blocks_of(name, whole)
+            return extraction.blocks_of(name, whole, session)
         except programs.Failed as error:
             return Blocks(problem="TooSlow" if isinstance(error, programs.TooSlow) else "ToolFailed", detail=str(error))
         except programs.Missing as error:
@@ -25,7 +26,7 @@ def blocks_of(name: bytes, whole: bool = False, is_block: bool = False) -> Block
         except (LibraryMissing, MemoryError):
             raise
         except Exception as error:  # an error of a reader affects only this file
-            return extraction.failed_here(error)
+            return extraction.failed_here(error, session)
     try:
         with opening.reading(name) as file:
             octets = file.read(LONGEST)

@@ -16,7 +16,6 @@ import time
 from typing import Callable, List, NamedTuple, Optional, Set
 
 from ..files import signals
-from ..files.session import current
 from ..model.budgets import OUTPUT
 from ..model.errors import Failure
 from ..model.texts import reason
@@ -76,23 +75,23 @@ def exiftool(*words: str) -> List[str]:
 
 
 @functools.lru_cache(maxsize=None)
-def version(program: str) -> Optional[str]:
+def version(program: str, seconds: float) -> Optional[str]:
     """The version that a program prints, or nothing if it isn't installed. Raises `Failed` if it prints none."""
     if not is_there(program):
         return None
     words = exiftool("-ver") if program == "exiftool" else [needed(program), "--version"]
-    output = run(words).stdout[:1000].decode("ascii", "replace").split("\n", 1)[0]
+    output = run(words, seconds).stdout[:1000].decode("ascii", "replace").split("\n", 1)[0]
     return output.rpartition(" ")[2].strip() or None
 
 
-def run(words: List[str], folder: Optional[str] = None) -> Done:
+def run(words: List[str], seconds: float, folder: Optional[str] = None) -> Done:
     """Runs a program to its end. Raises `Failed` if it takes too long or writes too much."""
     started = start(words, folder)
     try:
-        output = read_until(started, lambda _: False)
-        return Done(started.wait(max(current().seconds, 1.0)), output)
+        output = read_until(started, lambda _: False, seconds)
+        return Done(started.wait(max(seconds, 1.0)), output)
     except subprocess.TimeoutExpired:
-        raise TooSlow(f"{_name(words)} took longer than {current().seconds:g} seconds") from None
+        raise TooSlow(f"{_name(words)} took longer than {seconds:g} seconds") from None
     finally:
         end(started)
 
@@ -152,15 +151,15 @@ def end(started: "subprocess.Popen[bytes]") -> None:
                 pass
 
 
-def read_until(started: "subprocess.Popen[bytes]", complete: Callable[[bytearray], bool]) -> bytes:
+def read_until(started: "subprocess.Popen[bytes]", complete: Callable[[bytearray], bool], seconds: float) -> bytes:
     """A program's output until it is complete or ends. Raises `Failed` at the limits."""
     assert started.stdout is not None
-    ends = time.monotonic() + current().seconds
+    ends = time.monotonic() + seconds
     output = bytearray()
     while not complete(output):
         left = ends - time.monotonic()
         if left <= 0 or not select.select([started.stdout], [], [], left)[0]:
-            raise TooSlow(f"{_name(started.args)} took longer than {current().seconds:g} seconds")  # type: ignore[arg-type]
+            raise TooSlow(f"{_name(started.args)} took longer than {seconds:g} seconds")  # type: ignore[arg-type]
         piece = os.read(started.stdout.fileno(), _PIECE)
         if not piece:
             break

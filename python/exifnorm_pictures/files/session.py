@@ -1,14 +1,14 @@
 """What a run shares: a temporary folder, how long other programs may take, whether tracebacks are printed, and ExifTool's process.
 
-A command runs in one session, and each further process that looks at pictures has one in the same folder. A process in which none was
-begun, such as a worker of a cluster, gets one that ends with it.
+A command runs in one session, which is passed to what needs it. Each further process that looks at pictures has one of its own in the
+same folder, and so has each task of a cluster's worker. Two threads can't share one.
 """
 
 from __future__ import annotations
 
-import atexit
 import contextlib
 import os
+import tempfile
 from typing import Optional, Protocol
 
 from ..model.budgets import PROGRAM_SECONDS
@@ -22,17 +22,17 @@ class Closes(Protocol):
 
 
 class Session:
-    """A session. Use it in a `with`; inside, `current()` is this one."""
+    """A session. Use it in a `with`: at its end its program ends, and its folder is removed."""
 
-    def __init__(self, seconds: Optional[float] = None, debug: Optional[bool] = None, room: Optional[str] = None) -> None:
-        """What isn't given is as in the session in which this one begins; without `room` it makes a folder of its own, if it needs one."""
-        before = _current
-        self.seconds: float = seconds if seconds is not None else before.seconds if before else PROGRAM_SECONDS
-        asked = debug if debug is not None else bool(before and before.debug)
-        self.debug: bool = asked or os.environ.get("EXIFNORM_DEBUG") == "1"
+    def __init__(self, seconds: float = PROGRAM_SECONDS, debug: bool = False, room: Optional[str] = None) -> None:
+        """How long a program may take for one file, whether tracebacks are printed, and the folder of the run; without `room` the session
+        makes a folder of its own, if it needs one."""
+        self.seconds = seconds
+        self.debug = debug or os.environ.get("EXIFNORM_DEBUG") == "1"
         self.pid = os.getpid()
         self.tool: Optional[Closes] = None  # ExifTool's process, which `exiftool` starts at the first call
-        self._room, self._rooms, self._before = room, contextlib.ExitStack(), before
+        self._room, self._rooms = room, contextlib.ExitStack()
+        self._folder: Optional[str] = None
 
     @property
     def room(self) -> str:
@@ -44,16 +44,10 @@ class Session:
         return self._room
 
     def folder(self) -> str:
-        """The folder of this process in that of the run."""
-        name = os.path.join(self.room, str(self.pid))
-        os.makedirs(name, exist_ok=True)
-        return name
-
-    def begin(self) -> "Session":
-        """From now on `current()` is this one."""
-        global _current
-        self._before, _current = _current, self
-        return self
+        """The folder of this session alone, in that of the run."""
+        if self._folder is None:
+            self._folder = tempfile.mkdtemp(prefix=f"{self.pid}-", dir=self.room)
+        return self._folder
 
     def close_tool(self) -> None:
         """Ends ExifTool, if one runs. The next call starts another."""
@@ -63,9 +57,6 @@ class Session:
 
     def close(self) -> None:
         """Ends ExifTool and removes the folder, if it is this session's own."""
-        global _current
-        if _current is self:
-            _current = self._before
         try:
             self.close_tool()
         finally:
@@ -73,19 +64,7 @@ class Session:
                 self._rooms.close()
 
     def __enter__(self) -> "Session":
-        return self.begin()
+        return self
 
     def __exit__(self, *_: object) -> None:
         self.close()
-
-
-_current: Optional[Session] = None
-
-
-def current() -> Session:
-    """The session of this process."""
-    now = _current
-    if now is None or now.pid != os.getpid():
-        now = Session().begin()
-        atexit.register(now.close)
-    return now

@@ -12,6 +12,7 @@ from collections import Counter
 from typing import Dict, Iterator, List, NamedTuple, Optional, Sequence, Tuple
 
 from ..extract import exiftool, programs
+from ..files.session import Session
 from ..model.budgets import FIELD_BYTES
 from ..model.columns import Damaged
 from ..model.records import Picture, Stamp, has, is_marked_as
@@ -66,17 +67,17 @@ class Difference(NamedTuple):
     after: Optional[str]
 
 
-def readings_of(paths: Sequence[bytes]) -> List[Reading]:
+def readings_of(session: Session, paths: Sequence[bytes]) -> List[Reading]:
     """What ExifTool reads of the MakerNotes of some files. Raises `programs.Failed` and `programs.Missing`."""
-    return [it for at in range(0, len(paths), MANY) for it in _asked(paths[at : at + MANY])]
+    return [it for at in range(0, len(paths), MANY) for it in _asked(session, paths[at : at + MANY])]
 
 
-def _asked(paths: Sequence[bytes]) -> List[Reading]:
-    answers = exiftool.ask_several(paths, (), _WORDS)
+def _asked(session: Session, paths: Sequence[bytes]) -> List[Reading]:
+    answers = exiftool.ask_several(session, paths, (), _WORDS)
     warnings = [sorted(value for name, value in it.items() if _is_warning(name)) for it in answers]
     warned = [number for number, some in enumerate(warnings) if some]
     if warned:
-        others = exiftool.ask_several([paths[number] for number in warned], (), (*_WARNINGS, _WITHOUT))
+        others = exiftool.ask_several(session, [paths[number] for number in warned], (), (*_WARNINGS, _WITHOUT))
         for number, it in zip(warned, others):
             warnings[number] = sorted((Counter(warnings[number]) - Counter(it.values())).elements())
     return [Reading(_values(it), tuple(some)) for it, some in zip(answers, warnings)]
@@ -90,19 +91,19 @@ def _values(answer: Dict[str, str]) -> Values:
     return {name: _short(value) for name, value in answer.items() if not _is_warning(name) and name.rpartition(":")[2] not in _PLACES}
 
 
-def each_reading(paths: Sequence[bytes]) -> Iterator[Optional[Reading]]:
+def each_reading(session: Session, paths: Sequence[bytes]) -> Iterator[Optional[Reading]]:
     """What ExifTool reads of the MakerNotes of each file; None for one at which it fails. Raises `programs.Missing`."""
     for at in range(0, len(paths), MANY):
         some = paths[at : at + MANY]
         try:
-            yield from _asked(some)
+            yield from _asked(session, some)
         except programs.Failed:
-            yield from map(_by_itself, some)
+            yield from (_by_itself(session, path) for path in some)
 
 
-def _by_itself(path: bytes) -> Optional[Reading]:
+def _by_itself(session: Session, path: bytes) -> Optional[Reading]:
     try:
-        return _asked([path])[0]
+        return _asked(session, [path])[0]
     except programs.Failed:
         return None
 
@@ -146,7 +147,7 @@ class Compared(NamedTuple):
     is_new: bool = False
 
 
-def compared(sides: Sides, one: Picture, other: Picture) -> Optional[Compared]:
+def compared(session: Session, sides: Sides, one: Picture, other: Picture) -> Optional[Compared]:
     """Two pictures compared; None if a reading isn't known: a file has changed since, or there is no ExifTool."""
     known: Dict[int, Reading] = {}
     for number, it in enumerate((one, other)):
@@ -157,7 +158,7 @@ def compared(sides: Sides, one: Picture, other: Picture) -> Optional[Compared]:
             return None
     missing = [number for number in (0, 1) if number not in known]
     try:
-        known.update(zip(missing, readings_of([(one, other)[number].path for number in missing]) if missing else ()))
+        known.update(zip(missing, readings_of(session, [(one, other)[number].path for number in missing]) if missing else ()))
     except (programs.Failed, programs.Missing):
         return None
     first, second = known[0], known[1]

@@ -13,6 +13,7 @@ from typing import Callable, Dict, List, NamedTuple, Optional, Tuple
 from ..extract import programs
 from ..extract.extraction import blocks_of
 from ..files import atomic, opening
+from ..files.session import Session
 from ..judge.judge import judge_all
 from ..model.found import EXIF, REST, Blocks, damage
 from ..model.steps import Step, loses
@@ -62,18 +63,18 @@ class Mended:
     is_written: bool = False  # whether there is a copy
 
 
-def mend(picture: bytes, out: bytes, room: str, with_folders: bool = False, lossless: bool = False) -> Mended:
+def mend(picture: bytes, out: bytes, session: Session, with_folders: bool = False, lossless: bool = False) -> Mended:
     """Writes a copy with accepted blocks to the new file `out`. Raises `NotWritten`, `NeedsExifTool` and `programs.Failed`.
 
     The steps are tried in the order of `STEPS`. The first that changes no printed value is used; if none is, the one that loses
     the fewest values and, among equals, adds the fewest; with `lossless` a copy that loses any isn't written. The values are those that
-    ExifTool prints, without offsets. Without ExifTool only a repair that loses nothing is used. Temporary files are in the folder `room`;
-    `with_folders` makes the folders of `out`.
+    ExifTool prints, without offsets. Without ExifTool only a repair that loses nothing is used. Temporary files are in the session's
+    folder; `with_folders` makes the folders of `out`.
     """
     if os.path.lexists(out):
         raise NotWritten("the copy is there already")
-    with tempfile.TemporaryDirectory(dir=room) as own:
-        result, made = attempt(picture, own)
+    with tempfile.TemporaryDirectory(dir=session.room) as own:
+        result, made = attempt(session, picture, own)
         if made is None or (lossless and result.lost):
             return result
         if with_folders:
@@ -83,18 +84,18 @@ def mend(picture: bytes, out: bytes, room: str, with_folders: bool = False, loss
     return result
 
 
-def attempt(picture: bytes, room: str) -> Tuple[Mended, Optional[bytes]]:
+def attempt(session: Session, picture: bytes, room: str) -> Tuple[Mended, Optional[bytes]]:
     """What `mend` does with a picture, and the file that it would write, which is in the folder `room`; none if no step helps. Raises
     `NeedsExifTool` and `programs.Failed`."""
-    taken = blocks_of(picture)
+    taken = blocks_of(picture, session=session)
     if taken.problem:
         return Mended(NONE, {}, problem=f"{taken.problem}: {taken.detail}"), None
     before, left = _refusals(taken), damage(it.what for it in taken.not_read)
     if not before:
         return Mended(COPY, {}, damage=left), picture
-    repair = _repaired(picture, taken, room)
+    repair = _repaired(session, picture, taken, room)
     if programs.is_there("exiftool"):
-        best = _best(picture, repair, room)
+        best = _best(session, picture, repair, room)
     elif repair is not None and not loses(repair.steps):
         best = ("repair", repair.file, [], [])
     else:
@@ -120,7 +121,7 @@ class _Repair(NamedTuple):
     steps: Tuple[Step, ...]
 
 
-def _repaired(picture: bytes, taken: Blocks, room: str) -> Optional[_Repair]:
+def _repaired(session: Session, picture: bytes, taken: Blocks, room: str) -> Optional[_Repair]:
     """A copy whose Exif blocks are repaired; none if that isn't enough, or changes anything else that is read of the file."""
     with opening.reading(picture) as given:
         made = repaired_file(given.read(), taken.type, taken.found)
@@ -129,7 +130,7 @@ def _repaired(picture: bytes, taken: Blocks, room: str) -> Optional[_Repair]:
     name = os.path.join(room, "repair" + _suffix(picture))
     with open(name, "xb") as copy:
         copy.write(made[0])
-    after = blocks_of(os.fsencode(name))
+    after = blocks_of(os.fsencode(name), session=session)
     if after.problem or _refusals(after) or _beside_exif(after) != _beside_exif(taken):
         return None
     return _Repair(name, made[1])
@@ -162,25 +163,25 @@ def _suffix(picture: bytes) -> str:
     return extension[0].decode("ascii") if extension else ""
 
 
-def _best(picture: bytes, repair: Optional[_Repair], room: str) -> Optional[Attempt]:
+def _best(session: Session, picture: bytes, repair: Optional[_Repair], room: str) -> Optional[Attempt]:
     suffix = _suffix(picture)
     first = os.path.join(room, "first" + suffix)
     with opening.reading(picture) as given, open(first, "xb") as made_first:
         shutil.copyfileobj(given, made_first)
-    before = _printed(first)
+    before = _printed(session, first)
     best: Optional[Attempt] = None
     for step in STEPS:
         made = os.path.join(room, step + suffix)
         if step != "repair":
             shutil.copyfile(first, made)
-            if not _REMEDIES[step](made):
+            if not _REMEDIES[step](session, made):
                 continue
         elif repair is None:
             continue
-        taken = blocks_of(os.fsencode(made))
+        taken = blocks_of(os.fsencode(made), session=session)
         if taken.problem or _refusals(taken):
             continue
-        after = _printed(made)
+        after = _printed(session, made)
         lost, gained = sorted((before - after).elements()), sorted((after - before).elements())
         if best is None or (len(lost), len(gained)) < (len(best[2]), len(best[3])):
             best = (step, made, lost, gained)
@@ -192,49 +193,52 @@ def _best(picture: bytes, repair: Optional[_Repair], room: str) -> Optional[Atte
 _FREE = ("PageName", "DocumentName", "HostComputer")
 
 
-def _free_field(name: str) -> Optional[str]:
+def _free_field(session: Session, name: str) -> Optional[str]:
     """A field of the main directory that the picture doesn't have, so that adding and taking it away changes none."""
-    output = programs.run(programs.exiftool("-q", "-q", "-m", "-s", *(f"-IFD0:{it}" for it in _FREE), name)).stdout
+    output = programs.run(programs.exiftool("-q", "-q", "-m", "-s", *(f"-IFD0:{it}" for it in _FREE), name), session.seconds).stdout
     there = {line.split(b":")[0].strip().decode("ascii", "replace") for line in output.split(b"\n")}
     return next((it for it in _FREE if it not in there), None)
 
 
-def _touch(name: str) -> bool:
+def _touch(session: Session, name: str) -> bool:
     """Adds and removes a field of each kind, so that both blocks are written again."""
-    free = _free_field(name)
+    free = _free_field(session, name)
     if free is None:
         return False
     adding, taking = [f"-IFD0:{free}=zz"], [f"-IFD0:{free}="]
-    if programs.run(programs.exiftool("-q", "-q", "-m", "-b", "-IPTC", name)).stdout:
+    if programs.run(programs.exiftool("-q", "-q", "-m", "-b", "-IPTC", name), session.seconds).stdout:
         adding.append("-IPTC:SubjectReference+=exifnorm:01000000:mend")
         taking.append("-IPTC:SubjectReference-=exifnorm:01000000:mend")
     call = programs.exiftool("-q", "-q", "-m", "-overwrite_original")
-    return programs.run([*call, *adding, name]).returncode == 0 and programs.run([*call, *taking, name]).returncode == 0
+    return (
+        programs.run([*call, *adding, name], session.seconds).returncode == 0
+        and programs.run([*call, *taking, name], session.seconds).returncode == 0
+    )
 
 
-def _by_exiv2(name: str) -> bool:
-    free = _free_field(name)
+def _by_exiv2(session: Session, name: str) -> bool:
+    free = _free_field(session, name)
     if free is None or not programs.is_there("exiv2"):
         return False
     call = [programs.needed("exiv2"), "-q", "-Q", "m"]
-    added = programs.run([*call, "-M", f"set Exif.Image.{free} Ascii zz", name])
-    return added.returncode == 0 and programs.run([*call, "-M", f"del Exif.Image.{free}", name]).returncode == 0
+    added = programs.run([*call, "-M", f"set Exif.Image.{free} Ascii zz", name], session.seconds)
+    return added.returncode == 0 and programs.run([*call, "-M", f"del Exif.Image.{free}", name], session.seconds).returncode == 0
 
 
-def _rebuild(name: str) -> bool:
+def _rebuild(session: Session, name: str) -> bool:
     words = ["-q", "-q", "-m", "-overwrite_original", "-all=", "-tagsfromfile", "@", "-all:all", "-unsafe", name]
-    return programs.run(programs.exiftool(*words)).returncode == 0
+    return programs.run(programs.exiftool(*words), session.seconds).returncode == 0
 
 
-_REMEDIES: Dict[str, Callable[[str], bool]] = {"touch": _touch, "exiv2": _by_exiv2, "rebuild": _rebuild}
+_REMEDIES: Dict[str, Callable[[Session, str], bool]] = {"touch": _touch, "exiv2": _by_exiv2, "rebuild": _rebuild}
 
 _OFFSETS = re.compile(rb"Offset|Start |Padding|IPTCDigest")
 
 
-def _printed(name: str) -> "Counter[str]":
+def _printed(session: Session, name: str) -> "Counter[str]":
     """All values that ExifTool prints, except offsets: as it prints them, and behind that exactly, since it rounds numbers for people."""
     words = ["-q", "-q", "-m", "-a", "-u", "-s", "-G1", "-x", "System:all", "-x", "File:all", "-x", "Composite:all"]
-    output = programs.run(programs.exiftool(*words, "-x", "ExifTool:all", "-x", "JFIF:all", "-all", "-all#", name)).stdout
+    output = programs.run(programs.exiftool(*words, "-x", "ExifTool:all", "-x", "JFIF:all", "-all", "-all#", name), session.seconds).stdout
     lines = [re.sub(rb"\s+", b" ", it) for it in output.split(b"\n") if it]
     both = (re.sub(rb", use -b.*?(?=\)|$)", b"", it) for it in _with_numbers(lines) if not _OFFSETS.search(it))
     return Counter(it.decode("utf-8", "backslashreplace") for it in both)

@@ -16,6 +16,7 @@ from ..comparison.readings import Unknown
 from ..comparison.wording import sides
 from ..fields.choosing import EVERYTHING, Choice
 from ..fields.left_out import lines
+from ..files.session import Session
 from ..model.records import WORDS, Picture, has, kind_of
 from ..model.texts import Members, path_members, shown_path
 from .contradictions import Contradictions, checked, texts
@@ -33,6 +34,7 @@ class About:
     only: Optional[Set[bytes]] = None
     look: bool = True
     choice: Choice = EVERYTHING
+    session: Optional[Session] = None  # in which ExifTool is asked
     _table: Optional[str] = None
 
     def table(self) -> Optional[str]:
@@ -93,12 +95,13 @@ class Gathered:
     left_out: List[str] = field(default_factory=list)  # lines about what differs and is left out
     runs: List[Run] = field(default_factory=list)
     roots: List[bytes] = field(default_factory=list)
+    session: Optional[Session] = None  # in which thumbnails are read
 
 
 def gather(about: About) -> Gathered:
     """The contents of a catalogue, and the changes since an older one: counts, and the first of each list."""
     catalogue = about.catalogue
-    found = Gathered(runs=catalogue.runs(), since=about.old is not None, roots=catalogue.roots())
+    found = Gathered(runs=catalogue.runs(), since=about.old is not None, roots=catalogue.roots(), session=about.session)
     later: List[Picture] = []
     for picture in catalogue.pictures(about.table()):
         found.total += 1
@@ -117,7 +120,7 @@ def gather(about: About) -> Gathered:
     _gather_parts(found, about)
     found.all_groups = groups.totals(catalogue, only=about.table(), choice=about.choice)
     for group in groups.groups(
-        catalogue, only=about.table(), most=MOST_GROUPS, look=about.look, choice=about.choice, unknown=found.unknown
+        catalogue, only=about.table(), most=MOST_GROUPS, look=about.look, choice=about.choice, unknown=found.unknown, session=about.session
     ):
         sentence = group.sentence() + f"; {groups.KEEP_ALL}" * group.rests_on_readings
         found.groups.append((group.count, sentence, list(group.pictures(MOST_OF_GROUP))))
@@ -170,7 +173,13 @@ def _gather_changes(found: Gathered, about: About) -> None:
     assert about.old is not None
     equal = changed.Equal()
     found_changes = changed.changed(
-        about.old, about.catalogue, found.results, about.only, ask=about.look, choice=about.choice, pictures=found.coded
+        about.old,
+        about.catalogue,
+        found.results,
+        about.only,
+        session=about.session if about.look else None,
+        choice=about.choice,
+        pictures=found.coded,
     )
     for it in found_changes:
         if it.result in changed.UNCHANGED:
@@ -205,7 +214,7 @@ def members(about: About) -> Iterator[Members]:
         **({"unproved": without_proof} if without_proof else {}),
     }
     unknown: Unknown = Counter()
-    for group in groups.groups(catalogue, only=about.table(), look=about.look, choice=about.choice, unknown=unknown):
+    for group in groups.groups(catalogue, only=about.table(), look=about.look, choice=about.choice, unknown=unknown, session=about.session):
         wholly_read = not group.not_read and group.basis == groups.MEANING
         known = {"description": group.sentence(), "basis": group.basis, "same_bytes": group.same_bytes, "wholly_read": wholly_read}
         yield {"same": [path_members(it) for it in group.pictures()], **known}
@@ -234,7 +243,7 @@ def _changed_members(about: About) -> Iterator[Members]:
     results: "Counter[str]" = Counter()
     fields: "Counter[str]" = Counter()
     about.choice.left_out.clear()  # of the page
-    for it in changed.changed(about.old, about.catalogue, results, about.only, choice=about.choice):
+    for it in changed.changed(about.old, about.catalogue, results, about.only, session=about.session, choice=about.choice):
         if it.result in changed.UNCHANGED:
             continue
         fields.update({change.change_name for change in it.changes})

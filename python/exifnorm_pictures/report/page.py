@@ -193,7 +193,7 @@ def _more(count: int, most: int, what: str) -> str:
 
 
 def _groups(found: Gathered) -> str:
-    small = small_pictures([path for _, _, pictures in found.groups for path in pictures])
+    small = small_pictures([path for _, _, pictures in found.groups for path in pictures], found.session)
     parts = ["<section><h2>Pictures with the same metadata</h2>"]
     if not found.groups:
         are_absent = "None is listed: the files are gone or have changed since they were indexed."

@@ -9,6 +9,7 @@ import exifnorm
 
 from ..extract import extraction, programs
 from ..files import opening
+from ..files.session import Session
 from ..model.found import EXIF
 
 LARGEST = 32_768  # bytes of one small picture
@@ -17,12 +18,12 @@ MOST = 2_000_000  # bytes of all small pictures of a page
 _BEGINNINGS = ((b"\xff\xd8\xff", "image/jpeg"), (b"\x89PNG\r\n\x1a\n", "image/png"), (b"GIF8", "image/gif"))
 
 
-def small_pictures(paths: Sequence[bytes]) -> Dict[bytes, str]:
+def small_pictures(paths: Sequence[bytes], session: Optional[Session] = None) -> Dict[bytes, str]:
     """A data URI for each of these pictures that has a thumbnail, up to the limit. The pictures are read again."""
     found: Dict[bytes, str] = {}
     left = MOST
     for path in dict.fromkeys(paths):
-        octets = _embedded(_exif(path)) or _by_itself(path)
+        octets = _embedded(_exif(session, path)) or _by_itself(path)
         kind = _kind(octets) if octets else None
         if octets and kind and len(octets) <= min(LARGEST, left):
             left -= len(octets)
@@ -30,10 +31,10 @@ def small_pictures(paths: Sequence[bytes]) -> Dict[bytes, str]:
     return found
 
 
-def _exif(path: bytes) -> Optional[bytes]:
+def _exif(session: Optional[Session], path: bytes) -> Optional[bytes]:
     """The first Exif block of a picture, as far as it can be read."""
     try:
-        return next((it.data for it in extraction.blocks_of(path).of_kind(EXIF)), None)
+        return next((it.data for it in extraction.blocks_of(path, session=session).of_kind(EXIF)), None)
     except (programs.Missing, programs.Failed):
         return None
 

@@ -31,6 +31,7 @@ class How:
     sidecars: bool = False  # XMP files beside pictures are blocks of them
     seconds: float = PROGRAM_SECONDS  # that a program may take for one file
     room: str = ""  # a folder for temporary files
+    debug: bool = False  # print tracebacks
     lines: Optional[Lines] = None  # makes the lines that are printed about a picture
 
     @property

@@ -13,7 +13,7 @@ from dataclasses import replace
 from typing import Any, Dict, Iterator, List, Optional, Sequence
 
 from ..extract import programs
-from ..files.session import current
+from ..files.session import Session
 from ..model.records import RACY, Picture, Stamp
 from . import looking
 from .batches import How
@@ -33,8 +33,9 @@ POLL = 2.0  # seconds without a result after which the workers are counted
 
 def look_there(root: bytes, names: Sequence[bytes], how: How) -> List[Picture]:
     """A worker's task: looks at files by their names relative to its own path of the folder."""
-    current().seconds = how.seconds
-    return [looking.look(FoundFile(os.path.join(root, name), root, _stamp(os.path.join(root, name))), how) for name in names]
+    with Session(how.seconds, how.debug) as session:
+        paths = [os.path.join(root, name) for name in names]
+        return [looking.look(FoundFile(path, root, _stamp(path)), how, session) for path in paths]
 
 
 def _stamp(path: bytes) -> Optional[Stamp]:

@@ -201,9 +201,9 @@ def _named_wrong(work: Work, catalogue: Catalogue) -> Iterator[Picture]:
         yield Picture.of(it.path, b"", problem="Unreadable", detail=it.reason + kept)
 
 
-def _version(program: str) -> Optional[str]:
+def _version(program: str, seconds: float) -> Optional[str]:
     try:
-        return programs.version(program)
+        return programs.version(program, seconds)
     except programs.Failed as error:
         return str(error)
 
@@ -263,7 +263,7 @@ class _Looking:
         """Keeps the versions of programs that have read a picture. To ask ExifTool takes as long as to look at a hundred pictures."""
         new = programs - self.versions.keys()
         if new:
-            self.versions.update({it: _version(it) for it in new})
+            self.versions.update({it: _version(it, self.options.how.seconds) for it in new})
             self.catalogue.set_versions(self.run, self.version, self.versions.get(EXIFTOOL), self.versions.get(EXIV2))
 
     def count(self, it: Picture, lines: Optional[Lines]) -> None:

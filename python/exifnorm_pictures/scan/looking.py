@@ -25,9 +25,9 @@ FINE, COARSE = 20_000_000, 2_000_000_000
 _NOT_OPENED = ("Vanished", "LinkToNothing", "NotAFile", "Unreadable")  # the problems of files whose bytes nobody can read
 
 
-def look(it: FoundFile, how: How, packs: bool = True) -> Picture:
+def look(it: FoundFile, how: How, session: Session, packs: bool = True) -> Picture:
     """The result for one file, its fields packed for a catalogue unless that isn't asked for. An error of any kind affects only this file."""
-    return compared_with_before(it, _look(it, how, packs))
+    return compared_with_before(it, _look(it, how, session, packs))
 
 
 def compared_with_before(it: FoundFile, found: Picture) -> Picture:
@@ -35,15 +35,15 @@ def compared_with_before(it: FoundFile, found: Picture) -> Picture:
     return found._replace(is_known=True) if found.problem and found.problem == it.problem else found
 
 
-def _look(it: FoundFile, how: How, packs: bool) -> Picture:
+def _look(it: FoundFile, how: How, session: Session, packs: bool) -> Picture:
     began = _now()
     try:
         marks = sidecars.marks(it.path, it.sidecars, lambda *times: _is_racy(times, began)) if it.sidecars else ""
-        blocks, judged = _read(it, how, packs)
+        blocks, judged = _read(it, how, session, packs)
         whole_file = file_digest(it.path, blocks, how.whole)
         if it.sidecars:
             whole_file = sidecars.with_sidecars(whole_file, it.path, it.sidecars)
-        notes = _maker_notes(it.path, judged) if how.maker_notes else None
+        notes = _maker_notes(session, it.path, judged) if how.maker_notes else None
         pixels = _pixels(it.path, blocks) if how.pixels else (None, "", "", None)
     except LibraryMissing:  # an OSError too, but not of this file
         raise
@@ -56,16 +56,16 @@ def _look(it: FoundFile, how: How, packs: bool) -> Picture:
     except MemoryError:
         return failed(it, "out of memory")
     except Exception as error:  # an error of a reader affects only this file
-        return Picture.found(it.path, it.root, it.stamp, extraction.failed_here(error))
+        return Picture.found(it.path, it.root, it.stamp, extraction.failed_here(error, session))
     coded, beside, damage, whole = pixels
     more = {"notes": notes, "coded_picture": coded, "beside": beside, "damage": damage, "sha256": whole, "sidecars": marks}
     return Picture.found(it.path, it.root, _unless_changed(it, began), blocks, judged, file=whole_file, **more)
 
 
-def _read(it: FoundFile, how: How, packs: bool) -> Tuple[Blocks, List[Block]]:
+def _read(it: FoundFile, how: How, session: Session, packs: bool) -> Tuple[Blocks, List[Block]]:
     """The blocks of a file and its sidecars, and what they mean. A file over a limit has a problem, and so has one for which a program takes too long."""
     try:
-        blocks = extraction.blocks_of(it.path, how.whole)
+        blocks = extraction.blocks_of(it.path, how.whole, session)
         if blocks.problem == "NoFile":  # which was there when its folder was listed
             blocks = Blocks(problem="Vanished", detail=PROBLEMS["Vanished"])
         if it.sidecars:
@@ -77,13 +77,13 @@ def _read(it: FoundFile, how: How, packs: bool) -> Tuple[Blocks, List[Block]]:
         return Blocks(problem="TooSlow", detail=str(error)), []
 
 
-def _maker_notes(path: bytes, judged: Sequence[Block]) -> Optional[bytes]:
+def _maker_notes(session: Session, path: bytes, judged: Sequence[Block]) -> Optional[bytes]:
     """What ExifTool reads of the MakerNotes of a picture that has one."""
     if all(it.note is None for it in judged):
         return None
     from ..judge import maker_notes
 
-    return maker_notes.packed(maker_notes.readings_of([path])[0])
+    return maker_notes.packed(maker_notes.readings_of(session, [path])[0])
 
 
 def _pixels(path: bytes, blocks: Blocks) -> Tuple[Optional[str], str, str, Optional[str]]:
@@ -147,6 +147,6 @@ def _is_racy(times: Sequence[int], began: int) -> bool:
 
 def in_this_process(work: Sequence[FoundFile], how: How) -> Iterator[Picture]:
     """The results for these files, in their order."""
-    with Session(how.seconds, room=how.room or None):
+    with Session(how.seconds, how.debug, how.room or None) as session:
         for it in work:
-            yield look(it, how)
+            yield look(it, how, session)

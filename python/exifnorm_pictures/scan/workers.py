@@ -71,11 +71,18 @@ def look_at_some(task: Task, how: How) -> Batch:
     ends_at = time.monotonic() + LONGEST_WAIT
     entries: List[Picture] = []
     for it in task.chunk:
-        entries.append(look(it, how))
+        entries.append(_look(it, how))
         if time.monotonic() > ends_at:
             break
     return batch(task.file, entries, task.chunk[len(entries) :], how.lines)
 
+
+def _look(it: FoundFile, how: How) -> Picture:
+    """A process's result for a file."""
+    return look(it, how, _sessions[-1])
+
+
+_sessions: List[Session] = []  # in a process of a pool its one session: a task of a pool is given nothing that its process has made
 
 _PR_SET_PDEATHSIG = 1
 
@@ -89,8 +96,8 @@ def _begin(how: How, parent: int, mask: Set[int]) -> None:
     signal.signal(signal.SIGHUP, signal.SIG_DFL)
     signal.signal(signal.SIGTERM, signal.SIG_DFL)
     signal.pthread_sigmask(signal.SIG_SETMASK, mask)
-    session = Session(how.seconds, room=how.room).begin()
-    util.Finalize(None, session.close, exitpriority=10)  # the processes of a pool don't run atexit
+    _sessions.append(Session(how.seconds, how.debug, how.room))
+    util.Finalize(None, _sessions[-1].close, exitpriority=10)  # the processes of a pool don't run atexit
 
 
 def _by_processes(chunks: Iterator[Sequence[FoundFile]], how: How, files: Iterator[str], unfinished: List[Task]) -> Iterator[Batch]:
@@ -173,7 +180,7 @@ def _one_by_one(chunk: Sequence[FoundFile], how: How) -> Iterator[Picture]:
     for it in chunk:
         pool = _pool(how, 1)
         try:
-            yield pool.submit(look, it, how).result()
+            yield pool.submit(_look, it, how).result()
         except BrokenProcessPool:
             yield failed(it, "the process that looked at it died twice")
         finally:
