@@ -1,7 +1,7 @@
 /* Walks bytes by exifnorm_fields.h. The file has each form's length, four bytes with the least significant first, and the form.
  *
  *   fields print FILE          a line for each field, as a listing has it, with its directory and its number of bytes; then `whole` or `cut`
- *   fields numbers FILE        a line for each element: as an integer, a fraction and a number, `-` where it is none
+ *   fields numbers FILE        a line for each element: as an integer, a fraction and a number, `-` where it is none; then the size of the text
  *   fields change FILE N       each form and its beginnings N times with some bytes changed, each in memory of its own length. A line for
  *                              each law that is broken, and at the end the number of fields
  */
@@ -60,6 +60,7 @@ static void print_numbers(const struct exifnorm_field *field) {
         exifnorm_field_fraction(field, i, &numerator, &denominator) ? printf("%" PRId64 "/%" PRId64 " ", numerator, denominator) : printf("- ");
         exifnorm_field_number(field, i, &number) ? printf("%.17g\n", number) : printf("-\n");
     }
+    printf("text %u\n", (unsigned)exifnorm_field_text_size(field));
 }
 
 static void print_fields(const unsigned char *form, size_t length, void (*print)(const struct exifnorm_field *)) {

@@ -160,7 +160,8 @@ NO_FORMS = {
     "a value before the others": (form_of((0x10F, 2, 5, 8), behind=bytes(6)), 0),
     "two values in the same bytes": (form_of((0x10E, 2, 6, TWO), (0x10F, 2, 6, TWO), behind=bytes(6)), 1),
     "a value without its padding": (form_of((0x10F, 2, 5, ONE), behind=bytes(5)), 0),
-    "a pointer of another type": (form_of((0x8769, 3, 1, ONE << 16)), 0),
+    "a pointer of another type": (form_of((0x8769, 1, 1, ONE), behind=form_of((0x9003, 2, 1, 0))[8:]), 0),
+    "a pointer of another count": (form_of((0x8769, 4, 0, ONE), behind=form_of((0x9003, 2, 1, 0))[8:]), 0),
     "a pointer to itself": (form_of((0x8769, 4, 1, 8)), 0),
     "a pointer to nothing": (form_of((0x8825, 4, 1, 0)), 0),
     "a thumbnail directory that is the main one": (form_of((0x10F, 2, 1, 0), following=8), 1),
@@ -172,6 +173,14 @@ NO_FORMS = {
     "fewer lengths than strips": (
         form_of(
             (0x10F, 2, 1, 0), following=ONE, behind=form_of((0x111, 4, 2, 56), (0x117, 4, 1, 0), behind=struct.pack(">2L", 64, 64))[8:]
+        ),
+        1,
+    ),
+    "lists of strips of another type": (
+        form_of(
+            (0x10F, 2, 1, 0),
+            following=ONE,
+            behind=form_of((0x111, 3, 3, 56), (0x117, 3, 3, 62), behind=struct.pack(">LHLH", 68, 0, 0, 0))[8:],
         ),
         1,
     ),
@@ -188,14 +197,23 @@ def test_what_is_no_form_has_the_fields_before_the_fault(sanitized, folder, name
     assert (len(lines), end) == (count, "cut")
 
 
-def test_a_value_that_is_no_record_is_a_field(sanitized, folder):
-    """0x83BB is a field with any other bytes (docs/FORMAT.md, "Caption record"), also if they begin with a DataSet."""
-    for octets in (b"\x1c\2\x19\0\1a", b"\x1c\2\x19\0\1a\x1c\2", b"text here!", b"\x1c\2\x19\0\2a"):
-        form = form_of((0x83BB, 7, len(octets), ONE), behind=octets + b"\0" * (len(octets) % 2))
-        (line, end) = run(sanitized, "print", write_forms(folder / "form", [form])).splitlines()
-        is_record = octets == b"\x1c\2\x19\0\1a"
-        assert line == ("record 2:25 1: 61 (1)" if is_record else f"main 83bb UNDEFINED {len(octets)}: {octets.hex()} ({len(octets)})")
-        assert end == "whole"
+DATASET = b"\x1c\2\x19\0\1a"
+PLAIN = [(7, DATASET + b"\x1c\2"), (7, b"text here!"), (7, b"\x1c\2\x19\0\2a"), (7, b""), (2, DATASET), (1, DATASET)]
+
+
+@pytest.mark.parametrize("number, octets", [(7, DATASET), *PLAIN], ids=repr)
+def test_a_value_that_is_no_record_is_a_field(sanitized, folder, number, octets):
+    """0x83BB is a field with any other bytes (docs/FORMAT.md, "Caption record"), also if they begin with a DataSet. A normal form has a
+    record as UNDEFINED alone."""
+    form = form_of((0x83BB, number, len(octets), ONE), behind=octets + b"\0" * (len(octets) % 2))
+    (line, end) = run(sanitized, "print", write_forms(folder / "form", [form])).splitlines()
+    expected = (
+        "record 2:25 1: 61 (1)"
+        if (number, octets) == (7, DATASET)
+        else rf"main 83bb \w+ {len(octets)}:( {octets.hex()})? \({len(octets)}\)"
+    )
+    assert line == expected or re.fullmatch(expected, line)
+    assert end == "whole"
 
 
 def test_more_bytes_than_a_form_has_are_none(folder):
@@ -227,7 +245,7 @@ FRACTIONS[("SRATIONAL", 10)] = ("2l", [(-46, 1), (1, -3), (-0x80000000, 0x7FFFFF
 def numbers_of(program, path, number, octets, count):
     inline = int.from_bytes(octets.ljust(4, b"\0"), "big")
     form = form_of((0x9999, number, count, ONE if len(octets) > 4 else inline), behind=octets if len(octets) > 4 else b"")
-    lines = run(program, "numbers", write_forms(path, [form])).splitlines()
+    lines = [it for it in run(program, "numbers", write_forms(path, [form])).splitlines() if not it.startswith("text")]
     assert lines[count].split()[2:] == ["-", "-", "-"], "an element behind the last one"
     return [tuple(it.split()[2:]) for it in lines[:count]]
 
@@ -254,6 +272,30 @@ def test_fractions(sanitized, folder, name, number):
 @pytest.mark.parametrize("number", [2, 7, 129])
 def test_other_types_have_no_numbers(sanitized, folder, number):
     assert numbers_of(sanitized, folder / "form", number, b"1\x002", 3) == [("-", "-", "-")] * 3
+
+
+TEXTS = [
+    (2, b"Vase\0", 4),
+    (2, b"one\0two\0", 3),
+    (2, b"no end", 6),
+    (129, b"Z\xc3\xbcrich\0", 7),
+    (2, b"", 0),
+    (2, b"\0\0", 0),
+    (7, b"text", 0),
+]
+
+
+@pytest.mark.parametrize("number, octets, size", TEXTS)
+def test_texts_end_before_the_first_zero(sanitized, folder, number, octets, size):
+    where = int.from_bytes(octets.ljust(4, b"\0"), "big") if len(octets) <= 4 else ONE
+    form = form_of((0x10E, number, len(octets), where), behind=octets + b"\0" * (len(octets) % 2) if len(octets) > 4 else b"")
+    assert f"text {size}" in run(sanitized, "numbers", write_forms(folder / "form", [form])).splitlines()
+
+
+@pytest.mark.parametrize("octets, size", [(b"a\0b", 3), (b"a\0\0", 1), (b"\0", 0), (b"", 0)])
+def test_texts_of_datasets_have_no_zeros_at_the_end(sanitized, folder, octets, size):
+    form = b"\x1c\2\x19" + struct.pack(">H", len(octets)) + octets
+    assert f"text {size}" in run(sanitized, "numbers", write_forms(folder / "form", [form])).splitlines()
 
 
 # ---- names and texts

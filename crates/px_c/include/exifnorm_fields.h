@@ -117,16 +117,15 @@ static inline uint32_t exifnorm_size_of_(uint32_t type) {
 /* The bytes are not laid out as a form: nothing follows. */
 static inline int exifnorm_broken_(struct exifnorm_fields *fields) {
     fields->stage = EXIFNORM_STAGE_END_;
-    fields->whole = 0;
     return 0;
 }
 
 /* Passes a part outside the tables, and the zero byte after an odd one: 1 if it begins at start, and ends in the form. */
 static inline int exifnorm_pass_(struct exifnorm_fields *fields, uint32_t start, uint64_t size) {
-    uint64_t room = fields->length - fields->placed;
-    if (start != fields->placed || size > room || (size + (size & 1)) > room)
+    size += size & 1;
+    if (start != fields->placed || size > fields->length - fields->placed)
         return 0;
-    fields->placed += (uint32_t)(size + (size & 1));
+    fields->placed += (uint32_t)size;
     return 1;
 }
 
@@ -343,7 +342,7 @@ static inline int exifnorm_fields_next(struct exifnorm_fields *fields, struct ex
 /* After exifnorm_fields_next has returned 0: 1 if all bytes were passed; 0 if they are no normal form, whose fields were given as far as
  * it is laid out as one. 1 is no proof of a normal form: for that normalise the bytes, and compare. */
 static inline int exifnorm_fields_whole(const struct exifnorm_fields *fields) {
-    return fields->stage == EXIFNORM_STAGE_END_ && fields->whole;
+    return fields->whole;
 }
 
 /* The functions below take a field that exifnorm_fields_next set, and an index from 0. */
