@@ -98,12 +98,12 @@ def _of_octets(it: Field, octets: bytes) -> Value:
     """A text, numbers, or the bytes."""
     if it.where == "iptc":
         return _of_dataset(it.key, octets)
-    if it.type in ("ASCII", "UTF8") or (it.where, it.key) in _VERSIONS:
+    if it.type in ("ASCII", "UTF8") or (it.type == "UNDEFINED" and (it.where, it.key) in _VERSIONS):
         return _text(octets)
     if is_comment(it):
         marked = marked_text(it, octets)
         text = marked[1] if marked else comment(octets)
-        return octets if text is None else text
+        return _text(octets) if text is None else text
     if is_wide_text(it):
         return octets[: len(octets) & ~1].decode("utf-16-le", "replace").rstrip("\0")
     if it.type in ("BYTE", "SBYTE"):
