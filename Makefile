@@ -7,6 +7,7 @@
 #   make wheel                            a Python wheel with the library, in out/wheel
 #   make wasm                             the library as WebAssembly, in out/wasm
 #   make npm                              a JavaScript package with it, in out/npm
+#   make page                             a web page with it, in out/page
 #   make c-source                         the library as C source for other machines, in out/c
 #   make sdist                            the Python packages as source, which compile it, in out/sdist
 #   make dist                             an archive of all that install writes, its sums and its components, in out/dist
@@ -57,7 +58,7 @@ papers = LICENSE-APACHE LICENSE-MIT CHANGELOG.md $(addprefix docs/,CATALOGUE.md 
 # all that is installed, before it is copied to its folder
 stage = out/stage
 
-.PHONY: all program library check stage install uninstall wheel wasm npm c-source sdist dist release clean help
+.PHONY: all program library check stage install uninstall wheel wasm npm page c-source sdist dist release clean help
 .DELETE_ON_ERROR:
 
 all: program library
@@ -165,6 +166,10 @@ wasm: $(archive)
 npm: wasm
 	rm -f out/npm/*.tgz
 	python3 packaging/npm.py out/wasm/exifnorm.wasm $(VERSION) $(epoch) out/npm/exifnorm-$(VERSION).tgz
+
+page: wasm
+	python3 packaging/page.py out/wasm/exifnorm.wasm out/page/exifnorm.html
+	@python3 build/guard.py out/page/exifnorm.html
 
 c-source: $(archive)
 	@python3 packaging/c_source.py $(VERSION) $(epoch) out/c

@@ -17,6 +17,10 @@ from pathlib import Path
 from typing import Iterator
 
 TOP = Path(__file__).resolve().parent.parent
+sys.path.insert(0, str(TOP / "build"))
+
+import guard
+
 FOLDER = TOP / "javascript"
 LICENCES = ("LICENSE-APACHE", "LICENSE-MIT")
 
@@ -28,9 +32,10 @@ def module(wasm: bytes) -> bytes:
 
 def files(wasm: bytes, version: str) -> Iterator[tuple[str, bytes]]:
     """The names and contents of the package's files."""
+    mark = guard.MARK if guard.MARK.encode() in wasm else ""
     for path in sorted(FOLDER.iterdir()):
         data = path.read_bytes()
-        yield path.name, data.replace(b"@VERSION@", version.encode()) if path.name == "package.json" else data
+        yield path.name, data.replace(b"@VERSION@", f"{version}{mark}".encode()) if path.name == "package.json" else data
     for name in LICENCES:
         yield name, (TOP / name).read_bytes()
     yield "wasm.js", module(wasm)

@@ -13,7 +13,7 @@ from pathlib import Path
 from typing import Any, Dict, List
 
 WORDS = ["chromium", "--headless", "--no-sandbox", "--disable-gpu", "--remote-debugging-pipe", "--disable-background-networking"]
-PATIENCE = 300  # seconds, also on a very busy machine
+PATIENCE = 120  # seconds, also on a very busy machine
 
 
 class Browser:

@@ -1,0 +1,601 @@
+/** The page: what is chosen, and what the worker answers. Whatever comes from pictures and names is put in as text, never as HTML. */
+"use strict";
+
+const PATIENCE = 30_000; // milliseconds for one question
+const ROWS = 300; // of a list, that are shown at once
+const MOST_FILES = 500_000, MOST_REFUSALS = 20;
+const SIDES = ["first", "second"], KINDS = { exif: "Exif", iim: "IPTC" };
+const PICTURES = /\.(?:jpe?g|jpe|png|tiff?|webp|hei[cf]|avif|dng|nef|cr[23]|arw|orf|rw2|raf|psd|gif|jp2|jxl|bmp)$/i;
+
+const $ = (id) => document.getElementById(id);
+const tables = JSON.parse($("tables").textContent);
+const counted = (number) => number.toLocaleString("en");
+const many = (number, noun) => `${counted(number)} ${noun}${number === 1 ? "" : "s"}`;
+const listed = (words) => words.length < 2 ? words.join("") : `${words.slice(0, -1).join(", ")} and ${words.at(-1)}`;
+
+/** A text without characters that control how it is shown, such as marks of direction. */
+const safe = (text) => text.replace(/[^\P{C}\n\t]|[\u2028\u2029]/gu, (character) => `\\u${character.codePointAt(0).toString(16).padStart(4, "0")}`);
+
+/** An element with its class, and its children: texts or elements; what is empty is left out. */
+function element(tag, name, ...children) {
+  const node = document.createElement(tag);
+  if (name) node.className = name;
+  node.append(...children.filter((child) => child !== null && child !== undefined && child !== false && child !== ""));
+  return node;
+}
+
+function button(text, act, name = "") {
+  const node = element("button", name, text);
+  node.type = "button";
+  node.onclick = act;
+  return node;
+}
+
+/** A text of our own in which `words` are code. */
+const withCode = (text) => text.split("`").map((part, i) => i % 2 ? element("code", "", part) : part);
+
+/** Shows a sentence, which screen readers announce. What the result shows too is only announced. */
+function say(text, isShown = true) {
+  $("status").textContent = text;
+  $("status").classList.toggle("unseen", !isShown);
+}
+
+/** Lets the user save bytes as a file. */
+function save(name, content, type) {
+  const link = element("a", ""), address = URL.createObjectURL(new Blob([content], { type }));
+  link.href = address;
+  link.download = name;
+  link.click();
+  setTimeout(() => URL.revokeObjectURL(address), 60_000);
+}
+
+// ---- the worker
+
+const policy = self.trustedTypes?.createPolicy("exifnorm", { createScriptURL: (address) => address }) ?? { createScriptURL: (address) => address };
+const waiting = new Map(); // questions by their numbers
+let worker = null, questions = 0;
+
+function begin() {
+  const given = `self.MODULE = ${JSON.stringify($("module").textContent)}; self.TABLES = ${JSON.stringify($("tables").textContent)};`;
+  const address = URL.createObjectURL(new Blob([`${given}\n${$("worker").textContent}`], { type: "text/javascript" }));
+  worker = new Worker(policy.createScriptURL(address));
+  URL.revokeObjectURL(address);
+  worker.onmessage = ({ data: { id, answer, error } }) => {
+    const question = waiting.get(id);
+    if (!question) return;
+    waiting.delete(id);
+    clearTimeout(question.timer);
+    if (error) question.failed(new Error(error)); else question.done(answer);
+  };
+  worker.onerror = (event) => end(event.message || "the engine stopped");
+}
+
+/** Ends the worker with all that it was asked. The next question begins another one. */
+function end(why) {
+  worker?.terminate();
+  worker = null;
+  for (const { failed, timer } of waiting.values()) {
+    clearTimeout(timer);
+    failed(new Error(why));
+  }
+  waiting.clear();
+}
+
+/** What the worker answers, or an error: also if that takes too long. */
+function ask(call, ...words) {
+  if (!worker) begin();
+  return new Promise((done, failed) => {
+    const id = ++questions, timer = setTimeout(() => end(`it took more than ${PATIENCE / 1000} seconds`), PATIENCE);
+    waiting.set(id, { done, failed, timer });
+    worker.postMessage({ id, call, words });
+  });
+}
+
+// ---- what is chosen: on each side { name, file } for a picture, or { name, files } for a folder, with its files by their paths
+
+const chosen = [null, null];
+let turn = 0; // each choice ends the work for the one before
+
+/** The files below a folder. `inside` lists a folder, and `fileOf` is the file of an entry; null in place of one that can't be read. */
+async function filesBelow(folder, inside, fileOf) {
+  const files = new Map(), open = [[folder, ""]];
+  while (open.length) {
+    const [entry, path] = open.pop();
+    if (entry.isFile || entry.kind === "file") {
+      files.set(path, await fileOf(entry).catch(() => null));
+      if (files.size > MOST_FILES) throw new Error(`It has more than ${counted(MOST_FILES)} files.`);
+      if (files.size % 500 === 0) say(`Reading the folder: ${counted(files.size)} files ..`);
+    } else {
+      for (const child of await inside(entry)) open.push([child, path ? `${path}/${child.name}` : child.name]);
+    }
+  }
+  return files;
+}
+
+async function handlesIn(folder) {
+  const handles = [];
+  for await (const handle of folder.values()) handles.push(handle);
+  return handles;
+}
+
+async function entriesIn(folder) {
+  const entries = [], reader = folder.createReader();
+  for (;;) {
+    const some = await new Promise((done, failed) => reader.readEntries(done, failed));
+    if (!some.length) return entries;
+    entries.push(...some);
+  }
+}
+
+/**
+ * What was dropped as one item. On a file: address Chromium lists folders by handles alone, and these leave out names with some characters,
+ * as `:`; then the folder is `isPartial`.
+ */
+async function itemOf({ handle, entry, file }) {
+  const root = await handle?.catch(() => null);
+  if (root?.kind !== "directory" && !entry?.isDirectory) return { name: file.name, file };
+  try {
+    return { name: entry.name, files: await filesBelow(entry, entriesIn, (one) => new Promise((done, failed) => one.file(done, failed))) };
+  } catch (error) {
+    if (root?.kind !== "directory") throw error;
+    return { name: root.name, files: await filesBelow(root, handlesIn, (one) => one.getFile()), isPartial: true };
+  }
+}
+
+/** The folder of an input, with its files by their paths below it. */
+function folderOf(input) {
+  const files = new Map([...input.files].map((file) => [file.webkitRelativePath.split("/").slice(1).join("/"), file]));
+  return { name: input.files[0]?.webkitRelativePath.split("/")[0] ?? "", files };
+}
+
+function choose(side, item) {
+  chosen[side] = item;
+  $(`slot-${side}`).classList.toggle("full", !!item);
+  const invitation = ["Drop a picture or a folder here", "Drop the other one here, or both at once"][side];
+  $(`name-${side}`).textContent = !item ? invitation : safe(item.name) + (item.files ? `/ (${many(item.files.size, "file")})` : "");
+  $("anew").hidden = !chosen.some(Boolean);
+}
+
+/** Puts items into their slots: a single one into the given slot, or the first free one. */
+function put(items, slot) {
+  if (items.length === 2) items.forEach((item, side) => choose(side, item));
+  else choose(slot ?? (chosen[0] && !chosen[1] ? 1 : 0), items[0]);
+  compare();
+}
+
+async function drop(event) {
+  event.preventDefault();
+  leave();
+  const items = [...event.dataTransfer.items].filter(({ kind }) => kind === "file");
+  const given = items.map((item) => ({ handle: item.getAsFileSystemHandle?.(), entry: item.webkitGetAsEntry?.(), file: item.getAsFile() }));
+  const slot = event.target.closest?.(".slot"), dropped = [];
+  if (!items.length) return;
+  if (items.length > 2) {
+    say("Drop one or two, please: pictures or folders.");
+    return;
+  }
+  try {
+    for (const item of given) dropped.push(await itemOf(item));
+  } catch (error) {
+    say(`The folder can’t be read: ${error.message} Choose it by its button instead.`);
+    return;
+  }
+  put(dropped, slot ? Number(slot.id.slice(-1)) : null);
+}
+
+function leave() {
+  for (const node of document.querySelectorAll(".over")) node.classList.remove("over");
+}
+
+// ---- tables
+
+function cell(value, head, isPair) {
+  const isAbsent = value === null || value.isAbsent, nothing = isPair ? "not there" : "–";
+  const node = isAbsent ? element("td", "none", value?.text ?? nothing) : element("td", "", safe(value.text), value.exact && element("span", "exact", safe(value.exact)));
+  node.dataset.head = head;
+  node.setAttribute("role", "cell");
+  return node;
+}
+
+function headCell(name, content, scope) {
+  const node = element("th", name, content);
+  node.scope = scope;
+  node.setAttribute("role", `${scope === "col" ? "column" : "row"}header`);
+  return node;
+}
+
+/** A table: each row is what its head has, and its cells. It has roles, because in a narrow window its rows are no table for a browser. */
+function table(title, heads, rows, name = "") {
+  const row = (...cells) => element("tr", "", ...cells);
+  const top = element("thead", "", row(...heads.map((text, i) => headCell(i ? "" : "field", text, "col"))));
+  const body = element("tbody", "", ...rows.map(([head, cells]) => row(headCell("", head, "row"), ...cells)));
+  const node = element("table", name, element("caption", "", title), top, body);
+  node.setAttribute("role", "table");
+  for (const group of [top, body]) group.setAttribute("role", "rowgroup");
+  for (const line of node.rows) line.setAttribute("role", "row");
+  return node;
+}
+
+/** A card with a verdict. Its heading can get the focus. */
+function card(verdict, sign, title, ...content) {
+  const mark = element("span", "sign", sign), heading = element("h2", "", mark, title);
+  mark.setAttribute("aria-hidden", "true");
+  heading.tabIndex = -1;
+  return element("div", `verdict ${verdict}`, heading, ...content);
+}
+
+// ---- one picture, or two
+
+const SIGNS = { same: "=", none: "–", partly: "≈", different: "≠", refused: "✕", unread: "–", valid: "✓" };
+
+function titleOf({ verdict, sides, sameXmp }) {
+  const hasNone = sides.every(({ blocks }) => !blocks.length);
+  if (verdict === "same" || verdict === "valid") return hasNone ? "No Exif or IPTC" : verdict === "same" ? "Same Exif and IPTC" : "Valid";
+  if (verdict === "partly") return hasNone ? "No Exif or IPTC that is read" : sameXmp ? "Same as far as it is read" : "Same Exif and IPTC, XMP not read";
+  return { different: "Different", refused: "Refused", unread: "Not read" }[verdict];
+}
+
+/** What the verdict means, in a sentence or two. */
+function meaningOf(look) {
+  const [differing, equal] = look.counts, isPair = look.sides.length === 2, hasNone = look.sides.every(({ blocks }) => !blocks.length);
+  const kinds = [...new Set(look.sides.flatMap(({ blocks }) => blocks.map(({ kind }) => KINDS[kind])))];
+  if (look.verdict === "same" || look.verdict === "partly") {
+    if (hasNone) return "Neither picture has Exif or IPTC that is read here, so nothing was compared.";
+    const layout = look.sameBytes ? "Even their bytes are equal." : "Their bytes differ, because programs arranged them differently.";
+    return `The ${listed(kinds)} of both pictures ${kinds.length > 1 ? "mean" : "means"} the same: ${many(equal, "field")}. ${layout}`;
+  }
+  if (look.verdict === "different") {
+    const names = look.differing.slice(0, 4).map(({ name }) => name);
+    if (!differing) return "The difference is behind the fields that are listed here.";
+    return `${many(differing, "field")} ${differing === 1 ? "differs" : "differ"}: ${listed(differing > 4 ? [...names, many(differing - 4, "other")] : names)}. ${many(equal, "other field")} ${equal === 1 ? "is" : "are"} equal.`;
+  }
+  if (look.verdict === "refused") {
+    const what = "A block breaks the rules, so it has no certain meaning";
+    return `${what}${isPair ? ", and the pictures are not compared" : ""}. ${look.sameBytes ? "Both pictures have the same bytes of Exif and IPTC." : ""}`;
+  }
+  if (look.verdict === "valid") {
+    const next = chosen[0]?.files || chosen[1] ? "" : " Choose a second picture to compare it with.";
+    return (hasNone ? "The picture has no Exif and no IPTC that is read here." : `The picture has valid ${listed(kinds)}: ${many(differing, "field")}.`) + next;
+  }
+  return isPair ? "The pictures are not compared." : "";
+}
+
+/** What may make the pictures different although what is read is the same. */
+function doubts({ sides, sameXmp }, names) {
+  const found = sides.flatMap(({ unread }, i) => unread ? `At byte ${counted(unread.start)} of ${unread.joined ? "the joined blocks of " : ""}${names[i]} is something that other programs may read as Exif or IPTC, and that is not read here.` : []);
+  if (!sameXmp) found.push("XMP is not read here, and its bytes differ: captions or dates in it may differ.");
+  return found.length > 0 && element("p", "", element("strong", "", "Not decided: "), found.join(" "), ...withCode(" The program `exifnorm-pictures compare` reads more."));
+}
+
+/** What this page doesn't read, of these pictures. */
+function unreadOf({ sides, sameXmp }) {
+  const has = sides.map(({ xmp }) => xmp > 0);
+  const both = `both pictures have it, ${sameXmp ? "with the same bytes" : "and its bytes differ"}`;
+  const xmp = !has.some(Boolean) ? "there is none" : has.length === 1 ? "the picture has it" : has.every(Boolean) ? both : `only the ${SIDES[has.indexOf(true)]} picture has it`;
+  return `Not read: XMP (${xmp}), what is inside a MakerNote, and what follows the head of a JPEG: pixels, previews, trailers.`;
+}
+
+/** Why a picture isn't read, and what helps. */
+function problemOf(name, { name: problem, cause, place, format }) {
+  const [sentence, remedy] = tables.heads[cause] ?? [];
+  const [what, help] = {
+    format: [`${name} is ${format ? `of the format ${format}` : "no JPEG"}.`, "This page reads JPEG pictures only. `exifnorm-pictures` reads other formats too."],
+    empty: [`${name} is empty.`, "Use another copy of the picture."],
+    unreadable: [`${name} can’t be read: the browser gave no bytes of it.`, "Choose it again, or copy it to another folder first."],
+    many: [`${name} has more segments than this page reads.`, "No camera writes so many: look where the file comes from."],
+    long: [`The metadata of ${name} are longer than this page reads.`, "`exifnorm-pictures` has no such limit."],
+    head: [`${name} is a damaged JPEG. ${sentence} (${cause} at byte ${counted(place ?? 0)})`, remedy ?? ""],
+  }[problem];
+  return element("p", "", what, " ", ...withCode(help));
+}
+
+/** Why a block is refused, and what helps. */
+function refusalOf(name, { kind, index, size, refusal: { cause, place, about: [sentence, meaning, remedy, cost] } }, areSeveral) {
+  return element("div", "refusal", element("h3", "", `${KINDS[kind]}${areSeveral ? ` (block ${index + 1})` : ""} of ${name}: ${sentence}`),
+    element("p", "", ...withCode(meaning)), element("p", "", element("strong", "", "What helps: "), ...withCode(remedy)),
+    cost && element("p", "", element("strong", "", "What it costs: "), ...withCode(cost)),
+    element("p", "small", `${cause} at byte ${counted(place)} of ${counted(size)}.`));
+}
+
+/** The problems and refusals of both pictures. If both have the same bytes, they are refused for the same. */
+function faultsOf(look, names) {
+  const isOnce = look.sides.length === 2 && look.sameBytes, faults = [];
+  look.sides.forEach(({ problem, blocks }, i) => {
+    if (problem) faults.push(problemOf(names[i], problem));
+    if (isOnce && i) return;
+    for (const block of blocks.filter(({ refusal }) => refusal)) {
+      faults.push(refusalOf(isOnce ? "both" : names[i], block, blocks.filter(({ kind }) => kind === block.kind).length > 1));
+    }
+  });
+  const left = faults.length - MOST_REFUSALS;
+  return left > 0 ? [...faults.slice(0, MOST_REFUSALS), element("p", "", `${many(left, "further refusal")}.`)] : faults;
+}
+
+const ENDINGS = { exif: "exif", iim: "iptc" };
+async function download(file, { kind, index }) {
+  try {
+    const form = await ask("form", file, kind, index), stem = file.name.replace(/\.[^.]*$/, "");
+    if (form) save(`${stem}.${ENDINGS[kind]}${index ? `.${index + 1}` : ""}`, form, "application/octet-stream");
+    else say("Its normal form is longer than 16,777,216 bytes.");
+  } catch (error) {
+    say(`There is no normal form: ${error.message}.`);
+  }
+}
+
+function downloadsOf(look, names, files) {
+  const buttons = look.sides.flatMap(({ blocks }, i) => blocks.filter(({ refusal }) => !refusal).slice(0, MOST_REFUSALS).map((block) =>
+    button(`${KINDS[block.kind]}${block.index ? ` ${block.index + 1}` : ""} of ${names[i]}`, () => download(files[i], block))));
+  if (!buttons.length) return null;
+  const about = "The one form of all blocks that mean the same, for a program or an archive. It is no picture.";
+  return element("section", "", element("h2", "", "Normal forms"), element("p", "small", about), element("div", "downloads", ...buttons));
+}
+
+const ofAll = (count, rows) => count > rows.length ? ` (the first ${counted(rows.length)} of ${counted(count)})` : "";
+
+function captionsTable({ captions }, heads) {
+  const isOne = heads.length === 1, areEqual = isOne || captions.every(({ cells: [first, second] }) => first?.text === second?.text);
+  const shown = isOne ? heads : areEqual ? ["Both"] : heads;
+  const rows = captions.map(({ label, cells }) => [label, shown.map((head, i) => cell(cells[i], head, !isOne))]);
+  return table("Captions", ["Label", ...shown], rows);
+}
+
+/** Shows the result, and returns its heading. */
+function show(look, names, files) {
+  const isOne = look.sides.length === 1, alike = !isOne && names[0] === names[1];
+  const called = alike ? SIDES.map((side) => `the ${side}`) : names, heads = isOne ? ["Value"] : alike ? names.map((name, i) => `${name}, ${SIDES[i]}`) : names;
+  const hasNone = look.sides.every(({ blocks }) => !blocks.length), verdict = hasNone && (look.verdict === "same" || look.verdict === "valid") ? "none" : look.verdict;
+  const main = card(verdict, SIGNS[verdict], titleOf(look), element("p", "", meaningOf(look)),
+    !isOne && look.verdict === "partly" && doubts(look, called), ...faultsOf(look, called), element("p", "small", unreadOf(look)));
+  const [differing, equal] = look.counts, isDifferent = look.verdict === "different";
+  const cells = (row) => isOne ? [cell(row.cells[0], heads[0])] : row.cells.map((value, i) => cell(value, heads[i], true));
+  const title = isOne ? "Fields" : isDifferent ? "What differs" : "Fields that could be read";
+  const fields = differing > 0 && table(title + ofAll(differing, look.differing), ["Field", ...heads], look.differing.map((row) => [safe(row.name), cells(row)]));
+  const same = equal > 0 && element("details", "", element("summary", "", many(equal, "equal field") + ofAll(equal, look.equal)),
+    table("", ["Field", "Both"], look.equal.map((row) => [safe(row.name), [cell(row.cells[0], "")]])));
+  if (same) same.open = !isDifferent && equal <= 12;
+  const captions = look.captions.length > 0 && captionsTable(look, heads);
+  const parts = [main, isDifferent && fields, captions, !isDifferent && fields, same, downloadsOf(look, called, files)];
+  $("result").replaceChildren(...parts.filter(Boolean));
+  $("result").hidden = false;
+  return main.firstChild;
+}
+
+/** Compares two pictures, or looks at one. */
+async function pictures(files, names, isFocused = false) {
+  const mine = turn, shown = names.map(safe);
+  let look;
+  say("Reading ..");
+  try {
+    look = await ask("look", files[0], files[1] ?? null);
+  } catch (error) {
+    if (mine === turn) say(`${files.length === 2 ? "The pictures can’t be compared" : "The picture can’t be read"}: ${error.message}.`);
+    return;
+  }
+  if (mine !== turn) return;
+  const heading = show(look, shown, files);
+  say(`${titleOf(look)}: ${shown.join(" and ")}.`, false);
+  document.body.dataset.state = "done";
+  if (isFocused) {
+    heading.focus();
+    heading.scrollIntoView?.();
+  }
+}
+
+// ---- folders
+
+const VERDICTS = ["different", "refused", "moved", "missing", "partly", "unread", "same", "valid"];
+const LABELS = {
+  different: "different", refused: "refused", moved: "moved", missing: "in one folder only", partly: "same as far as read", unread: "not read", same: "the same",
+  valid: "valid",
+};
+
+const wordOf = (row) => row.verdict === "missing" ? `only in the ${SIDES[row.side]}` : LABELS[row.verdict];
+
+function detailOf(row) {
+  if (row.verdict === "moved") return `to ${row.to}`;
+  if (row.verdict === "different") return `${many(row.count, "field")}: ${row.names.join(", ")}${row.count > row.names.length ? " .." : ""}`;
+  const also = row.verdict === "missing" && row.candidates ? `the same Exif and IPTC as ${many(row.candidates, "picture")} only in the ${SIDES[1 - row.side]}` : "";
+  return [row.why, also, row.verdict === "partly" && !row.sameXmp ? "XMP is not read, and its bytes differ" : ""].filter(Boolean).join("; ");
+}
+
+const nameOf = (path) => path.slice(path.lastIndexOf("/") + 1);
+
+/**
+ * Pairs pictures that are in one folder only and have the same metadata: by name, or if there is one on each side. They become one row.
+ * Of others the number of candidates is shown.
+ */
+function pairMoved(rows) {
+  const groups = new Map();
+  for (const row of rows.filter(({ verdict, identity }) => verdict === "missing" && identity)) {
+    if (!groups.has(row.identity)) groups.set(row.identity, [[], []]);
+    groups.get(row.identity)[row.side].push(row);
+  }
+  const arrived = new Set();
+  const pair = (first, second) => {
+    Object.assign(first, { verdict: "moved", to: safe(second.path), files: [first.files[0], second.files[1]] });
+    arrived.add(second);
+  };
+  for (const [left, right] of groups.values()) {
+    const byName = new Map();
+    for (const row of right) byName.set(nameOf(row.path), byName.has(nameOf(row.path)) ? null : row); // null: several have the name
+    for (const row of left) {
+      const other = byName.get(nameOf(row.path));
+      if (other && left.filter(({ path }) => nameOf(path) === nameOf(row.path)).length === 1) pair(row, other);
+    }
+    const [from, to] = [left.filter(({ verdict }) => verdict === "missing"), right.filter((row) => !arrived.has(row))];
+    if (from.length === 1 && to.length === 1) pair(from[0], to[0]);
+    else for (const [side, others] of [[from, to], [to, from]]) for (const row of side) row.candidates = others.length;
+  }
+  return rows.filter((row) => !arrived.has(row));
+}
+
+/** The row of a path: its verdict, and what goes with it; null for a file that is no picture by its name and its bytes. */
+async function rowOf(path, files) {
+  const there = files.filter((file) => file !== undefined);
+  if (there.includes(null)) return { path, files, verdict: "unread", why: "can’t be read" };
+  let brief;
+  try {
+    brief = await ask("brief", there[0], there[1] ?? null);
+  } catch (error) {
+    return { path, files, verdict: "unread", why: error.message };
+  }
+  if (brief.isOther && !PICTURES.test(path)) return null;
+  const isMissing = files.length === 2 && there.length === 1;
+  return { path, files, ...brief, ...(isMissing ? { verdict: "missing", side: files[0] ? 0 : 1 } : {}) };
+}
+
+async function folders(both) {
+  const mine = turn, paths = [...new Set(both.flatMap(({ files }) => [...files.keys()]))].sort();
+  const rows = [];
+  let others = 0, isStopped = false, last = 0;
+  $("running").hidden = false;
+  $("progress").max = paths.length;
+  $("stop").onclick = () => {
+    isStopped = true;
+    end("stopped");
+  };
+  for (const [done, path] of paths.entries()) {
+    if (performance.now() - last > 200) {
+      last = performance.now();
+      $("progress").value = done;
+      say(`${counted(done)} of ${many(paths.length, "file")} ..`, false);
+    }
+    const row = await rowOf(path, both.map(({ files }) => files.get(path)));
+    if (mine !== turn) return;
+    if (isStopped) break;
+    if (row) rows.push(row); else others++;
+  }
+  $("running").hidden = true;
+  summarise(both.length === 2 && !isStopped ? pairMoved(rows) : rows, others, both.length === 2, isStopped ? paths.length : 0);
+  document.body.dataset.state = "done";
+}
+
+/** A cell of CSV that no spreadsheet takes for a formula, whatever separates its cells. */
+const csvCell = (text) => `"${safe(text).replace(/^(?=[=+\-@\t\n＝＋－＠])|(?<=[;\t\n])(?=[=+\-@＝＋－＠])/g, "'").replaceAll('"', '""')}"`;
+
+function saveCsv(rows) {
+  const lines = [["path", "verdict", "details"], ...rows.map((row) => [row.path, wordOf(row), detailOf(row)])];
+  save("pictures.csv", lines.map((cells) => `${cells.map(csvCell).join(",")}\r\n`).join(""), "text/csv");
+}
+
+const PARTIAL = "this browser leaves out names with one of \" * : < > ? | when a folder is dropped. Choose the folders by their buttons to have all.";
+
+/** The card over the list: the counts, and what isn't read. */
+function summaryCard(rows, counts, others, isPair, stoppedOf) {
+  const words = VERDICTS.filter((verdict) => counts[verdict]).map((verdict) => `${counted(counts[verdict])} ${LABELS[verdict]}`);
+  const isWhole = rows.length > 0 && (counts.same === rows.length || counts.valid === rows.length) && !stoppedOf;
+  const worst = VERDICTS.find((verdict) => counts[verdict]), look = isWhole ? worst : ["different", "refused"].includes(worst) ? worst : "unread";
+  const title = !rows.length ? "No pictures" : isWhole ? (isPair ? "All have the same Exif and IPTC" : "All valid") : words.slice(0, 2).join(", ");
+  const rest = `${words.length > 1 ? `: ${listed(words)}` : ""}${others ? `; ${many(others, "other file")} left out` : ""}.`;
+  const stopped = stoppedOf ? ` Stopped before the end: there are ${many(stoppedOf, "file")}.` : "", xmp = rows.filter((row) => row.xmp).length;
+  return card(look, SIGNS[look], title,
+    element("p", "", `${many(rows.length, "picture")}${isPair ? ", paired by path" : ""}${rest}${stopped}`),
+    chosen.some((item) => item?.isPartial) && element("p", "", element("strong", "", "Perhaps not all: "), PARTIAL),
+    counts.moved > 0 && element("p", "small", "Moved: the same Exif, IPTC and bytes of XMP are at another path. Pixels are not compared."),
+    element("p", "small", `Not read: XMP (${xmp ? `${many(xmp, "picture")} with it` : "there is none"}), other formats than JPEG, what is inside a MakerNote, and what follows the head of a JPEG.`));
+}
+
+/** The link of a row to the comparison of its pictures. */
+function linkOf(row) {
+  const files = row.files.filter(Boolean), name = safe(row.path);
+  if (row.files.includes(null)) return name;
+  return button(name, () => pictures(files, row.verdict === "moved" ? [row.path, row.to] : files.map(() => row.path), true));
+}
+
+function summarise(rows, others, isPair, stoppedOf) {
+  const counts = Object.fromEntries(VERDICTS.map((verdict) => [verdict, rows.filter((row) => row.verdict === verdict).length]));
+  const holder = element("div", ""), choices = element("div", "counts");
+  let filter = VERDICTS.find((verdict) => counts[verdict]), shown = ROWS;
+  const draw = () => {
+    const chosenRows = rows.filter((row) => filter === "all" || row.verdict === filter);
+    const lines = chosenRows.slice(0, shown).map((row) => {
+      const cells = [element("td", "verb", element("span", `word ${row.verdict}`, wordOf(row))), element("td", "", safe(detailOf(row)))];
+      for (const node of cells) node.setAttribute("role", "cell");
+      return [linkOf(row), cells];
+    });
+    const label = filter === "all" ? "All pictures" : LABELS[filter][0].toUpperCase() + LABELS[filter].slice(1), left = chosenRows.length - shown;
+    const more = left > 0 && button(`Show ${counted(Math.min(ROWS, left))} more`, () => { shown += ROWS; draw(); }, "more");
+    holder.replaceChildren(...[table(`${label}: ${counted(chosenRows.length)}`, ["Path", "Verdict", "Details"], lines, "list"), more].filter(Boolean));
+    for (const node of choices.querySelectorAll("[aria-pressed]")) node.setAttribute("aria-pressed", String(node.dataset.filter === filter));
+  };
+  for (const verdict of [...VERDICTS.filter((word) => counts[word]), "all"]) {
+    const text = verdict === "all" ? `all ${counted(rows.length)}` : `${counted(counts[verdict])} ${LABELS[verdict]}`;
+    const node = button(text, () => { filter = verdict; shown = ROWS; draw(); });
+    node.dataset.filter = verdict;
+    node.setAttribute("aria-pressed", "false");
+    choices.append(node);
+  }
+  choices.append(button("Save as CSV", () => saveCsv(rows)));
+  choices.setAttribute("role", "group");
+  choices.setAttribute("aria-label", "Shown in the list");
+  const heading = summaryCard(rows, counts, others, isPair, stoppedOf);
+  $("summary").replaceChildren(...rows.length ? [heading, choices, holder] : [heading]);
+  $("summary").hidden = false;
+  if (rows.length) draw();
+  say(`${heading.firstChild.lastChild.textContent}.`, false);
+}
+
+// ---- the choice is compared
+
+function compare() {
+  turn++;
+  for (const id of ["summary", "result"]) {
+    $(id).hidden = true;
+    $(id).replaceChildren();
+  }
+  $("running").hidden = true;
+  delete document.body.dataset.state;
+  const both = chosen.filter(Boolean);
+  if (!both.length) say("");
+  else if (both.some(({ files }) => files) && both.some(({ file }) => file)) {
+    say("A picture and a folder can’t be compared: choose two pictures, or two folders.");
+  } else if (both[0].files) folders(both);
+  else pictures(both.map(({ file }) => file), both.map(({ name }) => name));
+}
+
+for (const side of [0, 1]) {
+  $(`file-${side}`).onchange = ({ target }) => {
+    const items = [...target.files].slice(0, 2).map((file) => ({ name: file.name, file }));
+    target.value = "";
+    if (items.length) put(items, side);
+  };
+  $(`folder-${side}`).onchange = ({ target }) => {
+    const item = folderOf(target);
+    target.value = "";
+    if (item.files.size) put([item], side); else say("The folder is empty.");
+  };
+}
+$("anew").onclick = () => {
+  end("stopped");
+  choose(0, null);
+  choose(1, null);
+  compare();
+  $("file-0").focus();
+};
+document.ondragover = (event) => {
+  event.preventDefault();
+  const slot = event.target.closest?.(".slot");
+  for (const node of document.querySelectorAll(".slot")) node.classList.toggle("over", node === slot);
+};
+document.ondragleave = (event) => { if (!event.relatedTarget) leave(); };
+document.ondrop = drop;
+
+let closed = [];
+self.addEventListener("beforeprint", () => {
+  closed = [...document.querySelectorAll("details:not([open])")];
+  for (const node of closed) node.open = true;
+});
+self.addEventListener("afterprint", () => { for (const node of closed) node.open = false; });
+
+/** What the foot of the page says of its engine. */
+function about(version) {
+  if (version.includes("unproved")) return `exifnorm ${version}, compiled without its proofs: for tests alone.`;
+  return `exifnorm ${version}. The engine is the library that is proved for x86-64 Linux, compiled for WebAssembly; the page itself is tested.`;
+}
+
+ask("version").then((version) => {
+  $("about").textContent = about(version);
+  document.body.dataset.ready = "yes";
+}, (error) => {
+  $("about").textContent = `The engine can’t start in this browser: ${error.message}. A browser of 2022 or later is needed.`;
+});

@@ -1,0 +1,363 @@
+/**
+ * Values of fields in plain words: `turn 90° clockwise to view`, `1/125 s`, `2003-05-24 22:21:01`. They are those of the Python package
+ * exifnorm_pictures, which a test compares.
+ * @module
+ */
+import { sha256 } from "./sha256.js";
+
+const EMPTY = "(empty)", UNKNOWN = "unknown";
+const INTEGERS = ["SHORT", "LONG", "WHOLE", "SSHORT", "SLONG"], RATIOS = ["RATIONAL", "SRATIONAL"];
+const OCTETS = ["BYTE", "ASCII", "SBYTE", "UNDEFINED", "UTF8", "octets"];
+const LONGEST_TEXT = 65_536, LONGEST_OTHER_TEXT = 400, LONGEST_BYTES = 32, LONGEST_NUMBERS = 160;
+const WIDE_TEXTS = ["9c9b", "9c9c", "9c9d", "9c9e", "9c9f"], PICTURES = ["2:125", "2:202"];
+
+/** The bytes of hexadecimal digits. */
+export function octetsOf(digits) {
+  const octets = new Uint8Array(digits.length / 2);
+  for (let i = 0; i < octets.length; i++) octets[i] = parseInt(digits.substr(2 * i, 2), 16);
+  return octets;
+}
+
+const hex = (octets) => Array.from(octets, (octet) => octet.toString(16).padStart(2, "0")).join("");
+const grouped = (number) => number.toLocaleString("en");
+
+// ---- texts
+
+const utf8 = new TextDecoder("utf-8", { fatal: true, ignoreBOM: true });
+const wide = ["utf-16be", "utf-16le"].map((name) => new TextDecoder(name, { ignoreBOM: true }));
+const strictlyWide = new TextDecoder("utf-16le", { fatal: true, ignoreBOM: true });
+const japanese = new TextDecoder("iso-2022-jp", { fatal: true });
+const WINDOWS = "€\x81‚ƒ„…†‡ˆ‰Š‹Œ\x8dŽ\x8f\x90‘’“”•–—˜™š›œ\x9džŸ"; // its characters from 0x80 to 0x9F, of which five are undefined
+const UNDEFINED = /[\x81\x8d\x8f\x90\x9d]/g;
+const UNPRINTABLE = /[\p{C}\p{Zl}\p{Zp}]|(?! )\p{Zs}/u;
+
+/** What a decoder makes of bytes; null if they are no such text. */
+function decoded(decoder, octets) {
+  try {
+    return decoder.decode(octets);
+  } catch {
+    return null;
+  }
+}
+
+/** A text of Windows-1252: some versions of node decode it as Latin 1. */
+const windows = (octets) => Array.from(octets, (octet) => WINDOWS[octet - 0x80] ?? String.fromCharCode(octet)).join("");
+
+const withoutEnd = (octets, isPadding) => {
+  let end = octets.length;
+  while (end && isPadding(octets[end - 1])) end--;
+  return octets.subarray(0, end);
+};
+const isBlank = (octet) => octet === 0 || octet === 32;
+const trimmedEnd = (text) => text.replace(/[\t-\r\x1c-\x20\x85\xa0\u1680\u2000-\u200a\u2028\u2029\u202f\u205f\u3000]+$/, "");
+const printable = (text) => text !== null && !UNPRINTABLE.test(text.replace(/[\n\r\t]/g, "")) ? text : null;
+
+/** A text whose character set isn't declared: UTF-8 if it can be, otherwise Windows-1252. */
+export function guessed(octets) {
+  const bare = withoutEnd(octets, isBlank), byte = (character) => `\\x${character.charCodeAt(0).toString(16)}`;
+  return decoded(utf8, bare) ?? windows(bare).replace(UNDEFINED, byte);
+}
+
+const isComment = ({ where, key }) => key === "9286" || where === "gps" && (key === "001b" || key === "001c");
+const isWideText = ({ where, key }) => where === "main" && WIDE_TEXTS.includes(key);
+
+/** Whether a field of bytes is a text by its type or its standard. */
+function isText(field) {
+  if (field.where === "iptc") return /^[12]:/.test(field.key) && !PICTURES.includes(field.key);
+  return field.type === "ASCII" || field.type === "UTF8" || isComment(field) || isWideText(field);
+}
+
+/** Bytes as a text of UTF-8 that can be printed, without the NUL at its end; null if they are none. */
+function plainText(octets) {
+  return printable(decoded(utf8, octets.at(-1) === 0 ? octets.subarray(0, -1) : octets));
+}
+
+function wideText(octets) {
+  const text = decoded(strictlyWide, octets)?.replace(/\0$/, "");
+  return text ? printable(text) : null;
+}
+
+/** Whether the bytes of a field are too many to be shown. */
+function isLong(field, octets) {
+  if (field.where === "thumb" && field.type === "octets") return true;
+  if (octets.length <= LONGEST_BYTES) return false;
+  if (isText(field)) return octets.length > LONGEST_TEXT;
+  return octets.length > 4 * LONGEST_OTHER_TEXT || [...plainText(octets) ?? " ".repeat(999)].length > LONGEST_OTHER_TEXT;
+}
+
+/** The text of a field whose bytes can be printed as one; null if they can't. */
+function textOf(field) {
+  const { octets } = field;
+  if (!octets || isLong(field, octets)) return null;
+  const text = isWideText(field) ? wideText(octets) : null;
+  if (text !== null) return text;
+  if (isComment(field) && String.fromCharCode(...octets.subarray(0, 8)) === "ASCII\0\0\0") {
+    const comment = printable(decoded(utf8, octets.subarray(8)));
+    if (comment !== null) return comment;
+  }
+  return plainText(octets);
+}
+
+/** The text of a comment, whose first eight bytes name its character set (CIPA DC-008, 4.6.6); null if it is in no known one. */
+function comment(octets) {
+  const head = String.fromCharCode(...octets.subarray(0, 8)), rest = octets.subarray(8);
+  if (octets.every(isBlank) || rest.every(isBlank)) return "";
+  const ended = (text) => text === null ? null : trimmedEnd(text.split("\0")[0]);
+  if (head === "UNICODE\0") {
+    const [big, little] = wide.map((decoder) => decoder.decode(rest.subarray(0, rest.length & ~1)));
+    const beyondLatin = (text) => [...text].filter((character) => character > "\u02ff").length;
+    return ended(beyondLatin(big) <= beyondLatin(little) ? big : little);
+  }
+  if (head === "ASCII\0\0\0") return rest.some((octet) => octet > 127) ? null : ended(windows(rest));
+  if (head === "JIS\0\0\0\0\0") return ended(decoded(japanese, rest));
+  if (head !== "\0".repeat(8)) return null;
+  const text = decoded(utf8, rest) ?? windows(rest);
+  return decoded(utf8, rest) === null && text.search(UNDEFINED) >= 0 ? null : ended(text);
+}
+
+function plainComment(field) {
+  const text = textOf(field);
+  if (text !== null) return trimmedEnd(text.split("\0")[0]) || EMPTY;
+  const found = field.octets ? comment(field.octets) : null;
+  return found === null ? null : found || EMPTY;
+}
+
+// ---- numbers: a fraction is [above, below], both BigInt and below > 0
+
+/** The fractions of a field; null in it for a denominator of 0, and null for all if it has no numbers, or too many to be shown. */
+function fractions({ type, elements, raw }) {
+  if (!INTEGERS.includes(type) && !RATIOS.includes(type) || raw === "" || areLong(elements, raw)) return null;
+  return raw.split(" ").map((word) => {
+    const [above, below = 1n] = word.split("/").map(BigInt);
+    return below === 0n ? null : below < 0n ? [-above, -below] : [above, below];
+  });
+}
+
+const areLong = (elements, raw) => elements > 6 && raw.length > LONGEST_NUMBERS;
+const floor = (above, below) => above / below - (above % below < 0n ? 1n : 0n);
+
+/** The nearest integer; of two the even one. */
+function rounded([above, below]) {
+  const low = floor(above, below), twice = 2n * (above - low * below);
+  return twice > below || twice === below && low % 2n ? low + 1n : low;
+}
+
+const float = ([above, below]) => Number(above) / Number(below); // of 32 bits each: exact, but for the division
+
+/** A number with so many decimal places. Half of the last place is rounded to the even digit. */
+function fixed(number, places) {
+  const halves = Math.abs(number) * 2 ** (places + 1);
+  if (halves % 2 !== 1) return number.toFixed(places);
+  const scaled = (BigInt(halves) * 5n ** BigInt(places) - 1n) / 2n, even = scaled + scaled % 2n;
+  const digits = even.toString().padStart(places + 1, "0");
+  return `${number < 0 ? "-" : ""}${digits.slice(0, digits.length - places)}.${digits.slice(-places)}`;
+}
+
+/** A number with so many decimal places at most. */
+function decimal(fraction, places = 4) {
+  const text = fixed(float(fraction), places).replace(/\.?0+$/, "");
+  return text === "-0" || text === "" ? "0" : text;
+}
+
+const ofNumber = (words) => (field) => {
+  const found = fractions(field);
+  if (found?.length !== 1) return null;
+  return found[0] === null ? UNKNOWN : words(found[0]);
+};
+const withUnit = (unit, places) => ofNumber((fraction) => decimal(fraction, places) + unit);
+
+function integer({ type, elements, raw }) {
+  return INTEGERS.includes(type) && elements === 1 ? Number(raw) : null;
+}
+
+function seconds([above, below]) {
+  return above > 0n && 4n * above < below ? `1/${rounded([below, above])} s` : `${decimal([above, below], 2)} s`;
+}
+
+/** The fraction of a double. */
+function exactly(number) {
+  let below = 1n;
+  while (number % 1) {
+    number *= 2;
+    below *= 2n;
+  }
+  return [BigInt(number), below];
+}
+
+/** The closest fraction with a denominator of at most a million, by continued fractions. */
+function simplest([above, below]) {
+  const most = 1_000_000n;
+  if (below <= most) return [above, below];
+  let [p0, q0, p1, q1, n, d] = [0n, 1n, 1n, 0n, above, below];
+  for (;;) {
+    const a = floor(n, d), q2 = q0 + a * q1;
+    if (q2 > most) break;
+    [p0, q0, p1, q1, n, d] = [p1, q1, p0 + a * p1, q2, d, n - a * d];
+  }
+  const k = (most - q0) / q1, first = [p0 + k * p1, q0 + k * q1], second = [p1, q1];
+  const distance = ([p, q]) => [(p * below - above * q) * (p * below < above * q ? -1n : 1n), q];
+  const [far, farBelow] = distance(first), [near, nearBelow] = distance(second);
+  return near * farBelow <= far * nearBelow ? second : first;
+}
+
+const shutterSpeed = ofNumber((fraction) => {
+  const number = float(fraction);
+  return number > -20 && number < 30 ? seconds(simplest(exactly(2 ** -number))) : null;
+});
+const apertureValue = ofNumber((fraction) => {
+  const number = float(fraction);
+  return number > -20 && number < 40 ? `f/${fixed(2 ** (number / 2), 1)}` : null;
+});
+const exposureValue = ofNumber((fraction) => `${fraction[0] > 0n ? "+" : ""}${decimal(fraction, 2)} EV`);
+
+const sum = ([a, b], [c, d]) => [a * d + c * b, b * d];
+const triple = (field) => {
+  const found = fractions(field);
+  return found?.length === 3 && !found.includes(null) ? found : null;
+};
+
+/** A latitude or a longitude. */
+function angle(field) {
+  const found = triple(field);
+  if (!found) return null;
+  const [degrees, [minutes, m], [rest, s]] = found, [above, below] = sum(sum(degrees, [minutes, m * 60n]), [rest, s * 3600n]);
+  const hundredths = rounded([above * 360_000n, below]), modulo = (number, by) => number - by * floor(number, by);
+  const two = modulo(floor(hundredths, 6000n), 60n).toString().padStart(2, "0");
+  return `${floor(hundredths, 360_000n)}°${two}'${decimal([modulo(hundredths, 6000n), 100n], 2)}"`;
+}
+
+/** GPSTimeStamp. */
+function clock(field) {
+  const found = triple(field);
+  if (!found) return null;
+  const [hours, minutes] = found.map(([above, below]) => (above / below).toString().padStart(2, "0"));
+  const [above, below] = found[2], whole = floor(above, below), part = above - whole * below;
+  return `${hours}:${minutes}:${whole.toString().padStart(2, "0")}${part ? decimal([part, below], 3).slice(1) : ""} UTC`;
+}
+
+/** LensSpecification: the least and greatest focal length, and the f-number at each. */
+function lens(field) {
+  const found = fractions(field);
+  if (found?.length !== 4) return null;
+  const words = found.map((fraction) => fraction === null ? "?" : decimal(fraction, 1));
+  const length = words[0] === words[1] ? words[0] : `${words[0]}-${words[1]}`, opening = words[2] === words[3] ? words[2] : `${words[2]}-${words[3]}`;
+  return `${length} mm${opening === "?" || opening === "0" ? "" : ` f/${opening}`}`;
+}
+
+/** Flash, bit by bit (CIPA DC-008, 4.6.5). */
+function flash(field) {
+  const bits = integer(field);
+  if (bits === null || bits < 0 || bits >= 1_000_000_000) return null;
+  if (bits & 0x20) return "no flash in the camera";
+  const light = { 2: "light returned isn't seen", 3: "light returned is seen" }[(bits >> 1) & 3];
+  const mode = { 1: "always on", 2: "always off", 3: "automatic" }[(bits >> 3) & 3];
+  return [bits & 1 ? "fired" : "did not fire", light, mode, bits & 0x40 ? "red-eye reduction" : ""].filter(Boolean).join(", ");
+}
+
+// ---- dates, and other texts with a form
+
+const DATE = /^(\d{4})[:-](\d\d)[:-](\d\d)(?:[ T](\d\d):(\d\d)(?::(\d\d(?:\.\d+)?))?)?([+-]\d\d:\d\d|Z)?$/;
+
+function date(field) {
+  const text = textOf(field);
+  if (text === null) return null;
+  if (!text.replace(/^[ :0]+/, "")) return UNKNOWN;
+  const match = DATE.exec(text.replace(/^[ \0]+|[ \0]+$/g, ""));
+  if (!match) return null;
+  const [, year, month, day, hour, minute, second, zone = ""] = match;
+  return `${year}-${month}-${day}${hour ? ` ${hour}:${minute}${second ? `:${second}` : ""}` : ""}${zone}`;
+}
+
+function iptcDate(field) {
+  const match = /^(\d{4})(\d\d)(\d\d)$/.exec(textOf(field) ?? "");
+  return match && (match[1] === "0000" ? UNKNOWN : match.slice(1).join("-"));
+}
+
+function iptcTime(field) {
+  const match = /^(\d\d)(\d\d)(\d\d)([+-]\d\d)(\d\d)$/.exec(textOf(field) ?? "");
+  return match && `${match[1]}:${match[2]}:${match[3]}${match[4]}:${match[5]}`;
+}
+
+function iptcNumber(field) {
+  return field.octets.length === 2 && textOf(field) === null ? String(field.octets[0] * 256 + field.octets[1]) : null;
+}
+
+function dotted(field) {
+  return field.octets?.length === 4 && textOf(field) === null ? field.octets.join(".") : null;
+}
+
+function version(field) {
+  const text = textOf(field);
+  return text && /^\d{4}$/.test(text) ? `${Number(text.slice(0, 2))}.${text.slice(2).replace(/0+$/, "") || "0"}` : null;
+}
+
+const letter = (words) => (field) => {
+  const text = textOf(field);
+  return text !== null && Object.hasOwn(words, text) ? words[text] : null;
+};
+const byte = (...words) => ({ octets }) => octets?.length === 1 ? words[octets[0]] ?? null : null;
+const characterSet = ({ octets }) => hex(octets) === "1b2547" ? "UTF-8" : null;
+
+// ---- the rule of each field, by its directory
+
+const each = (keys, rule) => Object.fromEntries(keys.map((key) => [key, rule]));
+const EXIF = {
+  ...each(["0132", "9003", "9004"], date), ...each(["9202", "9205"], apertureValue), ...each(["9000", "a000"], version),
+  "829a": ofNumber(seconds), "829d": ofNumber((fraction) => `f/${decimal(fraction, 1)}`), 9201: shutterSpeed, 9204: exposureValue,
+  "920a": withUnit(" mm", 1), a405: withUnit(" mm"), 9206: withUnit(" m", 2), 9203: withUnit(" EV", 2), 9209: flash, a432: lens,
+  9286: plainComment,
+};
+const GPS = {
+  ...each(["0002", "0004", "0014", "0016"], angle), ...each(["000f", "0011", "0018"], withUnit("°", 2)),
+  ...each(["001b", "001c"], plainComment), ...each(["0001", "0013"], letter({ N: "north", S: "south" })),
+  ...each(["0003", "0015"], letter({ E: "east", W: "west" })),
+  ...each(["000c", "0019"], letter({ K: "kilometres", M: "miles", N: "nautical miles" })),
+  "0000": dotted, "0005": byte("above sea level", "below sea level"), "0006": withUnit(" m", 1), "0007": clock, "000d": withUnit("", 2),
+  "001d": date, "001f": withUnit(" m", 1),
+};
+const IIM = {
+  ...each(["1:70", "2:30", "2:37", "2:47", "2:55", "2:62"], iptcDate), ...each(["1:80", "2:35", "2:38", "2:60", "2:63"], iptcTime),
+  ...each(["1:0", "1:20", "1:22", "2:0"], iptcNumber), "1:90": characterSet,
+};
+const RULES = { main: EXIF, exif: EXIF, thumb: EXIF, gps: GPS, iptc: IIM };
+
+/** The value by the rule of its field; null if there is none. */
+function inWords(words, field) {
+  const table = RULES[field.where] === EXIF ? words[field.key] : undefined;
+  if (table) return table[integer(field)] ?? null;
+  const rules = RULES[field.where] ?? {};
+  return Object.hasOwn(rules, field.key) ? rules[field.key](field) : null;
+}
+
+function asText(field) {
+  const text = textOf(field);
+  if (text !== null) return text.replace(/[\0 ]+$/, "") || EMPTY;
+  const isTextual = field.type === "ASCII" || field.type === "UTF8" || field.where === "iptc";
+  return isTextual && !isLong(field, field.octets) ? guessed(field.octets) || EMPTY : null;
+}
+
+/** Numbers as decimals, and the number of bytes that are too many to be shown. */
+function withoutWords(field) {
+  const { type, octets, elements, raw } = field;
+  if (OCTETS.includes(type)) {
+    if (octets.length <= LONGEST_BYTES && !isLong(field, octets)) return `0x${hex(octets)}`;
+    return `${grouped(elements)} bytes (SHA-256 ${sha256(octets).slice(0, 8)}..)`;
+  }
+  const found = RATIOS.includes(type) ? fractions(field) : null;
+  if (found) return found.map((fraction) => fraction === null ? UNKNOWN : decimal(fraction)).join(", ");
+  return areLong(elements, raw) ? `${raw.slice(0, 60)}.. sha256:${sha256(new TextEncoder().encode(raw)).slice(0, 12)}` : raw;
+}
+
+/**
+ * A field of a line of a listing: its directory, its tag or DataSet, its type and the number of its elements, and these as the line has
+ * them. Bytes of IPTC and of a thumbnail have the type `octets`.
+ */
+export function fieldOf(where, key, type, raw) {
+  const isOctets = OCTETS.includes(type), octets = isOctets ? octetsOf(raw) : null;
+  return { where, key, type, raw, octets, elements: isOctets ? octets.length : raw === "" ? 0 : raw.split(" ").length };
+}
+
+/** The value of a field as a person writes it. `words` has the words for numbers by tag. */
+export function plain(words, field) {
+  return inWords(words, field) || asText(field) || withoutWords(field);
+}

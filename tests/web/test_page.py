@@ -1,0 +1,471 @@
+"""The page in Chromium, opened from a file: what it says of the sample pictures, of folders, of hostile pictures and names, and how it is
+used by keyboard, in narrow and dark windows, and in print."""
+
+import os
+import re
+import shutil
+import time
+from pathlib import Path
+from random import Random
+
+import guard
+import page
+import pytest
+
+import exifnorm
+import jpegs
+from changed import changed
+from commands import TOP
+from test_jpeg_same import XMP, exif, iptc, photoshop, picture, segment
+
+pytestmark = pytest.mark.xdist_group("page")
+SAMPLES = TOP / "samples"
+BOWL, BOWL_AFTER = (SAMPLES / side / "ceramics/2003-12-bowl.jpg" for side in ("before", "after"))
+VASE, VASE_AFTER = (SAMPLES / side / "ceramics/1998-7-vase.jpg" for side in ("before", "after"))
+REFUSED, PLAN = SAMPLES / "before/arrivals/IMG_20240502.jpg", SAMPLES / "before/prints/1931-4-plan.png"
+SEED, PAIRS, MANY = 3, 120, 5000
+MOST_MEMORY = 150 << 20  # bytes of JavaScript's heap, for two folders of MANY pictures
+ONE = bytes.fromhex("4d4d002a00000008 0001 0112 0003 00000001 00060000 00000000")
+
+
+@pytest.fixture(scope="module")
+def file(wasm, session_folder):
+    path = session_folder / "exifnorm.html"
+    path.write_text(page.page((wasm / "exifnorm.wasm").read_bytes()), encoding="utf-8")
+    return path
+
+
+@pytest.fixture(scope="module")
+def opened(chromium, file):
+    """The browser with the page. All that it asks for is the page itself, and its worker."""
+    chromium.requests.clear()
+    chromium.show()
+    chromium.open(file.as_uri())
+    chromium.wait("document.body.dataset.ready")
+    yield chromium
+    assert {address for address in chromium.requests if not address.startswith("blob:null/")} == {file.as_uri()}
+
+
+@pytest.fixture
+def browser(opened):
+    """The page without a choice. Nothing may be logged, such as a violation of its policy."""
+    opened.log.clear()
+    opened.ask("document.getElementById('anew').click()")
+    yield opened
+    assert not opened.log
+
+
+def heading(browser):
+    """The verdict, once it is there."""
+    browser.wait("document.body.dataset.state")
+    return browser.ask("document.querySelector('#summary:not([hidden]) h2, #result:not([hidden]) h2').lastChild.textContent")
+
+
+def text(browser, selector="main"):
+    return browser.ask(f"document.querySelector('{selector}').innerText")
+
+
+def rows(browser, caption):
+    """The cells of the tables whose caption begins with some words."""
+    return browser.ask(
+        f"[...document.querySelectorAll('table')].filter((node) => node.caption.textContent.startsWith('{caption}'))"
+        ".flatMap((node) => [...node.tBodies[0].rows].map((row) => [...row.cells].map((cell) => cell.textContent)))"
+    )
+
+
+def compare(browser, *pictures):
+    browser.choose("#file-0", *pictures)
+    return heading(browser)
+
+
+def compare_folders(browser, first, second):
+    browser.drop("#slot-0", first, second)
+    return heading(browser)
+
+
+def put(folder, *pictures):
+    """Files with some bytes."""
+    paths = [folder / f"{number}.jpg" for number in range(len(pictures))]
+    for path, octets in zip(paths, pictures):
+        path.write_bytes(octets)
+    return paths
+
+
+# ---- one picture, or two
+
+
+def test_the_same(browser, folder):
+    assert compare(browser, *put(folder, picture(exif(ONE)), picture(exif(ONE), iptc(b"")))) == "Same Exif and IPTC"
+    assert not rows(browser, "What differs") and rows(browser, "")[0] == ["IFD0:Orientation", "turn 90° clockwise to view"]
+
+
+@pytest.mark.parametrize(
+    "more, title, words",
+    [
+        (segment(0xE1, XMP + b"<x/>"), "Same Exif and IPTC, XMP not read", "its bytes differ"),
+        (segment(0xE1, b"Exif\0\1" + ONE), "Same as far as it is read", "other programs may read"),
+        (photoshop(b"8BIM\x04\x22\0\0\0\0\0\2ab"), "Same as far as it is read", "other programs may read"),
+    ],
+)
+def test_what_is_not_read_is_never_the_same(browser, folder, more, title, words):
+    assert compare(browser, *put(folder, picture(exif(ONE)), picture(exif(ONE), more))) == title
+    assert words in text(browser)
+
+
+def test_without_metadata(browser, folder):
+    assert compare(browser, *put(folder, picture(), picture())) == "No Exif or IPTC"
+
+
+def test_different(browser):
+    assert compare(browser, BOWL, BOWL_AFTER) == "Different"
+    assert rows(browser, "What differs") == [
+        ["IFD0:Copyright", "not there", "Riverside Museum"],
+        ["IPTC:Caption-Abstract", "Bowl, celadon glaze, 1820", "Bowl, celadon glaze, 1280"],
+    ]
+    assert ["title (IPTC)", "2003.12", "2003.12"] in rows(browser, "Captions")
+
+
+def test_values_that_look_alike_are_told_apart(browser, folder):
+    def of(number):
+        return picture(exif(bytes.fromhex("4d4d002a00000008 0001 829a 0005 00000001 0000001a 00000000") + number))
+
+    assert compare(browser, *put(folder, of(bytes.fromhex("0000000a000004e2")), of(bytes.fromhex("000000010000007d")))) == "Different"
+    assert rows(browser, "What differs") == [["IFD0:ExposureTime", "1/125 s10/1250", "1/125 s1/125"]]
+
+
+def test_refused_with_its_remedy(browser):
+    assert compare(browser, REFUSED, VASE) == "Refused"
+    cause = page.causes.CAUSES["EmptyDirectory"]
+    shown = text(browser)
+    assert cause.sentence in shown and cause.remedy.replace("`", "") in shown and "EmptyDirectory at byte 442" in shown
+    assert ["IFD0:Make", "refused", "NIKON CORPORATION"] in rows(browser, "Fields that could be read")
+
+
+def test_one_picture(browser):
+    assert compare(browser, BOWL) == "Valid"
+    assert ["IPTC:Caption-Abstract", "Bowl, celadon glaze, 1820"] in rows(browser, "Fields")
+
+
+def test_pictures_that_are_not_read(browser, folder):
+    cut, empty = put(folder, BOWL.read_bytes()[:200], b"")
+    for given, words in ((PLAN, "of the format PNG"), (cut, "HeadCut"), (empty, "is empty")):
+        browser.ask("document.getElementById('anew').click()")
+        assert compare(browser, given, VASE) == "Not read" and words in text(browser)
+
+
+def test_normal_forms(browser, folder):
+    browser.call("Browser.setDownloadBehavior", behavior="allow", downloadPath=str(folder))
+    compare(browser, BOWL)
+    browser.ask("document.querySelectorAll('.downloads button').forEach((node) => node.click())")
+    for _ in range(600):
+        if len(saved := sorted(folder.glob("2003-12-bowl.*"))) == 2 and not [*folder.glob("*.crdownload")]:
+            break
+        time.sleep(0.1)
+    blocks = dict(exifnorm.jpeg_blocks(BOWL.read_bytes()))
+    assert [path.read_bytes() for path in saved] == [exifnorm.normal(blocks["exif"]), exifnorm.normal(blocks["iim"])]
+
+
+# ---- folders
+
+
+@pytest.mark.parametrize("is_dropped", [False, True])
+def test_folders(browser, is_dropped):
+    if is_dropped:
+        browser.drop("#slot-0", SAMPLES / "before", SAMPLES / "after")
+    else:
+        browser.choose("#folder-0", SAMPLES / "before")
+        heading(browser)
+        browser.choose("#folder-1", SAMPLES / "after")
+        browser.wait("document.querySelector('#summary h2')?.textContent.includes('different')")
+    assert heading(browser) == "1 different, 1 refused"
+    browser.ask("document.querySelector('[data-filter=all]').click()")
+    assert [row[:2] for row in rows(browser, "All pictures")] == [
+        ["arrivals/DSC_0042.jpg", "moved"],
+        ["arrivals/IMG_20240502.jpg", "refused"],
+        ["ceramics/1998-7-vase.jpg", "same as far as read"],
+        ["ceramics/2003-12-bowl.jpg", "different"],
+        ["paintings/1974-31-portrait.tif", "not read"],
+        ["press/vase.jpg", "the same"],
+        ["prints/1931-4-plan.png", "not read"],
+        ["textiles/2011-2-sash.webp", "not read"],
+    ]
+    browser.ask("[...document.querySelectorAll('.list button')].find((node) => node.textContent.includes('bowl')).click()")
+    browser.wait("!document.getElementById('result').hidden")
+    assert len(rows(browser, "What differs")) == 2
+
+
+def test_moved_pictures(browser, folder):
+    """By name, or if there is one on each side; otherwise nobody knows which is which. A picture without metadata moves nowhere."""
+
+    def caption(word):
+        return picture(iptc(b"\x1c\x02\x78\0\4" + word))
+
+    first = {"a/1.jpg": b"Vase", "a/2.jpg": b"Vase", "a/x.jpg": b"Bowl", "a/p.jpg": b"Tile", "a/q.jpg": b"Tile", "a/none.jpg": None}
+    second = {"b/2.jpg": b"Vase", "b/1.jpg": b"Vase", "b/y.jpg": b"Bowl", "b/r.jpg": b"Tile", "b/s.jpg": b"Tile", "b/nothing.jpg": None}
+    for side, files in (("first", first), ("second", second)):
+        for name, word in files.items():
+            path = folder / side / name
+            path.parent.mkdir(parents=True, exist_ok=True)
+            path.write_bytes(caption(word) if word else picture())
+    compare_folders(browser, folder / "first", folder / "second")
+    browser.ask("document.querySelector('[data-filter=all]').click()")
+    found = {row[0]: row[1:] for row in rows(browser, "All pictures")}
+    assert {name: found[name][1] for name, row in found.items() if row[0] == "moved"} == {
+        "a/1.jpg": "to b/1.jpg",
+        "a/2.jpg": "to b/2.jpg",
+        "a/x.jpg": "to b/y.jpg",
+    }
+    assert found["a/p.jpg"] == ["only in the first", "the same Exif and IPTC as 2 pictures only in the second"]
+    assert found["b/nothing.jpg"] == ["only in the second", ""]
+
+
+def test_a_picture_and_a_folder(browser):
+    browser.choose("#file-0", VASE)
+    heading(browser)
+    browser.choose("#folder-1", SAMPLES / "after")
+    browser.wait("document.getElementById('status').textContent.includes('can’t be compared')")
+
+
+def test_many_pictures(browser, folder, record_property):
+    """Two folders of thousands of pictures in bounded memory; and Stop in the middle of them."""
+    for side, pictures in (("first", (VASE, BOWL)), ("second", (VASE, BOWL_AFTER))):
+        copies = [shutil.copyfile(path, folder / f"{side}-{path.name}") for path in pictures]
+        for number in range(MANY):
+            path = folder / side / f"{number // 100}" / f"{number}.jpg"
+            path.parent.mkdir(parents=True, exist_ok=True)
+            os.link(copies[number % 50 == 0], path)
+    browser.drop("#slot-0", folder / "first", folder / "second")
+    browser.wait("Number(document.getElementById('progress').value) > 5")
+    browser.ask("document.getElementById('stop').click()")
+    heading(browser)
+    assert f"Stopped before the end: there are {MANY:,} files." in text(browser) and "the same" in text(browser)
+    assert not browser.ask("document.body.dataset.state = ''") and browser.ask("document.getElementById('running').hidden")
+    browser.ask("document.getElementById('anew').click()")
+    assert compare_folders(browser, folder / "first", folder / "second") == "100 different, 4,900 the same"
+    browser.call("HeapProfiler.collectGarbage")
+    used = browser.call("Runtime.getHeapUsage")["usedSize"]
+    record_property("measured", f"the page's heap after two folders of {MANY:,} pictures: {used / 1e6:.0f} MB")
+    assert used < MOST_MEMORY
+    assert len(rows(browser, "Different")) == 100
+    browser.ask("document.querySelector('[data-filter=same]').click()")
+    assert len(rows(browser, "The same")) == 300
+    browser.ask("document.querySelector('.more').click()")
+    assert len(rows(browser, "The same")) == 600
+
+
+def test_a_question_that_takes_too_long(browser):
+    """The worker is ended, and the next question gets a new one. Here the limit of the time is none."""
+    browser.ask("self.realTimeout = setTimeout; self.setTimeout = (act, time) => realTimeout(act, time === 30000 ? 0 : time); 0")
+    try:
+        browser.choose("#file-0", BOWL, BOWL_AFTER)
+        browser.wait("document.getElementById('status').textContent.includes('more than 30 seconds')")
+    finally:
+        browser.ask("self.setTimeout = realTimeout; 0")
+    browser.ask("document.getElementById('anew').click()")
+    assert compare(browser, BOWL, BOWL_AFTER) == "Different"
+
+
+# ---- hostile pictures and names
+
+
+def test_names_are_text(browser, folder):
+    names = ["<img src=x onerror=alert(1)>.jpg", "\"'&lt;b&gt;.jpg", "`code`.jpg", "=1+1.jpg", "a\u202egpj.exe.jpg", "\x1b[31m.jpg"]
+    for side, source in (("first", VASE), ("second", BOWL)):
+        (folder / side / "<b>").mkdir(parents=True)
+        for name in names:
+            shutil.copyfile(source, folder / side / "<b>" / name)
+    browser.choose("#folder-0", folder / "first")
+    heading(browser)
+    browser.choose("#folder-1", folder / "second")
+    browser.wait("document.querySelector('#summary h2')?.textContent.includes('different')")
+    assert heading(browser) == f"{len(names)} different"
+    escaped = {f"<b>/{name}".replace("\u202e", "\\u202e").replace("\x1b", "\\u001b") for name in names}
+    assert {row[0] for row in rows(browser, "Different")} == escaped
+    browser.ask("document.querySelector('.list button').click()")
+    browser.wait("!document.getElementById('result').hidden")
+    assert browser.ask("document.querySelectorAll('main img, main b, main code, main script').length") == 0
+
+
+def test_names_that_the_browser_leaves_out(browser, folder):
+    """Chromium lists a dropped folder without them, so the page says that some may be missing."""
+    for side in ("first", "second"):
+        (folder / side).mkdir()
+        for name in ("a:b.jpg", "c.jpg"):
+            shutil.copyfile(BOWL, folder / side / name)
+    compare_folders(browser, folder / "first", folder / "second")
+    assert "2 pictures" in text(browser) or "Perhaps not all" in text(browser)
+
+
+def test_values_are_text(browser, folder):
+    def of(value):
+        data = bytes.fromhex("4d4d002a00000008 0001 010e 0002") + len(value).to_bytes(4, "big") + bytes.fromhex("0000001a 00000000") + value
+        return picture(exif(data))
+
+    markup = b"<script>alert(1)</script><img src=x onerror=alert(2)>`x`\0"
+    assert compare(browser, *put(folder, of(markup), of(b"\x1b[31m\xff\xfe\0\7\xe2\x80\xae" * 2000))) == "Different"
+    assert "<script>alert(1)</script>" in rows(browser, "What differs")[0][1] and "\u202e" not in text(browser)
+    assert browser.ask("document.querySelectorAll('main img, main script, main code').length") == 0
+
+
+def verdict_by_library(first, second):
+    """The verdict as the native library has it."""
+    try:
+        same = exifnorm.jpeg_same(first, second)
+    except exifnorm.PictureRefused as why:
+        return "refused" if why.kind else "not read"
+    if not same:
+        return "different"
+    packets = [
+        [octets[part.start : part.start + part.size] for part in exifnorm.jpeg_parts(octets) if "xmp" in part.kind]
+        for octets in (first, second)
+    ]
+    is_read = not exifnorm.jpeg_unread(first) and not exifnorm.jpeg_unread(second)
+    return "the same" if is_read and packets[0] == packets[1] else "same as far as read"
+
+
+def test_hostile_pictures(browser, folder):
+    """Pictures with mistakes by chance, in folders: each verdict is the library's, and what differs is listed."""
+    chance = Random(SEED)
+    samples = [path.read_bytes() for path in sorted(SAMPLES.glob("*/*/*.jpg"))]
+    expected = {}
+    for side in ("first", "second"):
+        (folder / side).mkdir()
+    for number in range(PAIRS):
+        original = chance.choice(samples)
+        first, second = (
+            chance.choice([original, changed(original[:3000], chance) + original[3000:], chance.choice(samples)]) for _ in range(2)
+        )
+        for side, octets in (("first", first), ("second", second)):
+            (folder / side / f"{number:03}.jpg").write_bytes(octets)
+        expected[f"{number:03}.jpg"] = verdict_by_library(first, second)
+    compare_folders(browser, folder / "first", folder / "second")
+    browser.ask("document.querySelector('[data-filter=all]').click()")
+    found = {row[0]: row[1] for row in rows(browser, "All pictures")}
+    assert found == expected and len({*expected.values()}) >= 4
+    assert not any(row[2].startswith("0 ") for row in rows(browser, "All pictures") if row[1] == "different")
+
+
+def test_a_picture_of_millions_of_parts(browser, folder):
+    parts, datasets = b"\xff\x01" * 1_000_000, b"\x1c\x02\x19\0\0" * 12_000
+    many = picture(*[photoshop(jpegs.SIGNATURES[0] + b"\4\4\0\0" + len(datasets).to_bytes(4, "big") + datasets)] * 5)
+    for octets, title in ((b"\xff\xd8" + parts + b"\xff\xd9", "Not read"), (many, "Valid")):
+        browser.ask("document.getElementById('anew').click()")
+        assert compare(browser, *put(folder, octets)) == title
+
+
+def test_no_request_is_allowed(browser):
+    for code in (
+        "fetch('http://127.0.0.1:9/')",
+        "fetch('file:///etc/hostname')",
+        "Promise.resolve().then(() => { document.body.innerHTML = '<b>'; })",
+    ):
+        assert browser.ask(f"({code}).then(() => 'allowed', (error) => error.name)") == "TypeError", code
+    browser.wait("true")
+    browser.log.clear()
+    browser.requests[:] = [
+        address for address in browser.requests if "127.0.0.1" not in address and "/etc/" not in address
+    ]  # asked for, and refused
+
+
+# ---- how it looks, and how it is used
+
+
+def luminance(colour):
+    parts = [int(number) / 255 for number in re.findall(r"\d+", colour)[:3]]
+    parts = [part / 12.92 if part <= 0.04045 else ((part + 0.055) / 1.055) ** 2.4 for part in parts]
+    return sum(weight * part for weight, part in zip((0.2126, 0.7152, 0.0722), parts))
+
+
+# of each element with a text of its own: what it is, its colour, and the colour behind it
+COLOURS = """[...document.querySelectorAll('body *')].filter((node) => node.checkVisibility() &&
+  [...node.childNodes].some((child) => child.nodeType === 3 && child.data.trim())).map((node) => {
+    let behind = node; const colour = (element) => getComputedStyle(element).backgroundColor;
+    while (colour(behind) === 'rgba(0, 0, 0, 0)' && behind.parentElement) behind = behind.parentElement;
+    return [`${node.tagName}.${node.className}`, getComputedStyle(node).color, colour(behind)]; })"""
+
+
+@pytest.mark.parametrize("is_dark", [False, True])
+@pytest.mark.parametrize("width", [390, 1280])
+def test_contrast_and_width(browser, width, is_dark, checks):
+    """Contrast by WCAG 2.1, 1.4.3, and no scrolling to the side."""
+    browser.show(width, dark=is_dark)
+    for pictures in ((BOWL, BOWL_AFTER), (VASE, VASE_AFTER), (REFUSED, VASE), (PLAN, VASE), (BOWL,)):
+        browser.ask("document.getElementById('anew').click()")
+        compare(browser, *pictures)
+        browser.wait("document.getAnimations().length === 0")
+        for name, ink, paper in browser.ask(COLOURS):
+            dark, light = sorted((luminance(ink), luminance(paper)))
+            checks.check(f"{name} {ink} on {paper}", (light + 0.05) / (dark + 0.05) >= 4.5)
+        checks.check(f"{pictures} in {width}", browser.ask("document.documentElement.scrollWidth <= innerWidth"))
+    browser.show()
+
+
+def accessible(browser):
+    nodes = browser.call("Accessibility.getFullAXTree")["nodes"]
+    return [(node["role"]["value"], node.get("name", {}).get("value", "")) for node in nodes if not node.get("ignored") and "role" in node]
+
+
+def test_names_and_roles(browser):
+    found = accessible(browser)
+    assert {"banner", "main", "contentinfo", "status"} <= {role for role, _ in found}
+    names = [name for role, name in found if role == "button"]
+    assert all(any(words in name for name in names) for words in ("Choose a picture, the first", "Choose a folder, the second")), names
+    compare(browser, BOWL, BOWL_AFTER)
+    for width in (1280, 390):
+        browser.show(width)
+        assert {"table", "columnheader", "rowheader", "cell"} <= {role for role, _ in accessible(browser)}, width
+    browser.show()
+
+
+def test_by_keyboard(browser):
+    """Tab reaches each choice and each result, and Enter opens one."""
+    compare_folders(browser, SAMPLES / "before", SAMPLES / "after")
+    browser.ask("document.getElementById('file-0').focus()")
+    focused = []
+    for _ in range(15):
+        focused.append(browser.ask("document.activeElement.id || document.activeElement.textContent"))
+        browser.press("Tab", 9)
+    assert [name for name in focused if name in ("file-0", "folder-0", "file-1", "folder-1", "anew")] == [
+        "file-0",
+        "folder-0",
+        "file-1",
+        "folder-1",
+        "anew",
+    ]
+    assert "1 moved" in focused and "ceramics/2003-12-bowl.jpg" in focused
+    browser.ask("[...document.querySelectorAll('.list button')].find((node) => node.textContent.includes('bowl')).focus()")
+    browser.press("Enter", 13)
+    browser.wait("document.activeElement.textContent.includes('Different')")
+
+
+def test_print(browser):
+    """Equal fields are printed, and buttons are not."""
+    compare(browser, BOWL, BOWL_AFTER)
+    browser.call("Emulation.setEmulatedMedia", media="print")
+    assert not browser.ask("document.querySelector('.choices').checkVisibility()")
+    browser.call("Emulation.setEmulatedMedia", media="")
+    browser.ask("dispatchEvent(new Event('beforeprint'))")
+    assert browser.ask("document.querySelector('details').open")
+    browser.ask("dispatchEvent(new Event('afterprint'))")
+    assert not browser.ask("document.querySelector('details').open")
+    browser.show()
+
+
+# ---- how it is made
+
+
+def test_the_same_sources_make_the_same_page(wasm, file):
+    octets = (wasm / "exifnorm.wasm").read_bytes()
+    assert page.page(octets).encode() == file.read_bytes() and len(file.read_bytes()) < page.LONGEST
+
+
+@pytest.mark.parametrize("module, is_refused", [(b"1.0.0", False), (b"1.0.0-unproved", True)])
+def test_a_page_without_proofs_is_refused(folder, module, is_refused):
+    (folder / "page.html").write_text(page.page(module), encoding="utf-8")
+    assert bool(guard.refused(folder / "page.html")) == is_refused
+
+
+def test_a_page_that_is_too_long_is_refused(folder, capsys):
+    (folder / "wasm").write_bytes(bytes(200_000))
+    assert page.main([str(folder / "wasm"), str(folder / "page.html")]) == 1
+    assert "more than 250000" in capsys.readouterr().err and not Path(folder, "page.html").exists()
