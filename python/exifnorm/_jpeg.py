@@ -3,7 +3,7 @@
 from __future__ import annotations
 
 import operator
-from typing import Any, Dict, Iterator, List, NamedTuple, NoReturn, Optional, Tuple, Union
+from typing import Any, Dict, Iterator, List, Literal, NamedTuple, NoReturn, Optional, Tuple, Union
 
 from ._calls import Block
 from ._errors import HeadRefused, PictureRefused, TooMany
@@ -44,7 +44,7 @@ class Resource(NamedTuple):
 class JpegBlock(NamedTuple):
     """A block of a JPEG: its `kind`, "exif" or "iim", which is IPTC, and its bytes `data`."""
 
-    kind: str
+    kind: Literal["exif", "iim"]
     data: bytes
 
 
@@ -185,7 +185,7 @@ def _blocks(octets: bytes) -> List[JpegBlock]:
     found: List[JpegBlock] = []
     for kind, data in _whole_blocks(octets):
         if kind == "exif":
-            found.append(JpegBlock(kind, data))
+            found.append(JpegBlock("exif", data))
         elif kind == "photoshop":
             rows = photoshop_resources(data)
             found += [JpegBlock("iim", data[start : start + size]) for number, start, size in rows if number == _IPTC and size]

@@ -262,7 +262,7 @@ class Block:
         from .refusals import causes  # which takes long to import, and few blocks are refused
 
         cause = self._judged.cause or self.status
-        words = causes.words_of(cause) or (f"It is {self.status}: {cause}.", "")
+        words = causes.words_of(cause, self._judged.kind) or (f"It is {self.status}: {cause}.", "")
         return Refusal(self.name, cause, self._judged.place, *words)
 
     @property

@@ -209,3 +209,34 @@ def test_a_catalogue_that_is_gone_before_the_end(asked, folder, harm, monkeypatc
 
     monkeypatch.setattr(Catalogue, "close", close)
     asked("index", "p", "--again", "--catalogue", "c", status=4)
+
+
+@pytest.mark.parametrize(
+    "words",
+    [
+        ("same", "--catalogue", "c"),
+        ("changed", "c", "c"),
+        ("changed", "c", "p"),
+        ("captions", "c"),
+        ("conflicts", "c"),
+        ("report", "--catalogue", "c", "--json"),
+        ("export", "c", "tables"),
+        ("verify", "--catalogue", "c"),
+        ("index", "p", "--catalogue", "c", "--quiet"),
+        ("merge", "c", "--catalogue", "d"),
+        ("forget", "p", "--catalogue", "c"),
+    ],
+    ids=lambda words: " ".join(words),
+)
+def test_a_catalogue_of_an_earlier_release(words, folder, called):
+    """One line says what to run, and the catalogue stays as it is."""
+    (folder / "p").mkdir()
+    called("index", "p", "--catalogue", "c", "--quiet")
+    with sqlite3.connect(folder / "c") as base:
+        base.execute("PRAGMA user_version = 5")
+    base.close()
+    before = (folder / "c").read_bytes()
+    status, printed, message = called(*words)
+    assert (status, printed, message.count("\n")) == (4, "", 1), message
+    assert "earlier release (version 5" in message and message.endswith("exifnorm-pictures index FOLDER --catalogue NEW\n")
+    assert (folder / "c").read_bytes() == before

@@ -10,6 +10,7 @@ from exifnorm import LIMIT
 from exifnorm._causes import OF_BLOCKS, OF_HEADS
 
 from .. import xmp
+from ..model.found import XMP
 
 MEASURED = "measured on 419 JPEG files of Debian source packages, 2026"
 READERS = "ExifTool 12.57, exiv2 0.27.6, exif 0.6.22 (libexif), Pillow 9.4 and piexif 1.1.3 of Debian 12"
@@ -285,13 +286,13 @@ OTHER_REMEDIES: Dict[str, Tuple[str, str]] = {
 }
 
 
-def words_of(cause: str) -> Optional[Tuple[str, str]]:
-    """The meaning and the remedy of any cause that a block of a catalogue can have.
+def words_of(cause: str, kind: str = "") -> Optional[Tuple[str, str]]:
+    """The meaning and the remedy of any cause that a block of a catalogue can have. TooLong is a cause of blocks, and another one of XMP.
 
-    >>> words_of("NeedsRdflib")[1][:23], words_of("Unsorted")[0]
-    ('Install python3-rdflib ', "The tags of a directory don't ascend.")
+    >>> words_of("NeedsRdflib")[1][:23], words_of("Unsorted")[0], words_of("TooLong", XMP)[1][:34]
+    ('Install python3-rdflib ', "The tags of a directory don't ascend.", 'No packet of a real picture is so ')
     """
-    if cause in OF_BLOCKS:
+    if cause in OF_BLOCKS and kind != XMP:
         return OF_BLOCKS[cause]
     if cause in XMP_REMEDIES:
         return xmp.CAUSES[cause], XMP_REMEDIES[cause]

@@ -90,7 +90,7 @@ def explain(kind: str, block: bytes) -> Explanation:
 
 def explain_packet(judgement: Block) -> Explanation:
     """Explains an XMP packet that was judged; one that was read needs no explanation."""
-    words = words_of(judgement.cause) if judgement.cause else None
+    words = words_of(judgement.cause, XMP) if judgement.cause else None
     return Explanation(XMP, judgement, here=[words[0], f"Remedy: {words[1]}"] if words else [])
 
 
