@@ -4,7 +4,7 @@ import subprocess
 from pathlib import Path
 
 import pytest
-from exifnorm_pictures.fields.labels import POSITION, fields_by_label
+from exifnorm_pictures.fields.labels import POSITION, PRIVATE, fields_by_label
 from made_files import app1, exif, jpeg
 from studio import TOP, needs, put
 from test_captions import data_set, with_record, with_texts
@@ -29,6 +29,8 @@ FIELDS = {
     "instructions": ["IPTC:SpecialInstructions", "XMP-photoshop:Instructions"],
     "usage terms": ["XMP-xmpRights:UsageTerms"],
     "comment": ["ExifIFD:UserComment"],
+    "serial": ["ExifIFD:SerialNumber", "ExifIFD:LensSerialNumber", "XMP-aux:SerialNumber", "XMP-exifEX:LensSerialNumber"],
+    "owner": ["ExifIFD:OwnerName", "XMP-aux:OwnerName", "XMP-exifEX:OwnerName"],
     "position": ["GPS:GPSLatitude", "XMP-exif:GPSLongitude"],
 }
 VALUES = {"date created": "2001:02:03 04:05:06", "position": "12.5"}
@@ -40,7 +42,9 @@ def test_each_label_has_its_row_and_its_documents(checks):
     for label in fields_by_label():
         checks.check(label, label in FIELDS, "it has no fields in the table of this module")
         for page in (
-            ("docs/JSON.md", "docs/CATALOGUE.md", "docs/exifnorm-pictures.1") if label != POSITION else ("docs/exifnorm-pictures.1",)
+            ("docs/exifnorm-pictures.1",)
+            if label in (POSITION, *PRIVATE)
+            else ("docs/JSON.md", "docs/CATALOGUE.md", "docs/exifnorm-pictures.1")
         ):
             checks.check(label, label in (Path(TOP) / page).read_text(encoding="utf-8"), f"{page} doesn't name it")
 

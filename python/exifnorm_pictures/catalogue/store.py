@@ -435,6 +435,10 @@ class Catalogue:
         """Whether a picture is known."""
         return self.known(path) is not None
 
+    def with_maker_note(self) -> int:
+        """How many pictures have a MakerNote."""
+        return int(next(self.rows("SELECT count(DISTINCT picture) FROM blocks WHERE note IS NOT NULL"))[0])
+
     def is_empty(self) -> bool:
         """Whether no picture is known, as in a first run."""
         return next(self.rows("SELECT 1 FROM pictures LIMIT 1"), None) is None

@@ -26,7 +26,7 @@ from ..model.errors import WrongUse
 from ..model.texts import shown_path
 from ..scan.index import IndexOptions, index
 from . import changed_tables
-from .choice import choice_of, listings_of, refuse_unknown, say_unseen
+from .choice import choice_of, listings_of, note_absent, refuse_unknown
 from .exit_codes import DIFFERENCE, SUCCESS, UNKNOWN
 from .looking import how_of
 from .names import from_list, refuse_pictures, say_unknown
@@ -56,6 +56,7 @@ def run(arguments: argparse.Namespace) -> int:
         found = changes.changed(
             before, after, counts, only, arguments.all, None if arguments.no_exiftool else arguments.session, choice, pictures
         )
+        found = _then_noted(found, choice, before, after)
         listed = (it for it in found if it.result not in changes.UNCHANGED or arguments.all)
         if arguments.csv:
             changed_tables.print_table(listed, choice)
@@ -67,13 +68,19 @@ def run(arguments: argparse.Namespace) -> int:
             _print_each(arguments, listed, counts, choice, notes)
         else:
             _print_summary(found, counts, choice, notes)
-        say_unseen(choice, "that differs")
         if names:
             say_unknown(names, _knows(before, after))
     return status_of(counts)
 
 
 Found = Iterable[changes.Compared]
+
+
+def _then_noted(found: Found, choice: Choice, before: Catalogue, after: Catalogue) -> Iterator[changes.Compared]:
+    """The pictures; when all are compared, it is noted which words fit no field of them."""
+    yield from found
+    listings = itertools.chain(listings_of(before), listings_of(after))
+    note_absent(choice, listings, max(before.with_maker_note(), after.with_maker_note()) if choice.asks_for_private else 0)
 
 
 class _Notes:

@@ -9,7 +9,7 @@ from ..comparison.changed import Compared
 from ..comparison.differing import Difference, exact
 from ..comparison.wording import plain_sides
 from ..fields.choosing import Choice
-from ..fields.left_out import lines
+from ..fields.left_out import lines, members_of
 from ..fields.listing import MAKER_NOTE, Field
 from ..fields.plain_names import exact_key, group_name
 from ..fields.typed import together
@@ -48,7 +48,13 @@ def print_objects(found: Found, counts: "Counter[str]", choice: Choice, pictures
     print_object(
         "changed",
         "summary",
-        {"counts": dict(counts), "left_out": dict(choice.left_out), "labels": choice.labels(), "coded_pictures": dict(pictures)},
+        {
+            "counts": dict(counts),
+            "left_out": dict(choice.left_out),
+            "labels": choice.labels(),
+            "coded_pictures": dict(pictures),
+            **members_of(choice),
+        },
     )
 
 

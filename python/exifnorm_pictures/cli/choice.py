@@ -9,7 +9,6 @@ from ..catalogue.store import Catalogue
 from ..fields.choosing import Choice, UnknownField, hint
 from ..fields.listing import Field
 from ..fields.packing import unpacked
-from ..files import signals
 from ..model.found import NAMES
 from ..model.texts import escaped, reason
 
@@ -68,7 +67,12 @@ def other_name(name: str) -> str:
     return "" if name in NAMES.values() else name
 
 
-def say_unseen(choice: Choice, which: str) -> None:
-    """Names on standard error the patterns that fit no field; `which` says of which fields that was found."""
-    for it in choice.unseen():
-        signals.say(f"exifnorm-pictures: note: {it} fits no field {which}{hint(it)}")
+def note_absent(choice: Choice, listings: Iterable[Listed], maker_notes: int = 0) -> None:
+    """Notes which words fit no field of all pictures, for the answer: that none changed means nothing then. `maker_notes` is the number of
+    pictures with a MakerNote."""
+    for block, fields in listings if choice.unseen_words() else ():
+        choice.see(fields, block)
+        if not choice.unseen_words():
+            break
+    choice.absent = choice.unseen_words()
+    choice.maker_notes = maker_notes if choice.asks_for_private else 0

@@ -13,14 +13,14 @@ from ..comparison.two_pictures import Comparison, Row, compare, read, with_posit
 from ..comparison.wording import NONE, tag_of
 from ..fields.block_fields import fields_of
 from ..fields.choosing import Choice
-from ..fields.left_out import lines
+from ..fields.left_out import lines, members_of
 from ..fields.typed import together
 from ..model import verdicts
 from ..model.records import WORDS, Picture
 from ..model.texts import Members, escaped, shown_path
 from ..scan.batches import How
 from .changed import status_of
-from .choice import choice_of, other_name, refuse_unknown, say_unseen
+from .choice import choice_of, note_absent, other_name, refuse_unknown
 from .columns import columns
 from .exit_codes import SUCCESS, UNKNOWN
 from .names import refuse_folders
@@ -40,13 +40,12 @@ def run(arguments: argparse.Namespace) -> int:
     names = [os.fsencode(it) for it in (arguments.before, arguments.after)]
     choice.add_left_out(found.left_out)
     if arguments.json:
-        print_object("compare", "comparison", _members(found, rows, names))
+        print_object("compare", "comparison", _members(found, rows, names, choice))
     elif arguments.csv:
-        _print_table(found, rows, names)
+        _print_table(found, rows, names, list(lines(choice)))
     else:
         for line in _lines(found, rows, names, arguments.exact, list(lines(choice))):
             print_line(line)
-    say_unseen(choice, "of the two pictures")
     return _status(found)
 
 
@@ -56,6 +55,7 @@ def _choice(arguments: argparse.Namespace, *records: Picture) -> Choice:
     for block in (block for record in records for block in record.blocks) if choice else ():
         choice.see(fields_of(block), other_name(block.name))
     refuse_unknown(choice, ())
+    note_absent(choice, (), sum(any(block.note is not None for block in it.blocks) for it in records))
     return choice
 
 
@@ -97,9 +97,11 @@ _SENTENCES = {
 def _lines(found: Comparison, rows: Sequence[Row], names: Sequence[bytes], exact: bool, notes: Sequence[str]) -> Iterator[str]:
     yield _sentence(found, rows)
     if found.is_identical:
+        yield from notes
         return
     if found.is_empty:
         yield from [_of_pictures(found, names)] * (found.found.picture != coded.UNKNOWN)
+        yield from notes
         return
     if any(it.problem for it in found.records):
         yield from (f"{shown_path(name)}: {it.problem}: {it.detail}" for name, it in zip(names, found.records) if it.problem)
@@ -182,15 +184,15 @@ def _cells(it: Row, exact: bool) -> Sequence[str]:
 # --csv
 
 
-def _print_table(found: Comparison, rows: Sequence[Row], names: Sequence[bytes]) -> None:
+def _print_table(found: Comparison, rows: Sequence[Row], names: Sequence[bytes], notes: Sequence[str]) -> None:
     """A row for each field that differs, and at the end one for each reason why the answer isn't whole."""
     table = Table(["field", "before", "after", "exact before", "exact after", "note"])
     for it in rows:
         table.row(it.name, *it.plain, *it.exact, it.note or ("equal number" if it.is_equal_number else None))
     problems = [f"{shown_path(name)}: {it.problem}: {it.detail}" for name, it in zip(names, found.records) if it.problem]
     note = "" if problems or not found.found.note else f" ({found.found.note})"
-    if found.left_out:
-        table.row(None, None, None, None, None, f"left out though they differ: {', '.join(found.left_out)}")
+    for note in notes:
+        table.row(None, None, None, None, None, note)
     if _status(found) == UNKNOWN:
         table.row(None, None, None, None, None, "; ".join([_sentence(found, rows) + note, *problems]))
 
@@ -198,7 +200,7 @@ def _print_table(found: Comparison, rows: Sequence[Row], names: Sequence[bytes])
 # --json
 
 
-def _members(found: Comparison, rows: Sequence[Row], names: Sequence[bytes]) -> Members:
+def _members(found: Comparison, rows: Sequence[Row], names: Sequence[bytes], choice: Choice) -> Members:
     pictures = []
     for name, it in zip(names, found.records):
         unread = [part.what for part in it.unread]
@@ -213,6 +215,7 @@ def _members(found: Comparison, rows: Sequence[Row], names: Sequence[bytes]) -> 
         "kinds": kinds,
         "fields": [_row_members(it) for it in rows],
         "left_out": found.left_out,
+        **members_of(choice),
     }
 
 

@@ -13,6 +13,7 @@ import exifnorm
 from ..catalogue.store import Catalogue
 from ..export.rows import Export
 from ..export.tables import VERSION, Tables, head_is_ours, tables
+from ..fields.left_out import of_maker_notes
 from ..files import atomic
 from ..model.errors import WrongUse
 from ..model.texts import path_members, shown_path
@@ -39,6 +40,7 @@ def run(arguments: argparse.Namespace) -> int:
     counts = {name: written.counts.get(name, 0) for name in ("pictures", "fields", "captions", "conflicts", "groups")}
     if arguments.json:
         left_out = {"texts_not_kept": work.missing, "absent_groups": work.fewest.absent}
+        left_out["maker_notes_not_read"] = work.maker_notes
         print_object("export", "summary", {**path_members(os.fsencode(arguments.file)), "rows": counts, **left_out})
     else:
         print_line(f"{shown_path(arguments.file)}: {', '.join(f'{count:,} rows of {name}' for name, count in counts.items())}")
@@ -46,6 +48,8 @@ def run(arguments: argparse.Namespace) -> int:
             which = "picture has" if work.missing == 1 else "pictures have"
             why = "too long for the catalogue"
             print_line(f"{work.missing:,} {which} a text that is NULL: it is {why}")
+        if work.maker_notes:
+            print_line(of_maker_notes(work.maker_notes))
         if work.fewest.absent:
             which = "group is left out, because its" if work.fewest.absent == 1 else "groups are left out, because their"
             print_line(f"{work.fewest.absent:,} {which} files are gone or have changed since they were indexed")

@@ -45,8 +45,8 @@ UTF-8.
 
 Two Exif blocks, or two IPTC records, mean the same if their normal forms are
 equal, which is proved. How blocks are found in pictures, XMP, and groups are
-tested. XMP is compared by its statements. ExifTool reads the formats that have no reader here (Debian:
-libimage-exiftool-perl)."""
+tested. XMP is compared by its statements. ExifTool reads the formats that have
+no reader here (Debian: libimage-exiftool-perl)."""
 
 
 class _Parser(argparse.ArgumentParser):
@@ -270,8 +270,8 @@ def _choice_arguments(it: argparse.ArgumentParser) -> None:
     )
 
 
-_FIELDS = """A label of captions, such as creator, caption or 'date created', and position
-stand for all their fields of Exif, IPTC and XMP.
+_FIELDS = """A label of captions, such as creator, caption or 'date created', and position,
+serial and owner stand for all their fields of Exif, IPTC and XMP.
 Each name that is printed can be given, and also Artist, dc:title, 2:25,
 0x013b or a group: GPS, IPTC, XMP-crs. The wildcards * and ? are allowed, as
 in xmpMM:*; upper and lower case don't matter. exif:NAME is a field of an

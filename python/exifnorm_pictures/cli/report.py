@@ -11,7 +11,7 @@ from typing import BinaryIO
 from ..catalogue.store import Catalogue
 from ..files import atomic
 from ..report import contents, page
-from .choice import choice_of, listings_of, refuse_unknown, say_unseen
+from .choice import choice_of, listings_of, note_absent, refuse_unknown
 from .exit_codes import SUCCESS
 from .names import chosen_paths, say_unknown
 from .parser import refuse
@@ -27,6 +27,8 @@ def run(arguments: argparse.Namespace) -> int:
         old = open_.enter_context(Catalogue(arguments.since)) if arguments.since else None
         choice = choice_of(arguments)
         refuse_unknown(choice, (it for one in (catalogue, old) if one for it in listings_of(one)))
+        sides = [one for one in (catalogue, old) if one]
+        note_absent(choice, (it for one in sides for it in listings_of(one)), max(one.with_maker_note() for one in sides))
         about = contents.About(catalogue, old, chosen, not arguments.no_look, choice, arguments.session)
         if arguments.html:
             text = page.page(contents.gather(about), arguments.title)
@@ -34,7 +36,6 @@ def run(arguments: argparse.Namespace) -> int:
         if arguments.json:
             for members in contents.members(about):
                 print(json.dumps(members))
-        say_unseen(choice, "of the catalogue")
         say_unknown(chosen or (), catalogue.has)
     return SUCCESS
 

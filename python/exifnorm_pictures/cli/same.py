@@ -13,13 +13,13 @@ from ..comparison import groups
 from ..comparison.keeping import NOT_KNOWN, Keep, keeping
 from ..comparison.readings import Unknown, of_unknown
 from ..fields.choosing import Choice
-from ..fields.left_out import BY_LISTING, of_labels
+from ..fields.left_out import BY_LISTING, members_of, of_labels
 from ..files import signals
 from ..model import verdicts
 from ..model.errors import WrongUse
 from ..model.records import KINDS, KIND_OF, WORDS, Picture
 from ..model.texts import Members, path_members, shown_path
-from .choice import choice_of, listings_of, refuse_unknown, say_unseen
+from .choice import choice_of, listings_of, note_absent, refuse_unknown
 from .exit_codes import DIFFERENCE, SUCCESS, UNKNOWN
 from .names import chosen_paths, say_unknown
 from .objects import line_of, print_object
@@ -39,6 +39,7 @@ def run(arguments: argparse.Namespace) -> int:
         table = Table(_HEADS) if arguments.csv else None
         choice = choice_of(arguments)
         refuse_unknown(choice, listings_of(catalogue))
+        note_absent(choice, listings_of(catalogue), catalogue.with_maker_note() if choice.asks_for_private else 0)
         fewest = groups.Fewest(arguments.least_fields)
         unknown: Unknown = Counter()
         results: "Counter[str]" = Counter()
@@ -65,7 +66,13 @@ def run(arguments: argparse.Namespace) -> int:
                 print_object(
                     "same",
                     "summary",
-                    {**totals, "small_groups": fewest.small, "absent_groups": fewest.absent, "maker_notes_unknown": dict(unknown)},
+                    {
+                        **totals,
+                        "small_groups": fewest.small,
+                        "absent_groups": fewest.absent,
+                        "maker_notes_unknown": dict(unknown),
+                        **members_of(choice),
+                    },
                 )
             else:
                 _print_totals(listed, grouped, left, fewest)
@@ -80,9 +87,10 @@ def run(arguments: argparse.Namespace) -> int:
                 if arguments.kind == PIXELS:
                     _print_without_digest(groups.without_coded_picture(catalogue, only)[1])
         else:
-            for note in [*of_labels(choice)] + [of_unknown(unknown)] * bool(unknown) + [_of_absent(fewest.absent)] * bool(fewest.absent):
+            for note in of_labels(choice):
+                table.row(*(None,) * 6, note)
+            for note in [of_unknown(unknown)] * bool(unknown) + [_of_absent(fewest.absent)] * bool(fewest.absent):
                 signals.say(f"exifnorm-pictures: note: {note}")
-        say_unseen(choice, "of the catalogue")
         say_unknown(chosen or (), catalogue.has)
     return UNKNOWN if unknown else _status(results)
 

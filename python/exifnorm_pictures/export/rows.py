@@ -34,6 +34,7 @@ class Export:
     def __init__(self, catalogue: Catalogue, tables: Tables, only: Optional[str], session: Optional[Session]) -> None:
         self.catalogue, self.tables, self.only, self.session = catalogue, tables, only, session
         self.missing = 0  # pictures with a text that is too long to be kept
+        self.maker_notes = 0  # pictures with a MakerNote
         self.fewest = Fewest()  # counts the groups that are left out
 
     def all(self, quiet: bool) -> None:
@@ -54,6 +55,7 @@ class Export:
         self.tables.add("pictures", [_picture_row(it)])
         with self.catalogue.guarded():
             blocks = [(block, fields_of(block)) for block in self.catalogue.blocks_of(it)]
+        self.maker_notes += any(block.note is not None for block, _ in blocks)
         for number, (block, fields) in enumerate(blocks):
             self.tables.add("blocks", [_block_row(it, number, block)])
             self.tables.add("fields", ((it.id, number, at, *_field_row(one)) for at, one in enumerate(fields)))
@@ -107,7 +109,7 @@ def _time(nanoseconds: Optional[int]) -> Optional[str]:
 def _block_row(it: Picture, number: int, block: Block) -> Row:
     repair = steps.words(block.steps) or None
     about = (WORDS[block.kind], block.name, block.source, block.extractor, block.status, block.cause, block.place, block.length)
-    return (it.id, number, *about, repair, block.digest)
+    return (it.id, number, *about, repair, block.digest, int(block.note is not None))
 
 
 def _field_row(field: Field) -> Row:

@@ -52,6 +52,7 @@ CREATE TABLE blocks (
     length INTEGER NOT NULL,
     repair TEXT,
     digest TEXT,
+    maker_note INTEGER NOT NULL,
     PRIMARY KEY (picture, block)
 ) WITHOUT ROWID;
 CREATE TABLE fields (

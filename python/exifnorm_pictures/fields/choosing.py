@@ -136,6 +136,8 @@ class Choice:
         self.ignore, self.only = _patterns(ignore), _patterns(only)
         self.equal_numbers = equal_numbers  # count as equal
         self.left_out: Dict[str, int] = {}  # fields that differ and were left out, and in how many pictures
+        self.absent: List[str] = []  # words that fit no field of the pictures
+        self.maker_notes = 0  # pictures with a MakerNote, if it may have what was asked for
         self.kinds = self._kinds()
         self._known: Dict[Tuple[str, str, str], bool] = {}
 
@@ -196,6 +198,17 @@ class Choice:
     def unseen(self) -> List[str]:
         """The patterns that fit no field, but for those of sets."""
         return [it.text for it in (*self.ignore, *self.only) if not it.is_seen and not it.of_set]
+
+    def unseen_words(self) -> List[str]:
+        """The words that fit no field: patterns, and labels of which no field was there."""
+        unseen = dict.fromkeys(it.of_set for it in (*self.ignore, *self.only) if it.of_set and it.of_set not in SETS)
+        seen = {it.of_set for it in (*self.ignore, *self.only) if it.is_seen}
+        return [*self.unseen(), *(it for it in unseen if it not in seen)]
+
+    @property
+    def asks_for_private(self) -> bool:
+        """Whether serial numbers or owners are asked for, which a MakerNote may have, too."""
+        return any(re.search("serial|owner", it.of_set or it.text, re.I) for it in self.only)
 
     def unknown(self) -> List[str]:
         """The patterns that fit no field so far, and that no field can fit by the standards."""

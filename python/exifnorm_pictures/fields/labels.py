@@ -56,6 +56,19 @@ WINDOWS = {"9c9b": "title", "9c9c": COMMENT, "9c9d": "creator", "9c9e": "keyword
 
 
 POSITION = "position"  # no label of a text: where the picture was taken, by GPS
+# No labels of texts either: what tells which camera, lens and owner a picture is of. A MakerNote may have it, too, which only ExifTool reads
+PRIVATE = {
+    "serial": (
+        ("exif", "a431"),
+        ("exif", "a435"),
+        ("main", "c62f"),
+        ("xmp", "exifEX:BodySerialNumber"),
+        ("xmp", "exifEX:LensSerialNumber"),
+        ("xmp", "aux:SerialNumber"),
+        ("xmp", "aux:LensSerialNumber"),
+    ),
+    "owner": (("exif", "a430"), ("xmp", "exifEX:CameraOwnerName"), ("xmp", "aux:OwnerName")),
+}
 # The tags of Exif that XMP has too, beside the properties of labels
 _MIRRORS = {"010e": "tiff:ImageDescription", "013b": "tiff:Artist", "8298": "tiff:Copyright", "9003": "exif:DateTimeOriginal"}
 _POSITION = ("0001", "0002", "0003", "0004", "0005", "0006")
@@ -80,6 +93,7 @@ def fields_by_label() -> Dict[str, Tuple[str, ...]]:
         *(("gps", it) for it in _POSITION),
         *(("xmp", f"exif:{plain_name('gps', it)}") for it in ("0002", "0004", "0005", "0006")),
     ]
+    found.update({word: list(fields) for word, fields in PRIVATE.items()})
     return {word: tuple(group_name(*it) for it in fields) for word, fields in found.items()}
 
 

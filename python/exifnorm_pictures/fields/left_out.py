@@ -4,8 +4,8 @@ from __future__ import annotations
 
 from typing import Iterator
 
-from ..model.texts import escaped
-from .choosing import Choice
+from ..model.texts import Members, escaped
+from .choosing import Choice, hint
 
 
 BY_LISTING = "Fields are left out by their listing, which is tested, and not proved."
@@ -26,6 +26,23 @@ def lines(choice: Choice, is_counted: bool = False) -> Iterator[str]:
 
 
 def of_labels(choice: Choice) -> Iterator[str]:
-    """Which fields a label stands for."""
+    """Which fields a label stands for, which words fit no field of the pictures, and where else it may be that was asked for."""
     for label, fields in choice.labels().items():
         yield f"{label} stands for {', '.join(fields)}."
+    if choice.absent:
+        names = [escaped(it) + hint(it) for it in choice.absent[:SHOWN]]
+        names += [f"{len(choice.absent) - SHOWN:,} more"] * (len(choice.absent) > SHOWN)
+        yield f"No picture has a field {' or '.join(names)}."
+    if choice.maker_notes:
+        yield of_maker_notes(choice.maker_notes)
+
+
+def members_of(choice: Choice) -> Members:
+    """The words that fit no field, and the number of pictures whose MakerNotes may have what was asked for, for an object."""
+    return {"fits_nothing": choice.absent, "maker_notes_not_read": choice.maker_notes}
+
+
+def of_maker_notes(count: int) -> str:
+    """What is said where serial numbers and owners are listed or asked for."""
+    have = "1 picture has one" if count == 1 else f"{count:,} pictures have one"
+    return f"MakerNotes were not read: {have}, and it may have serial numbers and owners, too, which ExifTool lists."

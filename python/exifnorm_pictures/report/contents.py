@@ -80,6 +80,7 @@ class Gathered:
     refused: Dict[str, List[Refused]] = field(default_factory=dict)  # the first of each cause
     parts: "Counter[str]" = field(default_factory=Counter)  # the unread parts, and the number of pictures with each
     unread: int = 0
+    maker_notes: int = 0  # pictures with a MakerNote
     problems: List[Picture] = field(default_factory=list)
     all_problems: int = 0
     groups: List[Tuple[int, str, List[bytes]]] = field(default_factory=list)  # size, the parts that are the same, first pictures
@@ -162,6 +163,8 @@ def _gather_parts(found: Gathered, about: About) -> None:
         found.parts[what] += count
     query = f"SELECT count(*) FROM pictures WHERE not_read IS NOT '' AND {_chosen(about)}"
     found.unread = next(about.catalogue.rows(query))[0]
+    query = f"SELECT count(DISTINCT picture) FROM blocks JOIN pictures ON pictures.id = picture WHERE note IS NOT NULL AND {_chosen(about)}"
+    found.maker_notes = next(about.catalogue.rows(query))[0]
 
 
 def _part_of_row(row: Tuple[str, int]) -> Tuple[str, int]:

@@ -13,6 +13,7 @@ from ..comparison import changed, coded
 from ..comparison.conflicts import Conflict
 from ..comparison.readings import of_unknown
 from ..fields.labels import STANDARDS
+from ..fields.left_out import of_maker_notes
 from ..model import verdicts
 from ..model.found import PROBLEMS, STATE_WORDS
 from ..model.texts import escaped, safe, shown_path
@@ -252,12 +253,13 @@ def _caption(text: Optional[str]) -> str:
 
 def _parts(found: Gathered) -> str:
     """The parts that were not read."""
+    notes = f"<p>{_text(of_maker_notes(found.maker_notes))}</p>" if found.maker_notes else ""
     if not found.parts:
-        return ""
+        return f"<section><h2>What was not read</h2>{notes}</section>\n" if notes else ""
     rows = "".join(f"<tr><td>{count:,}</td><td>{_text(what)}</td></tr>" for what, count in found.parts.most_common(MOST_REFUSED))
     more = _more(len(found.parts), MOST_REFUSED, "parts")
     words = "These parts were compared by a digest of their bytes at most; pictures that differ in them are not the same."
-    return f"<section><h2>What was not read</h2><p>{words}</p><table>{rows}</table>{more}</section>\n"
+    return f"<section><h2>What was not read</h2><p>{words}</p><table>{rows}</table>{more}{notes}</section>\n"
 
 
 def _refusals(found: Gathered) -> str:
