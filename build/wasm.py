@@ -35,6 +35,7 @@ from prove import NotBuilt, listen, say, take_lock
 
 TOP = Path(__file__).resolve().parent.parent
 HEAP = TOP / "build" / "heap.c"
+EXPORTS = TOP / "packaging" / "exifnorm.map"
 TRIPLE = "wasm64-unknown-unknown"
 LAYOUT = "e-m:e-p:64:64-p10:8:8-p20:8:8-i64:64-i128:128-n32:64-S128-ni:1:10:20"  # clang's own for this triple
 ATTRIBUTES = re.compile(r' "(?:frame-pointer|probe-stack|stack-probe-size|target-cpu)"="[^"]*"')
@@ -56,9 +57,9 @@ def run(*words: str | Path) -> None:
         raise NotBuilt(f"{ran.stderr}exifnorm: {Path(words[0]).name} ended with status {ran.returncode}")
 
 
-def exports(top: Path) -> list[str]:
+def exports() -> list[str]:
     """The functions of exifnorm.h, and those for the host."""
-    return re.findall(r"\bexifnorm_\w+(?=;)", (top / "packaging" / "exifnorm.map").read_text(encoding="utf-8")) + HOST
+    return re.findall(r"\bexifnorm_\w+(?=;)", EXPORTS.read_text(encoding="utf-8")) + HOST
 
 
 def for_wasm(text: str) -> str:
@@ -117,7 +118,7 @@ def build(text: Path, clang: Path, folder: Path) -> None:
     run(clang, *FLAGS, *LIBRARY, text, "-o", library)
     run(clang, *FLAGS, "-std=c99", "-ffreestanding", "-Wall", "-Werror", HEAP, "-o", heap)
     linker.symlink_to(clang)  # clang's file is the linker, too, under this name
-    run(linker, *LINKED, *(f"--export={name}" for name in exports(TOP)), library, heap, "-o", linked)
+    run(linker, *LINKED, *(f"--export={name}" for name in exports()), library, heap, "-o", linked)
     (folder / "exifnorm64.wasm").write_bytes(without_table(linked.read_bytes()))
     run("wasm-opt", *LOWER, folder / "exifnorm64.wasm", "-o", folder / "exifnorm.wasm")
 
@@ -144,7 +145,7 @@ def kept(is_proved: bool = True) -> Path:
     crates = Crates.read(TOP)
     source = proved_source(crates) if is_proved else quick_source(crates)
     clang = Path(Compiler(crates, TOP, sys.stderr).kit) / "toolchain" / "bin" / "clang"
-    key = hashlib.sha256(b"".join(file.read_bytes() for file in (source, Path(__file__), HEAP))).hexdigest()[:16]
+    key = hashlib.sha256(b"".join(file.read_bytes() for file in (source, Path(__file__), HEAP, EXPORTS))).hexdigest()[:16]
     folder = source.parent / f"wasm-{key}"
     with open(source.parent / "wasm-lock", "w", encoding="ascii") as lock:
         take_lock(lock, "another call makes exifnorm.wasm: waiting for it")

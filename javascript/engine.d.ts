@@ -1,6 +1,6 @@
 import type { JpegBlock, JpegPart, Kind, Resource, Unread } from "./exifnorm.js";
 
-export { HeadRefused, LIMIT, NormalTooLong, OutOfMemory, PictureRefused, Refused, TooMany } from "./exifnorm.js";
+export { HeadRefused, LIMIT, NormalTooLong, NotRead, OutOfMemory, PictureRefused, Refused, TooMany } from "./exifnorm.js";
 export type { JpegBlock, JpegPart, Kind, Resource, Unread } from "./exifnorm.js";
 
 /** The calls over one compiled module: those of exifnorm.js. */

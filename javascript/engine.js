@@ -9,9 +9,8 @@
 export const LIMIT = 16_777_216;
 
 // the statuses, kinds and causes of exifnorm.h
-const DONE = 0, REFUSED = 2, TOO_LONG = 3, NO_MEMORY = 4, TOO_LITTLE_ROOM = 5, SECOND_REFUSED = 6;
+const DONE = 0, REFUSED = 2, TOO_LONG = 3, NO_MEMORY = 4, TOO_LITTLE_ROOM = 5, SECOND_REFUSED = 6, NOT_READ = 7, SECOND_NOT_READ = 8;
 const KINDS = ["", "exif", "iim"], PART_KINDS = ["", "exif", "photoshop", "xmp", "extended xmp"], SAME = [false, true];
-const HEAD_CAUSES = { 101: "NoStart", 102: "NoMarker", 103: "LengthForm", 104: "HeadCut", 105: "TooLong" };
 const IPTC = 0x0404; // Photoshop's resource
 
 // sizes of its structs in bytes; a size_t has 8
@@ -46,6 +45,17 @@ export class PictureRefused extends Refused {
     super(cause, place, side, `${cause} at ${place} in ${where}, picture ${side}`);
     this.kind = kind;
     this.index = index;
+  }
+}
+
+/** Two JPEGs have the same Exif and IPTC as far as they are read, and one has a place that isn't read: the first one. */
+export class NotRead extends Error {
+  constructor(side, unread) {
+    const place = `${unread.start}${unread.joined ? " of its joined blocks" : ""}`;
+    super(`the same as far as it was read; picture ${side} has a part at ${place} that was not read`);
+    this.name = new.target.name;
+    this.side = side;
+    this.unread = unread;
   }
 }
 
@@ -172,7 +182,7 @@ export class Engine {
 
   // ---- statuses
 
-  /** The name of the cause of a block's refusal. */
+  /** The name of the cause of a refusal. */
   #causeName(cause) {
     const out = this.#allocate(NAME), written = this.#allocate(8);
     this.#exports.exifnorm_cause_name(cause, BigInt(out), BigInt(NAME), BigInt(written));
@@ -195,7 +205,7 @@ export class Engine {
   #requireHead(status, parts) {
     if (status === REFUSED) {
       const fault = this.#answer + FAULT;
-      throw new HeadRefused(HEAD_CAUSES[this.#uint32(fault)], this.#size(fault + 8), parts);
+      throw new HeadRefused(this.#causeName(this.#uint32(fault)), this.#size(fault + 8), parts);
     }
     this.#require(status);
   }
@@ -331,20 +341,26 @@ export class Engine {
     });
   }
 
+  /** A place that isn't read, from its address. */
+  #unread(address) {
+    return { joined: this.#uint32(address + 4) === 1, start: this.#size(address + 8) };
+  }
+
   jpegUnread(picture) {
     return this.#call((unread, fault) => {
       this.#requireHead(this.#exports.exifnorm_jpeg_unread(...this.#copyIn(picture), unread, fault), []);
-      if (this.#uint32(this.#answer) === 0) return null;
-      return { joined: this.#uint32(this.#answer + 4) === 1, start: this.#size(this.#answer + 8) };
+      return this.#uint32(this.#answer) === 0 ? null : this.#unread(this.#answer);
     });
   }
 
   jpegSame(first, second) {
     return this.#call((same, faultArgument) => {
-      const status = this.#exports.exifnorm_jpeg_same(...this.#copyIn(first), ...this.#copyIn(second), same, faultArgument);
+      const pictures = [...this.#copyIn(first), ...this.#copyIn(second)], place = this.#answer + 8;
+      const status = this.#exports.exifnorm_jpeg_same(...pictures, same, BigInt(place), faultArgument);
+      if (status === NOT_READ || status === SECOND_NOT_READ) throw new NotRead(status === NOT_READ ? 1 : 2, this.#unread(place));
       if (status === REFUSED || status === SECOND_REFUSED) {
-        const fault = this.#answer + FAULT, cause = this.#uint32(fault), kind = KINDS[this.#uint32(fault + 4)];
-        const name = kind ? this.#causeName(cause) : HEAD_CAUSES[cause];
+        const fault = this.#answer + FAULT, kind = KINDS[this.#uint32(fault + 4)];
+        const name = this.#causeName(this.#uint32(fault));
         throw new PictureRefused(name, this.#size(fault + 16), status === REFUSED ? 1 : 2, kind, this.#size(fault + 8));
       }
       this.#require(status);

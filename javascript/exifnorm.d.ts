@@ -62,6 +62,14 @@ export class PictureRefused extends Refused {
   readonly index: number;
 }
 
+/** Two JPEGs have the same Exif and IPTC as far as they are read, and one has a place that isn't read. */
+export class NotRead extends Error {
+  /** The number of the JPEG, 1 or 2; 2 only if all of the first is read. */
+  readonly side: 1 | 2;
+  /** The first such place, as jpegUnread returns it. */
+  readonly unread: Unread;
+}
+
 /** The block has a meaning, but its normal form is longer than LIMIT. The other calls accept such a block. */
 export class NormalTooLong extends Error {}
 
@@ -97,13 +105,14 @@ export function jpegBlocks(picture: Uint8Array, most?: number): JpegBlock[];
 
 /**
  * Whether two JPEGs have the same Exif and IPTC: as many blocks of each kind, which mean the same, pair by pair, in their order. So two
- * JPEGs without metadata are the same. XMP, pixels, and what follows the head are not compared. Throws PictureRefused, OutOfMemory.
+ * JPEGs without metadata are the same. XMP, pixels, and what follows the head are not compared. Throws NotRead if they are the same as far
+ * as they are read, but one has more that other programs may read; and PictureRefused, OutOfMemory.
  */
 export function jpegSame(first: Uint8Array, second: Uint8Array): boolean;
 
 /**
- * The first place in a JPEG that other programs read as Exif or IPTC, or may, and that jpegSame doesn't read; null if there is none, so
- * that jpegSame reads all of it. Throws HeadRefused, OutOfMemory.
+ * The first place in a JPEG that other programs read as Exif or IPTC, or may, and that jpegSame doesn't, or the reverse; null if there is
+ * none, so that jpegSame reads all of it. Throws HeadRefused, OutOfMemory.
  */
 export function jpegUnread(picture: Uint8Array): Unread | null;
 

@@ -15,4 +15,4 @@ export const jpegBlocks = (picture, most) => engine.jpegBlocks(picture, most);
 export const jpegUnread = (picture) => engine.jpegUnread(picture);
 export const jpegSame = (first, second) => engine.jpegSame(first, second);
 export const version = () => engine.version();
-export { HeadRefused, LIMIT, NormalTooLong, OutOfMemory, PictureRefused, Refused, TooMany } from "./engine.js";
+export { HeadRefused, LIMIT, NormalTooLong, NotRead, OutOfMemory, PictureRefused, Refused, TooMany } from "./engine.js";

@@ -3,7 +3,7 @@
  * that the page can end it at any time.
  * @module
  */
-import { HeadRefused, NormalTooLong, PictureRefused, Refused, TooMany, load } from "../javascript/engine.js";
+import { HeadRefused, NormalTooLong, NotRead, PictureRefused, Refused, TooMany, load } from "../javascript/engine.js";
 import { fieldsOf, nameOf, orderOf } from "./listing.js";
 import { sha256 } from "./sha256.js";
 import { guessed, plain } from "./values.js";
@@ -63,11 +63,11 @@ async function read(file) {
     } catch (error) {
       if (error instanceof TooMany) return problem("many");
       if (!(error instanceof HeadRefused)) throw error;
-      if (error.cause === "HeadCut" && size < file.size) {
+      if (error.cause === "JpegCut" && size < file.size) {
         if (size < MOST_READ) continue;
         return problem("long");
       }
-      if (error.cause !== "NoStart") return problem("head", { cause: error.cause, place: error.place });
+      if (error.cause !== "JpegNoStart") return problem("head", { cause: error.cause, place: error.place });
       const start = String.fromCharCode(...bytes.subarray(0, 16));
       return problem(file.size ? "format" : "empty", { format: FORMATS.find(([pattern]) => pattern.test(start))?.[1] ?? "" });
     }
@@ -173,9 +173,10 @@ function verdict(first, second) {
     if (!engine.jpegSame(first.bytes, second.bytes)) return "different";
   } catch (error) {
     if (error instanceof PictureRefused) return "refused";
+    if (error instanceof NotRead) return "partly";
     throw error;
   }
-  return first.unread || second.unread || !haveSameXmp([first, second]) ? "partly" : "same";
+  return haveSameXmp([first, second]) ? "same" : "partly";
 }
 
 /** The same for one picture. */

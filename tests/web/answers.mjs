@@ -19,6 +19,7 @@ async function answer(name, blocks) {
   try {
     value = exifnorm[name](...blocks);
   } catch (error) {
+    if (error instanceof exifnorm.NotRead) return [error.name, error.side, error.unread.joined, error.unread.start];
     return [error.name, error.message];
   }
   if (name === "normalise" || name === "show" || name === "captions") return digest(value);

@@ -23,13 +23,15 @@ test("errors have a cause, a place, and what else belongs to them", () => {
   assert.throws(() => exifnorm.compare(ONE, ONE.subarray(0, 25)), { cause: "DirectoryOutside", place: 8 - 4, side: 2 });
   assert.throws(() => exifnorm.jpegBlocks(bytes("ffd8 fffe0004 4142 ffe1")), (error) => {
     assert.ok(error instanceof exifnorm.HeadRefused && error instanceof exifnorm.Refused);
-    assert.deepEqual([error.cause, error.place, error.parts.map(({ marker }) => marker)], ["HeadCut", 8, [0xfe]]);
+    assert.deepEqual([error.cause, error.place, error.parts.map(({ marker }) => marker)], ["JpegCut", 8, [0xfe]]);
     return true;
   });
   const broken = bytes("ffd8 ffe1000a 457869660000 4d4d ffd9");
   assert.throws(() => exifnorm.jpegSame(bytes("ffd8 ffd9"), broken), {
     name: "PictureRefused", cause: "HeaderCut", place: 2, side: 2, kind: "exif", index: 0,
   });
+  const more = bytes("ffd8 ffe1000a 457869660001 4d4d ffd9");
+  assert.throws(() => exifnorm.jpegSame(bytes("ffd8 ffd9"), more), { name: "NotRead", side: 2, unread: { joined: false, start: 6 } });
   assert.throws(() => exifnorm.jpegParts(bytes("ffd8 ff01 ff01 ffd9"), 2), { name: "TooMany", most: 2 });
   assert.equal(exifnorm.jpegParts(bytes("ffd8 ff01 ff01 ffd9"), 3).length, 3);
   for (const wrong of ["text", null, [1, 2], new Uint16Array(2)]) assert.throws(() => exifnorm.check(wrong), TypeError);

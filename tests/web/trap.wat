@@ -19,6 +19,6 @@
     (if (i32.eq (i32.load8_u (i32.wrap_i64 (local.get $block))) (i32.const 2)) (then (return (i32.const 9))))
     (i32.store (i32.wrap_i64 (local.get $kind)) (i32.const 1))
     (i32.const 0))
-  (func (export "exifnorm_jpeg_same") (param i64) (param i64) (param i64) (param i64) (param $same i64) (param i64) (result i32)
+  (func (export "exifnorm_jpeg_same") (param i64) (param i64) (param i64) (param i64) (param $same i64) (param i64) (param i64) (result i32)
     (i32.store (i32.wrap_i64 (local.get $same)) (i32.const 2))
     (i32.const 0)))
