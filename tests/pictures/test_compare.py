@@ -1,14 +1,22 @@
 """`compare`: two pictures side by side, with the verdict that `changed` has for folders of them."""
 
+import itertools
 import json
 import os
 import struct
+from collections import Counter
 
 import pytest
 from made_blocks import ASCII, BLOCKS, LONG, MAKE, SHORT, UNDEFINED, block, entry, table, with_exif
 from made_files import app1, app1_xmp, app13, chunk, exif, iim, jpeg, png, resource, xmp
 from studio import SMALL_JPEG, TOP, needs, tool
+from test_jpeg_heads import COMPARED
 from test_never_the_same import damages, parts, reached, segments, texts
+
+from exifnorm_pictures.comparison.two_pictures import compare, read
+from exifnorm_pictures.files.session import Session
+from exifnorm_pictures.model.found import EXIF, IPTC
+from exifnorm_pictures.scan.batches import How
 
 RATIONAL = 5
 
@@ -31,6 +39,35 @@ def compared(run, before, after, *words):
 # The same verdict as `changed`
 
 PAIRS = [pair for make in (parts, reached, segments, texts, damages) for pair in make()]
+# What the library's proved comparison says
+
+HEADS = [jpeg(*pieces) for pieces in COMPARED] + [SMALL_JPEG, jpeg(app1(exif(b"abc")), app13(resource(0x0404, iim(b"one")) + b"rest"))]
+
+
+def is_other(result):
+    return result not in (None, "same", "absent")
+
+
+def test_the_proved_comparison_says_the_same(folder):
+    """Of all pairs of JPEGs whose metadata are in their heads, and of the pairs above."""
+    pairs = [*itertools.product(HEADS, repeat=2), *((pair.before, pair.after) for pair in PAIRS)]
+    met = Counter()
+    for before, after in pairs:
+        sides = []
+        for name, octets in (("a.jpg", before), ("b.jpg", after)):
+            (folder / name).write_bytes(octets)
+            sides.append(read(os.fsencode(folder / name), How(1), Session()))
+        found = compare(*sides, False, None)
+        results = [it.result for it in found.found.verdicts if it.kind in (EXIF, IPTC)]
+        met[found.proved] += 1
+        if found.proved == "different":
+            assert any(map(is_other, results)), (before.hex(), after.hex())
+        elif found.proved and before in HEADS and after in HEADS:
+            assert not any(map(is_other, results)), (before.hex(), after.hex())
+            assert (found.proved == "not wholly read") <= any(it.unread for it in sides), "what isn't read is named"
+    assert min(met[it] for it in ("same", "different", "not wholly read", None)) > 5, met
+
+
 REFUSED = [with_exif(SMALL_JPEG, BLOCKS[cause]) for cause in ("Unsorted", "Doubled", "Overlap", "UnknownType")]
 PLAIN = jpeg(app1(exif(b"abc")))
 

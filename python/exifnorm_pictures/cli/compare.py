@@ -213,6 +213,7 @@ def _members(found: Comparison, rows: Sequence[Row], names: Sequence[bytes], cho
         **whole,
         "note": found.found.note or None,
         "kinds": kinds,
+        "proved": found.proved,
         "fields": [_row_members(it) for it in rows],
         "left_out": found.left_out,
         **members_of(choice),

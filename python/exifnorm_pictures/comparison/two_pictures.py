@@ -15,12 +15,13 @@ from ..fields.plain_names import group_name
 from ..fields.plain_values import POSITION, plain, position
 from ..files.session import Session
 from ..judge.sides import Fresh
-from ..model.found import NAMES, PROBLEMS
+from ..model.found import EXIF, IPTC, NAMES, PROBLEMS
 from ..model.records import KINDS, Picture, Stamp
-from ..model.verdicts import ABSENT, SAME
+from ..model.verdicts import ABSENT, DIFFERENT, SAME
 from ..scan.batches import How
 from ..scan.looking import look
 from ..scan.walk import FoundFile
+from . import proved
 from .changed import DAMAGED, OTHER_PICTURE_ALONE, Compared, compared
 from .differing import Difference, exact
 from .pairs import Pair
@@ -50,6 +51,7 @@ class Comparison:
     is_identical: bool
     rows: List[Row] = field(default_factory=list)
     has_only_fields: bool = False  # whether only some fields were compared, and no pictures
+    proved: Optional[str] = None  # of the Exif and IPTC in the heads of two JPEGs: see `proved.answer`
 
     @property
     def result(self) -> str:
@@ -88,11 +90,22 @@ def compare(one: Picture, other: Picture, each: bool, session: Optional[Session]
     each that differs."""
     found = compared_records(one, other, session, choice)
     result = Comparison((one, other), found, is_identical(one.path, other.path), has_only_fields=bool(choice.only))
+    if not choice:
+        result.proved = _proved(found, one, other)
     if not result.is_identical and found.changes:
         result.rows = _rows(found.changes)
     if not result.is_identical and each:
         result.rows += _note_rows(found)
     return result
+
+
+def _proved(found: Compared, one: Picture, other: Picture) -> Optional[str]:
+    """The answer of the library's proved comparison, of which the result must not say otherwise."""
+    answer = proved.answer(one, other)
+    kinds = [it.result for it in found.verdicts if it.kind in (EXIF, IPTC)]
+    if answer == DIFFERENT and kinds and all(it in (SAME, ABSENT) for it in kinds):
+        raise AssertionError("the Exif or the IPTC of the two differ by the proved comparison, and are the same by the tested one")
+    return answer
 
 
 def compared_records(one: Picture, other: Picture, session: Optional[Session], choice: Choice = EVERYTHING) -> Compared:
