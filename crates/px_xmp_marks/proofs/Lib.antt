@@ -1,0 +1,4 @@
+pub mod TagSteps
+pub mod NameLaws
+pub mod AttributeLaws
+pub mod TagLaws

@@ -1,0 +1,107 @@
+// Attributes. XML 1.0, productions 10, 25 and 41.
+ghost use Rattle.std.specs.Prelude.{◌≡◌, ◌≤◌, ◌+◌, length, option_map, IfSome};
+ghost use Rattle.px_xmp_marks.specs.Reading.{eq_len, value_len, quoted_len, att_value, attribute, attribute_view};
+
+use crate::names::{Name, begins_with, read_name, space_len};
+use px_xmp_text::{TextKind, first_fault};
+
+/// An attribute, as it is written.
+#[derive(Clone, Copy, Debug, PartialEq, Eq)]
+pub struct Attribute<'a> {
+    /// Its name.
+    pub name: Name<'a>,
+    /// What is between its quotation marks. It has a text as the value of an attribute.
+    pub value: &'a [u8],
+    /// The length of the whole attribute, with both quotation marks.
+    pub size: usize,
+}
+
+// The length of the equals sign at the start, with the white space around it.
+#[tactic(auto, unfolding(crate::specs::Reading::eq_len))]
+fn eq_len(octets: &[u8]) -> Option<usize>
+    ensures value { result ≡ eq_len octets.now }
+    ensures within { IfSome result (λ n. n ≤ length octets.now) }
+{
+    let before = space_len(octets);
+    let rest = octets.split_at(before).1;
+    if !begins_with(rest, b'=') {
+        return None;
+    }
+    Some(before + 1 + space_len(rest.split_at(1).1))
+}
+
+// The number of octets before the first quotation mark of this kind. None: there is none, or `<` precedes it.
+#[tactic(auto, unfolding(crate::specs::Reading::quoted_len))]
+fn quoted_len(octets: &[u8], quote: u8) -> Option<usize>
+    ensures value { result ≡ quoted_len quote 0 octets.now }
+    ensures within { IfSome result (λ n. n + 1 ≤ length octets.now) }
+{
+    for (n, octet) in octets.iter().enumerate() {
+        if *octet == quote {
+            return Some(n);
+        }
+        if *octet == b'<' {
+            return None;
+        }
+    }
+    None
+}
+
+// The length of the value before the first quotation mark of this kind, if it has a text.
+#[tactic(auto, unfolding(crate::specs::Reading::value_len))]
+fn value_len(octets: &[u8], quote: u8) -> Option<usize>
+    ensures value { result ≡ value_len quote octets.now }
+    ensures within { IfSome result (λ n. n + 1 ≤ length octets.now) }
+{
+    let Some(len) = quoted_len(octets, quote) else {
+        return None;
+    };
+    match first_fault(octets.split_at(len).0, TextKind::AttributeValue) {
+        Some(_) => None,
+        None => Some(len),
+    }
+}
+
+// The quoted value at the start, without its quotation marks.
+#[tactic(auto, unfolding(crate::specs::Reading::att_value))]
+fn att_value<'a>(octets: &'a [u8]) -> Option<&'a [u8]>
+    ensures value { option_map (λ v. v.now) result ≡ att_value octets.now }
+    ensures within { IfSome result (λ v. length v.now + 2 ≤ length octets.now) }
+{
+    if octets.is_empty() {
+        return None;
+    }
+    let quote = octets[0];
+    if quote != b'"' && quote != b'\'' {
+        return None;
+    }
+    let rest = octets.split_at(1).1;
+    let Some(len) = value_len(rest, quote) else {
+        return None;
+    };
+    Some(rest.split_at(len).0)
+}
+
+/// The attribute at the start of some octets. None if they begin with no attribute whose name is of ASCII. It allocates
+/// nothing. XML 1.0, production 41.
+#[tactic(auto, unfolding(crate::specs::Reading::attribute))]
+pub fn read_attribute<'a>(octets: &'a [u8]) -> Option<Attribute<'a>>
+    ensures value { option_map attribute_view result ≡ attribute octets.now }
+    ensures within { IfSome result (λ a. (1 ≤ a.size) × (a.size ≤ length octets.now)) }
+{
+    let Some(name) = read_name(octets) else {
+        return None;
+    };
+    let rest = octets.split_at(name.size).1;
+    let Some(eq) = eq_len(rest) else {
+        return None;
+    };
+    let Some(value) = att_value(rest.split_at(eq).1) else {
+        return None;
+    };
+    Some(Attribute {
+        name,
+        value,
+        size: name.size + eq + (value.len() + 2),
+    })
+}

@@ -1,0 +1,39 @@
+//! The laws of attributes and tags: what is read is exactly what the grammar has. Each is the contract of a function
+//! that does nothing.
+ghost use Rattle.px_xmp_marks.specs.Laws.{AttributesAreRead, OnlyAttributesAreRead, StartTagsAreRead, OnlyStartTagsAreRead};
+ghost use Rattle.px_xmp_marks.specs.Laws.{EndTagsAreRead, OnlyEndTagsAreRead, AttributesInOrder};
+
+/// Each attribute of the grammar is read, whatever follows it.
+pub fn attributes_are_read()
+    ensures { AttributesAreRead }
+{}
+
+/// What is read as an attribute is one of the grammar.
+pub fn only_attributes_are_read()
+    ensures { OnlyAttributesAreRead }
+{}
+
+/// The attributes of a tag are read one after another, until there are none.
+pub fn attributes_in_order()
+    ensures { AttributesInOrder }
+{}
+
+/// Each start tag of the grammar is read, with its name and its attributes, whatever follows it.
+pub fn start_tags_are_read()
+    ensures { StartTagsAreRead }
+{}
+
+/// What is read as a start tag is one of the grammar.
+pub fn only_start_tags_are_read()
+    ensures { OnlyStartTagsAreRead }
+{}
+
+/// Each end tag of the grammar is read, whatever follows it.
+pub fn end_tags_are_read()
+    ensures { EndTagsAreRead }
+{}
+
+/// What is read as an end tag is one of the grammar.
+pub fn only_end_tags_are_read()
+    ensures { OnlyEndTagsAreRead }
+{}

@@ -1,0 +1,113 @@
+// White space and names. XML 1.0, 2.3; Namespaces in XML 1.0, 3 and 4.
+ghost use Rattle.std.specs.Prelude.{◌≡◌, ◌≤◌, ◌+◌, length, option_map, IfSome};
+ghost use Rattle.px_xmp_marks.specs.Reading.{is_space, is_name_start, is_name_char, space_len, name_len, ncname, begins_with};
+ghost use Rattle.px_xmp_marks.specs.Reading.{name, name_view};
+
+/// A name, as it is written.
+#[derive(Clone, Copy, Debug, PartialEq, Eq)]
+pub struct Name<'a> {
+    /// What precedes the colon. It is empty if there is no colon.
+    pub prefix: &'a [u8],
+    /// What follows the colon, or the whole name.
+    pub local: &'a [u8],
+    /// The length of the whole name.
+    pub size: usize,
+}
+
+// Whether an octet is white space.
+pub(crate) fn is_space(octet: u8) -> bool
+    ensures { result ≡ is_space octet }
+{
+    octet == b' ' || octet == b'\t' || octet == b'\n' || octet == b'\r'
+}
+
+// Whether a name can begin with an octet.
+fn is_name_start(octet: u8) -> bool
+    ensures { result ≡ is_name_start octet }
+{
+    (b'a' <= octet && octet <= b'z') || (b'A' <= octet && octet <= b'Z') || octet == b'_'
+}
+
+// Whether a name can contain an octet.
+fn is_name_char(octet: u8) -> bool
+    ensures { result ≡ is_name_char octet }
+{
+    is_name_start(octet) || (b'0' <= octet && octet <= b'9') || octet == b'-' || octet == b'.'
+}
+
+// The number of octets of white space at the start.
+pub(crate) fn space_len(octets: &[u8]) -> usize
+    ensures value { result ≡ space_len octets.now }
+    ensures within { result ≤ length octets.now }
+{
+    for (n, octet) in octets.iter().enumerate() {
+        if !is_space(*octet) {
+            return n;
+        }
+    }
+    octets.len()
+}
+
+// The number of octets at the start that a name can contain.
+fn name_len(octets: &[u8]) -> usize
+    ensures value { result ≡ name_len octets.now }
+    ensures within { result ≤ length octets.now }
+{
+    for (n, octet) in octets.iter().enumerate() {
+        if !is_name_char(*octet) {
+            return n;
+        }
+    }
+    octets.len()
+}
+
+// The length of the name without a colon at the start.
+#[tactic(auto, unfolding(crate::specs::Reading::ncname))]
+fn ncname_len(octets: &[u8]) -> Option<usize>
+    ensures value { result ≡ ncname octets.now }
+    ensures within { IfSome result (λ n. n ≤ length octets.now) }
+{
+    if octets.is_empty() {
+        return None;
+    }
+    if !is_name_start(octets[0]) {
+        return None;
+    }
+    Some(name_len(octets))
+}
+
+// Whether octets begin with a certain one.
+pub(crate) fn begins_with(octets: &[u8], octet: u8) -> bool
+    ensures { result ≡ begins_with octet octets.now }
+{
+    !octets.is_empty() && octets[0] == octet
+}
+
+/// The name at the start of some octets. None if they begin with no name, or a colon is followed by none. It
+/// allocates nothing. Namespaces in XML 1.0, productions 7 to 11.
+#[tactic(auto, unfolding(crate::specs::Reading::name))]
+pub fn read_name<'a>(octets: &'a [u8]) -> Option<Name<'a>>
+    ensures value { option_map name_view result ≡ name octets.now }
+    ensures within { IfSome result (λ n. n.size ≤ length octets.now) }
+{
+    let Some(len) = ncname_len(octets) else {
+        return None;
+    };
+    let (first, rest) = octets.split_at(len);
+    if !begins_with(rest, b':') {
+        return Some(Name {
+            prefix: rest.split_at(0).0,
+            local: first,
+            size: len,
+        });
+    }
+    let after = rest.split_at(1).1;
+    let Some(more) = ncname_len(after) else {
+        return None;
+    };
+    Some(Name {
+        prefix: first,
+        local: after.split_at(more).0,
+        size: len + 1 + more,
+    })
+}
