@@ -30,7 +30,7 @@ class Many(WithPictures):
         said = self.asked("index", folder, "--catalogue", "c")[0]
         self.assertEqual(
             said,
-            f"{max(kept, 2000 - kept)} "
+            f"{max(kept, 2000 - kept):,} "
             + ("unchanged" if kept > 1000 else "accepted")
             + f", {min(kept, 2000 - kept)} "
             + ("accepted" if kept > 1000 else "unchanged"),

@@ -79,7 +79,7 @@ class Written(WithPictures):
         """It has the mode and times of the picture, and no file beside it stays."""
         for (nameless, links), (steps, _) in self.systems():
             with self.system(nameless, links) as found:
-                atomic.copy_new(self.source, self.out, os.stat(self.source))
+                atomic.copy_new(self.source, self.out, self.source)
             now = os.stat(self.out)
             self.assertEqual(
                 (found, read(self.out), stat.S_IMODE(now.st_mode), now.st_mtime, self.files()), (steps, NEW, 0o640, 30, ["out", "source"])
@@ -92,7 +92,7 @@ class Written(WithPictures):
                 made()
                 before = self.out_now()
                 with self.system(nameless, links), self.assertRaises(FileExistsError):
-                    atomic.copy_new(self.source, self.out, os.stat(self.source))
+                    atomic.copy_new(self.source, self.out, self.source)
                 self.assertEqual((self.out_now(), self.files()), (before, ["out", "source"]))
                 os.remove(self.out)
 

@@ -124,6 +124,16 @@ def _identity(name: str) -> Optional[Tuple[int, int]]:
     return status.st_dev, status.st_ino
 
 
+def _head_of(name: str) -> Tuple[bytes, int]:
+    """The first 100 bytes of a file, and its length. Raises `OSError` with its name."""
+    try:
+        with files.reading(name) as file:
+            return file.read(100), os.fstat(file.fileno()).st_size
+    except OSError as error:
+        error.filename = name  # a read that fails has none, and would be taken for one of standard output
+        raise
+
+
 def _check_head(name: str, make: bool) -> None:
     """Raises `NoCatalogue` if the header isn't a catalogue's. It reads only the header and writes nothing, not even a journal."""
     if not name:
@@ -137,12 +147,7 @@ def _check_head(name: str, make: bool) -> None:
     if not stat.S_ISREG(kind):
         raise NoCatalogue(f"{name} is no catalogue: it is no regular file")
     log = _mark(f"{name}-wal")
-    try:
-        with files.reading(name) as file:
-            head = file.read(100)
-    except OSError as error:
-        error.filename = name  # a read that fails has none, and would be taken for one of standard output
-        raise
+    head, _ = _head_of(name)
     if not head and make:
         return
     if not head_is_ours(head):
@@ -300,11 +305,10 @@ class Catalogue:
         now = _identity(self.name)
         if now is None or now != self._file:
             raise NoCatalogue(f"{self.name} was {'replaced' if now else 'removed'} while it was written, so this run is not in it")
-        with files.reading(self.name) as file:
-            head = file.read(100)
-            pages, size = int.from_bytes(head[28:32], "big"), int.from_bytes(head[16:18], "big")
-            if not head_is_ours(head) or os.fstat(file.fileno()).st_size < pages * (size if size > 1 else 65536):
-                raise NoCatalogue(f"{self.name} was cut while it was written, and is damaged")
+        head, length = _head_of(self.name)
+        pages, size = int.from_bytes(head[28:32], "big"), int.from_bytes(head[16:18], "big")
+        if not head_is_ours(head) or length < pages * (size if size > 1 else 65536):
+            raise NoCatalogue(f"{self.name} was cut while it was written, and is damaged")
 
     def close(self) -> None:
         """Closes the catalogue. All committed data are then in its one file, which can be read in a read-only folder."""

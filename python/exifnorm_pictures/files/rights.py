@@ -75,7 +75,8 @@ def limit(file: int, sources: Iterable[Union[bytes, str]]) -> None:
     now = os.fstat(file)
     mode = now.st_mode & 0o777
     for name in sources:
-        mode &= _OWNER | _for_group(rights_of(name), now.st_gid)
+        with contextlib.suppress(FileNotFoundError):  # it was removed meanwhile
+            mode &= _OWNER | _for_group(rights_of(name), now.st_gid)
     os.fchmod(file, mode)
 
 
