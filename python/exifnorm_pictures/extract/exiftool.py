@@ -20,7 +20,7 @@ from typing import Dict, List, Optional, Sequence, cast
 from ..files.session import Session
 from ..model.budgets import OUTPUT, WHOLE_FILE, budget_of
 from ..model.found import EXIF, EXIFTOOL, EXIV2, IPTC, PROBLEMS, UNREAD_TRAILER, XMP, Blocks, NotRead
-from . import programs
+from . import programs, raw_files
 from .formats.streams import Stream, digest_of, size_of
 from .programs import Failed
 
@@ -29,7 +29,7 @@ _TAGS = {"EXIF": EXIF, "IPTC": IPTC, "XMP": XMP}
 _SEVERAL = ("CR3", "CRX", "CRM")  # Canon's, by ExifTool's names
 
 # Files in the structure of TIFF, of which ExifTool hands over no Exif block.
-_TIFF_TYPES = frozenset("TIFF DNG NEF NRW CR2 ARW ARQ SR2 SRF SRW ORF PEF RW2 RWL 3FR IIQ ERF MEF MOS DCR KDC K25 GPR FFF RAW".split())
+_TIFF_TYPES = frozenset(["TIFF", *(ending.upper() for ending in (*raw_files.READ, *raw_files.LEFT))])
 
 # Bytes come in base64 after the word base64:, texts as they are. The filter marks a text that begins with that word by
 # itself, so that a picture can't make a text look like other bytes. -m: continue after minor errors.

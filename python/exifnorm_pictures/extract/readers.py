@@ -9,6 +9,7 @@ import re
 from typing import Callable, NamedTuple, Optional, Tuple
 
 from ..model.found import Blocks
+from . import raw_files
 from .formats import bigtiff, cr3, gif, heif, jp2, jpeg, jxl, png, psd, raf, tiff, webp, xmp_file
 from .formats.streams import Stream
 
@@ -17,7 +18,7 @@ HEAD = 16  # bytes of a file that show its format
 Read = Callable[[Stream, bool], Blocks]  # raises `Broken` and `LeftToOthers`; the second argument is --whole
 
 # Raw pictures in the structure of TIFF whose private entries aren't known here, by their names, and those that are
-_LEFT_NAME = re.compile(rb"\.(nrw|arq|sr2|srf|rwl|3fr|iiq|erf|mef|mos|dcr|kdc|k25|gpr|fff|raw)\Z", re.I)
+_LEFT_NAME = re.compile(rf"\.(?:{'|'.join(raw_files.LEFT)})\Z".encode(), re.I)
 _RAW_NAME = re.compile(rb"\.(nef|arw|srw|pef)\Z", re.I)
 
 

@@ -17,14 +17,13 @@ from ..files import opening
 from ..model.budgets import LIMITS, PACKET_BYTES, XMP_BYTES
 from ..model.found import XMP, Blocks, FoundBlock, NotRead, ordinal
 from ..model.records import RACY, Stamp
+from . import raw_files
 
 NAME = "XMP sidecar"
 MOST = 100  # sidecars of a picture that are read; real ones have one for each of their versions
-_RAW = b"dng nef nrw cr2 cr3 crw arw arq sr2 srf srw orf pef rw2 rwl raf 3fr iiq erf mef mos mrw dcr kdc k25 gpr fff raw x3f".split()
-_RAW_NAME = re.compile(rb"\.(?:%s)\Z" % b"|".join(_RAW))
-_PICTURE_NAME = re.compile(
-    rb"\.(?:%s|jpe?g|jpe|jfif|tiff?|png|webp|heic|heif|hif|avif|psd|psb|jxl|jp2|j2k|jpf|jpx|gif|bmp)\Z" % b"|".join(_RAW)
-)
+_RAW = "|".join(raw_files.ALL).encode()
+_RAW_NAME = re.compile(rb"\.(?:%s)\Z" % _RAW)
+_PICTURE_NAME = re.compile(rb"\.(?:%s|jpe?g|jpe|jfif|tiff?|png|webp|heic|heif|hif|avif|psd|psb|jxl|jp2|j2k|jpf|jpx|gif|bmp)\Z" % _RAW)
 _VERSION = re.compile(rb"(.*)_(\d\d)(\.[^.]+)\Z", re.S)
 
 
