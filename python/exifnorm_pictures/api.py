@@ -22,7 +22,8 @@ from .files.session import Session
 from .judge.judge import judge_all
 from .judge.reading import Reading
 from .model.budgets import Budget, TooMuch
-from .model.found import NAMES, PROBLEMS, Blocks
+from .model.found import NAMES, Blocks
+from .model.problems import Problem
 from .model.records import WORDS, Block as Judged, Picture as Record, Stamp, is_marked_as
 from .model.texts import described
 from .model.verdicts import ACCEPTED, SAME
@@ -63,7 +64,7 @@ class NotReadable(Exception):
 
     def __init__(self, problem: str, detail: str, name: str) -> None:
         super().__init__(problem, detail, name)
-        self.problem = problem
+        self.problem = str(problem)
         self.detail = detail
         self.name = name
 
@@ -519,17 +520,17 @@ def _picture(
     except (OSError, MemoryError, NoPicture, NotReadable):
         raise
     except TooMuch as why:
-        raise NotReadable("TooMuch", str(why), name) from None
+        raise NotReadable(Problem.TOO_MUCH, str(why), name) from None
     except programs.Missing as why:
-        raise NotReadable("NeedsExifTool", str(why), name) from None
+        raise NotReadable(Problem.NEEDS_EXIFTOOL, str(why), name) from None
     except programs.Failed as why:
-        raise NotReadable("TooSlow" if isinstance(why, programs.TooSlow) else "ToolFailed", str(why), name) from None
+        raise NotReadable(Problem.TOO_SLOW if isinstance(why, programs.TooSlow) else Problem.TOOL_FAILED, str(why), name) from None
     except Exception as error:  # a mistake of a reader affects only this picture
-        raise NotReadable("InternalError", f"{PROBLEMS['InternalError']}: {described(error)}", name) from error
+        raise NotReadable(Problem.INTERNAL_ERROR, f"{Problem.INTERNAL_ERROR.text}: {described(error)}", name) from error
 
 
 def _error(blocks: Blocks, name: str) -> Exception:
-    if blocks.problem == "NoPicture":
+    if blocks.problem == Problem.NO_PICTURE:
         return NoPicture(f"{name}: {blocks.detail}")
     return NotReadable(blocks.problem or "", blocks.detail, name)
 

@@ -14,6 +14,7 @@ from exifnorm import LibraryMissing
 
 from .api import NoPicture, NotReadable, PathLike, Picture, _read
 from .files.session import Session
+from .model.problems import Problem
 
 CHUNK = 8  # pictures that a process gets at once
 AHEAD = 4  # such chunks of each process that are given out before the first result is taken
@@ -48,7 +49,7 @@ def _result(path: PathLike, session: Session) -> Result:
     except (OSError, NoPicture, NotReadable) as error:
         return error
     except MemoryError:
-        return NotReadable("ToolFailed", "out of memory", os.fsdecode(path))
+        return NotReadable(Problem.TOOL_FAILED, "out of memory", os.fsdecode(path))
 
 
 def _results(paths: Sequence[PathLike]) -> List[Result]:
@@ -105,7 +106,7 @@ def _alone(path: PathLike) -> Result:
     """The result of a path in a process of its own, where one has died."""
     with _pool(1) as pool:
         results = _Task([path], pool).results()
-    return results[0] if results else NotReadable("ToolFailed", "the process that read it died twice", os.fsdecode(path))
+    return results[0] if results else NotReadable(Problem.TOOL_FAILED, "the process that read it died twice", os.fsdecode(path))
 
 
 def _pool(count: int) -> ProcessPoolExecutor:

@@ -14,7 +14,7 @@ from in_process import InFolder
 from made_blocks import BLOCKS, LONG, MAKE, MODEL, block, with_exif
 from studio import SMALL_JPEG, Studio, WithPictures, needs, read, run, tool, write
 
-from exifnorm_pictures.model.found import PROBLEMS
+from exifnorm_pictures.model.problems import TEXTS
 from exifnorm_pictures.scan import index
 
 ONE, OTHER, THIRD = (with_exif(SMALL_JPEG, block([MAKE[:-4] + it])) for it in (b"One\0", b"Two\0", b"Ten\0"))
@@ -412,7 +412,7 @@ class Rights(WithPictures):
             said,
             {
                 "b.jpg": ("Unreadable", "permission denied"),
-                "d.jpg": ("Vanished", PROBLEMS["Vanished"]),
+                "d.jpg": ("Vanished", TEXTS["Vanished"]),
                 "closed": ("Unreadable", "permission denied; its 1 pictures stay as they were"),
             },
         )

@@ -20,7 +20,8 @@ from exifnorm_pictures.cli import index, main, names, objects, output, parser, r
 from exifnorm_pictures.extract import exiftool, extraction, programs
 from exifnorm_pictures.files import atomic, opening, session, signals
 from exifnorm_pictures.model import records
-from exifnorm_pictures.model.found import PROBLEMS, NotRead
+from exifnorm_pictures.model.found import NotRead
+from exifnorm_pictures.model.problems import TEXTS
 from exifnorm_pictures.model.records import Block, Damaged, Picture, Stamp
 from exifnorm_pictures.scan import looking, progress, walk, workers
 from exifnorm_pictures.scan.batches import How
@@ -390,7 +391,7 @@ class Messages(WithPictures):
             self.raised(OSError, opening.opened, os.fsencode(self.folder)),
             f"[Errno 22] it is no regular file: {os.fsencode(self.folder)!r}",
         )
-        for name, problem, detail in ((self.folder, "NotAFile", PROBLEMS["NotAFile"]), (self.path("a"), "NoFile", PROBLEMS["NoFile"])):
+        for name, problem, detail in ((self.folder, "NotAFile", TEXTS["NotAFile"]), (self.path("a"), "NoFile", TEXTS["NoFile"])):
             it = extraction.blocks_of(os.fsencode(name))
             self.assertEqual((it.problem, it.detail, it.found, it.not_read), (problem, detail, [], []))
 

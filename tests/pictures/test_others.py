@@ -12,7 +12,8 @@ from studio import WithPictures, write
 from exifnorm_pictures.extract import exiftool, programs, readers
 from exifnorm_pictures.extract.formats import bigtiff, tiff
 from exifnorm_pictures.files.session import Session
-from exifnorm_pictures.model.found import PROBLEMS, Blocks, NotRead
+from exifnorm_pictures.model.found import Blocks, NotRead
+from exifnorm_pictures.model.problems import TEXTS
 
 ASKED = ("-EXIF:Exif", "-IPTC:IPTC", "-XMP:XMP", "-FileType#", "-MIMEType#", "-Error#")
 # Files in the structure of TIFF, by ExifTool's list of file types
@@ -42,7 +43,7 @@ class Answers(unittest.TestCase):
         self.assertEqual((found.type, found.extractor, found.problem, found.not_read), ("PSD", "exiftool", None, []))
 
     def test_without_blocks(self):
-        several = PROBLEMS["SeveralBlocks"]
+        several = TEXTS["SeveralBlocks"]
         for answer, expected in (
             ({"FileType": "GIF", "MIMEType": "image/gif"}, ("GIF", None, "")),
             ({"FileType": "TXT", "MIMEType": "text/plain"}, ("TXT", "NoPicture", "TXT (text/plain)")),
@@ -141,7 +142,7 @@ class Files(WithPictures):
             found = self.read([answer], run=lambda words, _, folder: write(os.path.join(folder, "picture.exv"), octets))
             self.assertEqual((found.problem, found.detail, found.found), failed, octets)
         found = self.read([answer], has_exiv2=False)
-        self.assertEqual((found.problem, found.detail, found.found), ("NeedsExiv2", PROBLEMS["NeedsExiv2"], []))
+        self.assertEqual((found.problem, found.detail, found.found), ("NeedsExiv2", TEXTS["NeedsExiv2"], []))
 
     def test_trailers(self):
         """What ExifTool finds and the file's reader didn't; an Exif block of a trailer is none of the picture."""

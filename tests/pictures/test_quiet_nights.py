@@ -22,10 +22,10 @@ def archive(folder, monkeypatch):
     put(folder / "p", {f"failing{it}.jpg": PICTURE + bytes([it]) for it in range(5)})
     read = looking._read
 
-    def fails(it, how, packs):
+    def fails(it, how, *more):
         if b"failing" in it.path:
             raise programs.Failed("exiv2 ended with status 1")
-        blocks, judged = read(it, how, packs)
+        blocks, judged = read(it, how, *more)
         if it.path.endswith(b"d.jpg"):
             blocks.not_read[:] = [part._replace(digest="") for part in blocks.not_read]  # as a track of a CR3
         return blocks, judged

@@ -22,6 +22,7 @@ from exifnorm_pictures.comparison.differing import bare
 from exifnorm_pictures.fields import normal_form
 from exifnorm_pictures.fields.listing import Field, numbers_text
 from exifnorm_pictures.fields.packing import packed
+from exifnorm_pictures.files.session import Session
 from exifnorm_pictures.model.found import EXIF, IPTC, NAMES, XMP, NotRead
 from exifnorm_pictures.model.records import PICTURES, Block, Picture, Stamp
 from exifnorm_pictures.report import contents
@@ -610,9 +611,9 @@ class Marks(WithPictures):
         with open(path, "wb") as file:
             file.write(b"\xff\xd8\xff\xd9")
         now = Stamp.of(os.stat(path))
-        self.assertEqual(look(FoundFile(path, b"/", now), How()).stamp[:2], now[:2])
+        self.assertEqual(look(FoundFile(path, b"/", now), How(), Session()).stamp[:2], now[:2])
         for name in Stamp._fields:
-            it = look(FoundFile(path, b"/", now._replace(**{name: 9})), How())
+            it = look(FoundFile(path, b"/", now._replace(**{name: 9})), How(), Session())
             self.assertEqual((it.stamp, it.problem), (None, None), name)
 
     def test_a_file_that_is_gone_after_it_was_read(self):
@@ -651,7 +652,7 @@ class Remedies(WithPictures):
         from exifnorm_pictures.refusals import mend
 
         def remedy(step):
-            def write(name):
+            def write(_, name):
                 tried.append(step)
                 with open(name, "w") as file:
                     file.write("\n".join(made[step] or ()))
@@ -659,7 +660,7 @@ class Remedies(WithPictures):
 
             return write
 
-        def printed(name):
+        def printed(_, name):
             with open(name) as file:
                 return Counter(file.read().split("\n"))
 
@@ -667,8 +668,8 @@ class Remedies(WithPictures):
         with open(self.path("picture.jpg"), "w") as file:
             file.write("a\nb\nc")
         blocks = mock.patch.multiple(mend, _printed=printed, _refusals=lambda _: {}, _REMEDIES={it: remedy(it) for it in mend.STEPS[1:]})
-        with blocks, mock.patch.object(mend, "blocks_of", lambda _: mend.Blocks()), tempfile.TemporaryDirectory() as room:
-            found = mend._best(os.fsencode(self.path("picture.jpg")), None, room)
+        with blocks, mock.patch.object(mend, "blocks_of", lambda _, **__: mend.Blocks()), tempfile.TemporaryDirectory() as room:
+            found = mend._best(None, os.fsencode(self.path("picture.jpg")), None, room)
         return found and (found[0], found[2], found[3]), tried
 
     def test_the_one_that_loses_least(self):

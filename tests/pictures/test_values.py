@@ -21,7 +21,8 @@ from exifnorm_pictures.extract.formats import jpeg as jpeg_
 from exifnorm_pictures.files import signals
 from exifnorm_pictures.judge import judge
 from exifnorm_pictures.model import found as found_
-from exifnorm_pictures.model.found import EXIF, PROBLEMS, NotRead
+from exifnorm_pictures.model.found import EXIF, NotRead
+from exifnorm_pictures.model.problems import TEXTS
 from exifnorm_pictures.model.records import Block, Damaged, Picture, Stamp, block_of_row
 from exifnorm_pictures.scan import batches, index
 
@@ -215,7 +216,7 @@ class LookedAtAgain(unittest.TestCase):
         others = {"Vanished", "Moved", "LinkToNothing", "NotAFile", "Unreadable", "ToolFailed", "TooSlow", "InternalError"}
         for there, expected in (((), others), (("exiftool",), others | {"NeedsExifTool"}), (("exiv2",), others | {"NeedsExiv2"})):
             with mock.patch.object(index.programs, "is_there", there.__contains__):
-                found = {it for it in (None, *PROBLEMS, "Moved", "NeedsExifTool") if index._worth_another(it)}
+                found = {it for it in (None, *TEXTS) if index._worth_another(it)}
             self.assertEqual(found, expected, there)
 
 

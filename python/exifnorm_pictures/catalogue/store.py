@@ -21,6 +21,7 @@ from ..model.budgets import ROW_BYTES, STEPS
 from ..model.columns import Damaged
 from ..model.errors import Failure
 from ..model.found import NotRead
+from ..model.problems import NO_BYTES
 from ..model.records import BLOCKS, PICTURES, Block, Picture, Stamp, block_of_row, has, not_read_of_row, picture_of_row
 
 APPLICATION = 0x45584E50  # 'EXNP', which distinguishes a catalogue from other SQLite files
@@ -77,7 +78,6 @@ _ROWS = (
     "CREATE TABLE not_read (picture, number, what, digest)",
     "CREATE TABLE maker_notes (picture, readings)",
 )
-KEPT_BEFORE = ("Vanished", "LinkToNothing", "NotAFile", "Unreadable")  # what was known of a picture stays, if it can't be read now
 
 # when it began and ended, the library's version, ExifTool's, exiv2's
 Run = Tuple[str, Optional[str], Optional[str], Optional[str], Optional[str]]
@@ -392,7 +392,7 @@ class Catalogue:
 
     def _is_kept(self, run: int, it: Picture) -> bool:
         """Whether a picture that can't be read now was known before. Its earlier results are kept."""
-        if it.problem in KEPT_BEFORE:
+        if it.problem in NO_BYTES:
             words = (it.problem, it.detail, run, it.path)
             return self.base.execute("UPDATE pictures SET problem = ?, detail = ?, run = ? WHERE path = ?", words).rowcount > 0
         return False

@@ -16,6 +16,7 @@ from ..fields.choosing import Choice
 from ..fields.left_out import lines, members_of
 from ..fields.typed import together
 from ..model import verdicts
+from ..model.problems import NO_BYTES
 from ..model.records import WORDS, Picture
 from ..model.texts import Members, escaped, shown_path
 from ..scan.batches import How
@@ -62,7 +63,7 @@ def _choice(arguments: argparse.Namespace, *records: Picture) -> Choice:
 def _status(found: Comparison) -> int:
     if found.is_identical or found.is_empty:
         return SUCCESS
-    if any(it.problem in ("NoFile", "Unreadable", "LinkToNothing", "NotAFile") for it in found.records):
+    if any(it.problem in NO_BYTES for it in found.records):
         return UNKNOWN
     return status_of(Counter([found.result]))
 

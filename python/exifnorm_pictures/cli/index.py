@@ -12,7 +12,7 @@ from typing import Iterator, List, Sequence
 from ..catalogue.store import Catalogue, NoCatalogue, head_is_ours
 from ..files import atomic, signals
 from ..model.errors import WrongUse
-from ..model.found import STATE_WORDS
+from ..model.problems import COUNTED, NOT_READABLE
 from ..model.records import AS_BEFORE
 from ..model.texts import escaped, moved_line, shown_path
 from ..scan.excluded import Excluded
@@ -22,9 +22,6 @@ from .exit_codes import SUCCESS, UNKNOWN
 from .looking import how_of
 from .names import named
 from .output import kind_of_part, print_line, record_lines
-
-# Pictures that should be readable and aren't
-NOT_READABLE = ("Unreadable", "ToolFailed", "InternalError", "TooMuch", "TooSlow", "NeedsExifTool", "NeedsExiv2")
 
 
 class NoSidecars(WrongUse):
@@ -99,7 +96,7 @@ def _are_known(names: Sequence[bytes], catalogue: str) -> bool:
 
 def _counted(counts: "Counter[str]") -> str:
     """The states in words, those of the most pictures first."""
-    words = {it: STATE_WORDS.get(it.removesuffix(AS_BEFORE), it.removesuffix(AS_BEFORE)) for it in counts}
+    words = {it: COUNTED.get(it.removesuffix(AS_BEFORE), it.removesuffix(AS_BEFORE)) for it in counts}
     ordered = sorted(counts, key=lambda it: (-counts[it], words[it], it))
     return ", ".join(f"{counts[it]:,} {words[it]}{AS_BEFORE * it.endswith(AS_BEFORE)}" for it in ordered) or "no file"
 

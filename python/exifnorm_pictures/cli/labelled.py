@@ -15,7 +15,7 @@ from ..files import opening
 from ..judge.reading import Reading
 from ..model import steps
 from ..model.found import Blocks, NotRead
-from ..model.records import NOT_THERE
+from ..model.problems import NOT_THERE, Problem
 from ..model.texts import Members
 from ..model.verdicts import ACCEPTED, REACHED
 from ..scan.walk import Unlisted, below
@@ -49,7 +49,7 @@ def _in_catalogue(name: bytes) -> Iterator[Reading]:
     """The pictures of a catalogue as they were when it looked at them. Their files aren't needed."""
     with Catalogue(os.fsdecode(name)) as catalogue:
         for it in catalogue.pictures():
-            if it.problem in ("NoPicture", *NOT_THERE):
+            if it.problem in (Problem.NO_PICTURE, *NOT_THERE):
                 continue
             with catalogue.guarded():
                 blocks = [(block, fields_of(block)) for block in catalogue.blocks_of(it)]
@@ -66,9 +66,9 @@ def _in_folder(arguments: argparse.Namespace, folder: bytes) -> Iterator[Reading
     top = os.path.abspath(folder)
     for file in below([folder], closed.append):
         it = _reading(arguments, os.path.join(folder, os.path.relpath(file.path, top)))
-        if it.problem not in ("NoPicture", "NotAFile"):
+        if it.problem not in (Problem.NO_PICTURE, Problem.NOT_A_FILE):
             yield it
-    yield from (Reading(it.path, Blocks(problem="Unreadable", detail=it.reason), []) for it in closed)
+    yield from (Reading(it.path, Blocks(problem=Problem.UNREADABLE, detail=it.reason), []) for it in closed)
 
 
 def _reading(arguments: argparse.Namespace, name: bytes) -> Reading:

@@ -12,6 +12,7 @@ from ..extract import programs
 from ..files import atomic
 from ..model import steps
 from ..model.budgets import TooMuch
+from ..model.problems import Problem
 from ..model.texts import Members, path_members, shown_path
 from ..refusals import mend
 from .exit_codes import DIFFERENCE, FAILURE, SUCCESS, UNKNOWN
@@ -53,9 +54,9 @@ def _mend_one(arguments: argparse.Namespace, picture: bytes, out: bytes) -> Tupl
     try:
         mended = mend.mend(picture, out, arguments.session, bool(arguments.files_from or arguments.catalogue), arguments.lossless)
     except (mend.NotWritten, programs.Failed, programs.Missing, TooMuch) as error:
-        names: Dict[Type[Exception], str] = {mend.NotWritten: "NotWritten", TooMuch: "TooMuch", programs.TooSlow: "TooSlow"}
-        names.update({programs.Missing: "NeedsExifTool", mend.NeedsExifTool: "NeedsExifTool"})
-        problem = names.get(type(error), "ToolFailed")
+        names: Dict[Type[Exception], str] = {mend.NotWritten: "NotWritten", TooMuch: Problem.TOO_MUCH, programs.TooSlow: Problem.TOO_SLOW}
+        names.update({programs.Missing: Problem.NEEDS_EXIFTOOL, mend.NeedsExifTool: Problem.NEEDS_EXIFTOOL})
+        problem = names.get(type(error), Problem.TOOL_FAILED)
         line = f"{shown_path(picture)}: {atomic.not_written(shown_path(out), error)}"
         output(arguments, [line], {**path_members(picture), "problem": problem, "detail": str(error)})
         return FAILURE if isinstance(error, mend.NotWritten) else UNKNOWN, "not mended"

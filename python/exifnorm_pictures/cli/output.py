@@ -9,6 +9,7 @@ import sys
 from typing import TYPE_CHECKING, List, Sequence
 
 from ..model.found import damage
+from ..model.problems import Problem
 from ..model.records import WORDS, Block, Picture
 from ..model.steps import loses, words
 from ..model.texts import Members, safe, shown_path
@@ -48,11 +49,11 @@ def record_lines(it: Picture) -> List[str]:
         return []
     name = shown_path(it.path)
     lines = []
-    if it.problem and it.problem != "NoPicture":
+    if it.problem and it.problem != Problem.NO_PICTURE:
         lines.append(f"{name}: {it.problem}: {it.detail}")
     lines += [f"{name}: {one.name}: {refused_line(one)}" for one in it.blocks if one.status != ACCEPTED]
     lines += [f"{name}: not wholly read: {what}" for what in damage(one.what for one in it.unread)]
-    if it.problem == "NoPicture" and it.detail in DAMAGED:
+    if it.problem == Problem.NO_PICTURE and it.detail in DAMAGED:
         lines.append(f"{name}: NoPicture: {DAMAGED[it.detail]}")
     return lines
 

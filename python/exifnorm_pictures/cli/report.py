@@ -31,7 +31,7 @@ def run(arguments: argparse.Namespace) -> int:
         note_absent(choice, (it for one in sides for it in listings_of(one)), max(one.with_maker_note() for one in sides))
         about = contents.About(catalogue, old, chosen, not arguments.no_look, choice, arguments.session)
         if arguments.html:
-            text = page.page(contents.gather(about), arguments.title)
+            text = page.page(contents.gather(about), arguments.title, arguments.session)
             _write_page(arguments, text.encode("utf-8", "backslashreplace"))
         if arguments.json:
             for members in contents.members(about):

@@ -19,6 +19,7 @@ from ..files.session import Session
 from ..judge.sides import Sides
 from ..model import steps
 from ..model.found import EXIF, NAMES, OWN, PROGRAMS
+from ..model.problems import Problem
 from ..model.records import Block, Picture, is_same_file
 from ..model.steps import Step
 from ..model.verdicts import (
@@ -208,7 +209,7 @@ def _compared(pair: Pair, pairs: Sides, session: Optional[Session], choice: Choi
 def _unread(name: bytes, one: Picture, other: Picture) -> Compared:
     """Two files of which one or both were not read: their bytes are compared, if they are known."""
     if one.problem and one.problem == other.problem:
-        is_picture = one.problem != "NoPicture"
+        is_picture = one.problem != Problem.NO_PICTURE
         same, different = (FILE_SAME, FILE_DIFFERENT) if is_picture else (NO_PICTURE_SAME, NO_PICTURE_DIFFERENT)
         note = one.problem if is_picture else ""
         if one.file and other.file:

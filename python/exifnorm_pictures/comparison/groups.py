@@ -19,7 +19,8 @@ from ..fields.packing import unpacked
 from ..files.session import Session
 from ..model import steps
 from ..model.found import EXIF, NAMES, each_kind
-from ..model.records import KINDS, NOT_THERE, WORDS, Picture, Stamp, is_marked_as, picture_of_row
+from ..model.problems import NOT_THERE, Problem
+from ..model.records import KINDS, WORDS, Picture, Stamp, is_marked_as, picture_of_row
 from ..model.verdicts import ABSENT, DIFFERENT, MOVED_NOTE, ONLY_MAKER_NOTE, ONLY_REACHED, SAME, SAME_REPAIRED, clause, listed, none_of
 from .readings import LOST, Readings, Unknown
 
@@ -97,7 +98,7 @@ class Group:
     @property
     def are_pictures(self) -> bool:
         """Whether ExifTool or a reader takes the files for pictures."""
-        return self.members[0].problem != "NoPicture"
+        return self.members[0].problem != Problem.NO_PICTURE
 
     @property
     def has_other_notes(self) -> bool:

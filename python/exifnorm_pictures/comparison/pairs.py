@@ -15,7 +15,8 @@ from ..fields.block_fields import fields_of
 from ..files import signals
 from ..model.columns import Damaged
 from ..model.found import NotRead
-from ..model.records import NOT_THERE, PICTURES, Block, Picture, block_of_row, not_read_of_row, picture_of_row
+from ..model.problems import NOT_THERE
+from ..model.records import PICTURES, Block, Picture, block_of_row, not_read_of_row, picture_of_row
 from ..scan.moved import content_key
 from . import coded
 

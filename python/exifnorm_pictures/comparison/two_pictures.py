@@ -15,7 +15,8 @@ from ..fields.plain_names import group_name
 from ..fields.plain_values import POSITION, plain, position
 from ..files.session import Session
 from ..judge.sides import Fresh
-from ..model.found import EXIF, IPTC, NAMES, PROBLEMS
+from ..model.found import EXIF, IPTC, NAMES
+from ..model.problems import Problem
 from ..model.records import KINDS, Picture, Stamp
 from ..model.verdicts import ABSENT, DIFFERENT, SAME
 from ..scan.batches import How
@@ -81,7 +82,7 @@ def read(name: bytes, how: How, session: Session) -> Picture:
     with contextlib.suppress(OSError):
         stamp = Stamp.of(os.stat(path))
     if stamp is None and not os.path.lexists(path):
-        return Picture.of(path, b"", problem="NoFile", detail=PROBLEMS["NoFile"])
+        return Picture.of(path, b"", problem=Problem.NO_FILE, detail=Problem.NO_FILE.text)
     return look(FoundFile(path, os.path.dirname(path), stamp), how, session, packs=False)
 
 

@@ -5,8 +5,8 @@ from __future__ import annotations
 from typing import Iterator, NamedTuple, Optional, Sequence, Tuple
 
 from ..catalogue.store import PICTURE_COLUMNS, Catalogue
-from ..model.found import PROBLEMS
-from ..model.records import NOT_THERE, Picture, picture_of_row
+from ..model.problems import NOT_THERE, TEXTS
+from ..model.records import Picture, picture_of_row
 from ..model.verdicts import SAME, result, verdicts
 
 AS_IT_WAS, CAPTIONED, AGAIN, MOVED = "as they were", "captioned", "written again", "moved"
@@ -41,7 +41,7 @@ class Verified(NamedTuple):
 def state_of(before: Picture, now: Picture) -> Tuple[str, str]:
     """The state of a file that is there, and more words about it."""
     if not now.sha256:
-        return UNREADABLE, now.detail or PROBLEMS.get(now.problem or "", "")
+        return UNREADABLE, now.detail or TEXTS.get(now.problem or "", "")
     if not before.sha256:
         return NO_DIGEST, ""
     if now.sha256 == before.sha256:

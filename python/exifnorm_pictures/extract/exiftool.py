@@ -19,7 +19,8 @@ from typing import Dict, List, Optional, Sequence, cast
 
 from ..files.session import Session
 from ..model.budgets import OUTPUT, WHOLE_FILE, budget_of
-from ..model.found import EXIF, EXIFTOOL, EXIV2, IPTC, PROBLEMS, UNREAD_TRAILER, XMP, Blocks, NotRead
+from ..model.found import EXIF, EXIFTOOL, EXIV2, IPTC, UNREAD_TRAILER, XMP, Blocks, NotRead
+from ..model.problems import Problem
 from . import programs, raw_files
 from .formats.streams import Stream, digest_of, size_of
 from .programs import Failed
@@ -181,19 +182,19 @@ def _blocks(answer: Dict[str, str]) -> Blocks:
             blocks.add(kind, octets(value), f"{blocks.type} file", extractor=EXIFTOOL)
     mime = _first(answer, "MIMEType")
     if blocks.type in _SEVERAL:
-        return Blocks(extractor=EXIFTOOL, type=blocks.type, problem="SeveralBlocks", detail=PROBLEMS["SeveralBlocks"])
+        return Blocks(extractor=EXIFTOOL, type=blocks.type, problem=Problem.SEVERAL_BLOCKS, detail=Problem.SEVERAL_BLOCKS.text)
     if blocks.found or mime.startswith("image/") or blocks.type in ("PSD", "PSB"):
         return blocks
     error = _first(answer, "Error")
-    detail = error or (f"{blocks.type} ({mime})" if blocks.type else PROBLEMS["NoPicture"])
-    problem = "Unreadable" if error.startswith("Error opening") else "NoPicture"
+    detail = error or (f"{blocks.type} ({mime})" if blocks.type else Problem.NO_PICTURE.text)
+    problem = Problem.UNREADABLE if error.startswith("Error opening") else Problem.NO_PICTURE
     return Blocks(extractor=EXIFTOOL, type=blocks.type, problem=problem, detail=detail)
 
 
 def _add_by_exiv2(session: Session, blocks: Blocks, path: bytes) -> None:
     """Adds the Exif block that exiv2 extracts from a raw file, or the problem that it has none."""
     if not programs.is_there("exiv2"):
-        blocks.problem, blocks.detail = "NeedsExiv2", PROBLEMS["NeedsExiv2"]
+        blocks.problem, blocks.detail = Problem.NEEDS_EXIV2, Problem.NEEDS_EXIV2.text
         return
     folder = os.path.join(session.folder(), "exiv2")
     shutil.rmtree(folder, ignore_errors=True)
@@ -206,7 +207,7 @@ def _add_by_exiv2(session: Session, blocks: Blocks, path: bytes) -> None:
     if found:
         blocks.add(EXIF, found, f"{blocks.type} file", extractor=EXIV2)
     else:
-        blocks.problem, blocks.detail = "ToolFailed", "exiv2 extracted no Exif block from this file"
+        blocks.problem, blocks.detail = Problem.TOOL_FAILED, "exiv2 extracted no Exif block from this file"
 
 
 def _exif_of_exiv2(path: str) -> bytes:

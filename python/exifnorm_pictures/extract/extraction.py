@@ -12,7 +12,8 @@ from exifnorm import LibraryMissing
 from ..files import opening, signals
 from ..files.session import Session
 from ..model.budgets import Budget, TooMuch
-from ..model.found import BROKEN, PROBLEMS, Blocks, Broken, LeftToOthers
+from ..model.found import BROKEN, Blocks, Broken, LeftToOthers
+from ..model.problems import Problem
 from ..model.texts import described
 from .exiftool import add_trailers, by_others
 from .formats import jpeg
@@ -33,13 +34,14 @@ def blocks_of(path: bytes, whole: bool = False, session: Optional[Session] = Non
     except LibraryMissing:  # an OSError too, but not of this file
         raise
     except FileNotFoundError:
-        problem = "LinkToNothing" if os.path.islink(path) else "NoFile"
-        return Blocks(problem=problem, detail=PROBLEMS[problem])
+        problem = Problem.LINK_TO_NOTHING if os.path.islink(path) else Problem.NO_FILE
+        return Blocks(problem=problem, detail=problem.text)
     except OSError as error:
-        problem = {opening.IRREGULAR: "NotAFile", os.strerror(errno.ELOOP): "LinkToNothing"}.get(error.strerror or "", "")
-        if problem:
-            return Blocks(problem=problem, detail=PROBLEMS[problem])
-        return Blocks(problem="Unreadable", detail=(error.strerror or str(error)).lower())
+        known = {opening.IRREGULAR: Problem.NOT_A_FILE, os.strerror(errno.ELOOP): Problem.LINK_TO_NOTHING}
+        if error.strerror in known:
+            problem = known[error.strerror]
+            return Blocks(problem=problem, detail=problem.text)
+        return Blocks(problem=Problem.UNREADABLE, detail=(error.strerror or str(error)).lower())
 
 
 def blocks_in(file: Union[File, Memory], path: bytes, whole: bool = False, session: Optional[Session] = None) -> Blocks:
@@ -71,12 +73,12 @@ def failed_here(error: Exception, session: Optional[Session]) -> Blocks:
     """The result for a file at which our own code failed, and no other program."""
     if session and session.debug:
         signals.trace(error)
-    return Blocks(problem="InternalError", detail=f"{PROBLEMS['InternalError']}: {described(error)}")
+    return Blocks(problem=Problem.INTERNAL_ERROR, detail=f"{Problem.INTERNAL_ERROR.text}: {described(error)}")
 
 
 def too_much(why: TooMuch) -> Blocks:
     """The result for a file that goes over a limit."""
-    return Blocks(problem="TooMuch", detail=str(why))
+    return Blocks(problem=Problem.TOO_MUCH, detail=str(why))
 
 
 def _read(stream: Union[File, Memory], path: bytes, whole: bool) -> Blocks:

@@ -7,6 +7,7 @@ from exifnorm import LIMIT, LibraryMissing
 from ..files import opening
 from ..files.session import Session
 from ..model.found import EXIF, IPTC, NAMES, Blocks, FoundBlock
+from ..model.problems import Problem
 from ..model.texts import reason
 from . import extraction, programs
 
@@ -20,9 +21,9 @@ def blocks_of(name: bytes, session: Session, whole: bool = False, is_block: bool
         try:
             return extraction.blocks_of(name, whole, session)
         except programs.Failed as error:
-            return Blocks(problem="TooSlow" if isinstance(error, programs.TooSlow) else "ToolFailed", detail=str(error))
+            return Blocks(problem=Problem.TOO_SLOW if isinstance(error, programs.TooSlow) else Problem.TOOL_FAILED, detail=str(error))
         except programs.Missing as error:
-            return Blocks(problem="NeedsExifTool", detail=str(error))
+            return Blocks(problem=Problem.NEEDS_EXIFTOOL, detail=str(error))
         except (LibraryMissing, MemoryError):
             raise
         except Exception as error:  # an error of a reader affects only this file
@@ -31,6 +32,6 @@ def blocks_of(name: bytes, session: Session, whole: bool = False, is_block: bool
         with opening.reading(name) as file:
             octets = file.read(LONGEST)
     except OSError as error:
-        return Blocks(problem="Unreadable", detail=reason(error))
+        return Blocks(problem=Problem.UNREADABLE, detail=reason(error))
     kind = IPTC if octets[:1] == b"\x1c" else EXIF
     return Blocks([FoundBlock(kind, octets, NAMES[kind], "the file")])

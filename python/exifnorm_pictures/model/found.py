@@ -16,42 +16,6 @@ NAMES = {EXIF: "Exif", IPTC: "IPTC", XMP: "XMP"}
 OWN, EXIFTOOL, EXIV2 = "own", "exiftool", "exiv2"  # which program extracted a block
 PROGRAMS = {EXIFTOOL: "ExifTool", EXIV2: "exiv2"}
 
-# The problems that may be reported instead of blocks, each with its meaning for people.
-PROBLEMS = {
-    "Vanished": "there is no such file any more",
-    "NoFile": "there is no such file",
-    "LinkToNothing": "a symbolic link that leads to no file",
-    "NotAFile": "a folder, a pipe, a socket or a device",
-    "Unreadable": "the file can't be read",
-    "NoPicture": "the file is no picture that ExifTool knows",
-    "SeveralBlocks": "a damaged CR3 or a film of Canon, which have several Exif blocks (CMT1 to CMT4): ExifTool extracts only the first,"
-    " so two different ones could seem to be the same",
-    "BigTIFF": "a BigTIFF, of which no other program extracts an Exif block, can't be read",
-    "NeedsExiv2": "ExifTool gives no Exif block of raw files; exiv2 does, and it isn't installed (package exiv2)",
-    "TooMuch": "reading the file goes over a limit that no real picture reaches",
-    "TooSlow": "the program that extracts blocks took longer than its limit; the next run tries again",
-    "ToolFailed": "the program that extracts blocks failed on this file",
-    "InternalError": "exifnorm-pictures itself failed on this file; please report it",
-}
-
-# The states of pictures as counts have them: "5 at which a program failed"
-STATE_WORDS = {
-    "NoPicture": "no picture",
-    "Unreadable": "not readable",
-    "Vanished": "gone since an earlier run",
-    "Moved": "moved since an earlier run",
-    "LinkToNothing": "a link that leads to no file",
-    "NotAFile": "a pipe, a socket or a device",
-    "SeveralBlocks": "damaged CR3, or a film of Canon",
-    "BigTIFF": "BigTIFF that can't be read",
-    "NeedsExiv2": "raw, and exiv2 is not installed",
-    "NeedsExifTool": "of another format, and ExifTool is not installed",
-    "TooMuch": "over a limit",
-    "TooSlow": "at which a program took too long",
-    "ToolFailed": "at which a program failed",
-    "InternalError": "at which exifnorm-pictures itself failed",
-}
-
 REST = "the rest of a damaged file"  # how a part begins that has such a file from its fault on
 BROKEN = "broken: "  # how the reason begins for which a damaged file was left to ExifTool
 UNREAD_TRAILER = "blocks of the trailer, for which ExifTool is needed"  # a part that is read once ExifTool is there
@@ -138,7 +102,7 @@ def each_kind(parts: Iterable[str]) -> List[str]:
 class Blocks:
     """The blocks and unread parts of a file, in the order of the file.
 
-    `problem` is one of `PROBLEMS` if the file could not be read at all; it then has no block.
+    `problem` is a `Problem` if the file could not be read at all; it then has no block.
     """
 
     found: List[FoundBlock] = field(default_factory=list)

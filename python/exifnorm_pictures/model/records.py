@@ -19,7 +19,6 @@ KIND_OF = {word: kind for kind, word in WORDS.items()}
 
 TOO_LONG, FAILED = "too long", "failed"
 AS_BEFORE = " as before"
-NOT_THERE = ("Vanished", "Moved", "LinkToNothing", "NotAFile")  # the problems of names that lead to no file, so nothing is compared
 
 
 class Block(NamedTuple):

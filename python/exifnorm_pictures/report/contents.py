@@ -17,6 +17,7 @@ from ..comparison.wording import sides
 from ..fields.choosing import EVERYTHING, Choice
 from ..fields.left_out import lines
 from ..files.session import Session
+from ..model.problems import Problem
 from ..model.records import WORDS, Picture, has, kind_of
 from ..model.texts import Members, path_members, shown_path
 from .contradictions import Contradictions, checked, texts
@@ -96,20 +97,19 @@ class Gathered:
     left_out: List[str] = field(default_factory=list)  # lines about what differs and is left out
     runs: List[Run] = field(default_factory=list)
     roots: List[bytes] = field(default_factory=list)
-    session: Optional[Session] = None  # in which thumbnails are read
 
 
 def gather(about: About) -> Gathered:
     """The contents of a catalogue, and the changes since an older one: counts, and the first of each list."""
     catalogue = about.catalogue
-    found = Gathered(runs=catalogue.runs(), since=about.old is not None, roots=catalogue.roots(), session=about.session)
+    found = Gathered(runs=catalogue.runs(), since=about.old is not None, roots=catalogue.roots())
     later: List[Picture] = []
     for picture in catalogue.pictures(about.table()):
         found.total += 1
         found.states[picture.state] += 1
         if picture.problem:
             found.all_problems += 1
-            kept = later if picture.problem == "NoPicture" else found.problems
+            kept = later if picture.problem == Problem.NO_PICTURE else found.problems
             if len(kept) < MOST_CHANGES:
                 kept.append(picture)
     found.problems = (found.problems + later)[:MOST_CHANGES]

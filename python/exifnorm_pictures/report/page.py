@@ -14,8 +14,9 @@ from ..comparison.conflicts import Conflict
 from ..comparison.readings import of_unknown
 from ..fields.labels import STANDARDS
 from ..fields.left_out import of_maker_notes
+from ..files.session import Session
 from ..model import verdicts
-from ..model.found import PROBLEMS, STATE_WORDS
+from ..model.problems import COUNTED, TEXTS
 from ..model.texts import escaped, safe, shown_path
 from ..refusals.causes import CAUSES, words_of
 from .contents import (
@@ -36,19 +37,19 @@ from .thumbnails import small_pictures
 MOST_OPEN, MOST_FIELDS = 8, 40  # changes that are shown unfolded, and fields of a change
 
 WORDS = {
-    **STATE_WORDS,
+    **COUNTED,
     "accepted": "accepted: all blocks were read",
     "refused": "with a block that is refused or unreadable",
     "no block": "without an Exif, IPTC or XMP block",
 }
 
 
-def page(found: Gathered, title: str) -> str:
+def page(found: Gathered, title: str, session: Optional[Session] = None) -> str:
     """The page, as HTML without script; each name and text of a picture is escaped."""
     parts = [_head(found, title), _overview(found)]
     if found.since:
         parts.append(_changes(found))
-    parts += [_groups(found), _contradictions(found), _refusals(found), _parts(found), _problems(found), _foot()]
+    parts += [_groups(found, session), _contradictions(found), _refusals(found), _parts(found), _problems(found), _foot()]
     return "".join(parts)
 
 
@@ -193,8 +194,8 @@ def _more(count: int, most: int, what: str) -> str:
     return f'<p class="note">.. and {count - most:,} more {what}, which --json lists</p>' if count > most else ""
 
 
-def _groups(found: Gathered) -> str:
-    small = small_pictures([path for _, _, pictures in found.groups for path in pictures], found.session)
+def _groups(found: Gathered, session: Optional[Session]) -> str:
+    small = small_pictures([path for _, _, pictures in found.groups for path in pictures], session)
     parts = ["<section><h2>Pictures with the same metadata</h2>"]
     if not found.groups:
         are_absent = "None is listed: the files are gone or have changed since they were indexed."
@@ -296,7 +297,7 @@ def _problems(found: Gathered) -> str:
         return ""
     rows = "".join(
         f"<tr><td><span class='tag {_TONES.get(it.problem or '', 'odd')}'>{_text(it.problem or '')}</span></td>"
-        f"<td>{_name(it.path, found.roots)}</td><td class='note'>{_text(it.detail or PROBLEMS.get(it.problem or '', ''))}</td></tr>"
+        f"<td>{_name(it.path, found.roots)}</td><td class='note'>{_text(it.detail or TEXTS.get(it.problem or '', ''))}</td></tr>"
         for it in found.problems
     )
     more = _more(found.all_problems, MOST_CHANGES, "files")

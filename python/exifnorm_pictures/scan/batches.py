@@ -10,8 +10,9 @@ from collections import Counter
 from dataclasses import dataclass
 from typing import Callable, List, NamedTuple, Optional, Sequence, Set, Union
 
-from ..catalogue.store import KEPT_BEFORE, make_rows, put_rows
+from ..catalogue.store import make_rows, put_rows
 from ..model.budgets import PROGRAM_SECONDS
+from ..model.problems import NO_BYTES
 from ..model.records import Picture
 from .walk import FoundFile
 
@@ -56,11 +57,11 @@ Result = Union[Picture, Batch]
 
 def batch(file: str, entries: Sequence[Picture], left: Sequence[FoundFile], lines: Optional[Lines]) -> Batch:
     """Writes the rows of some pictures to a new file."""
-    unread = [it for it in entries if it.problem in KEPT_BEFORE]
+    unread = [it for it in entries if it.problem in NO_BYTES]
     with contextlib.closing(sqlite3.connect(file, isolation_level=None)) as base:
         make_rows(base)
         base.execute("BEGIN")
-        put_rows(base, 0, 1, [it for it in entries if it.problem not in KEPT_BEFORE] if unread else entries)
+        put_rows(base, 0, 1, [it for it in entries if it.problem not in NO_BYTES] if unread else entries)
         base.execute("COMMIT")
     printed = [line for it in entries for line in lines(it)] if lines else []
     return Batch(file, Counter(it.state for it in entries), printed, {program for it in entries for program in it.programs}, unread, left)

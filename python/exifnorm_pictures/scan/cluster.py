@@ -14,6 +14,7 @@ from typing import Any, Dict, Iterator, List, Optional, Sequence
 
 from ..extract import programs
 from ..files.session import Session
+from ..model.problems import Problem
 from ..model.records import RACY, Picture, Stamp
 from . import looking
 from .batches import How
@@ -137,14 +138,14 @@ def _chunks(work: Sequence[FoundFile]) -> Iterator[Sequence[FoundFile]]:
 
 
 def _failed(it: FoundFile, why: str) -> Picture:
-    return looking.compared_with_before(it, Picture.of(it.path, it.root, it.stamp, problem="ToolFailed", detail=why))
+    return looking.compared_with_before(it, Picture.of(it.path, it.root, it.stamp, problem=Problem.TOOL_FAILED, detail=why))
 
 
 def _here(it: FoundFile, answer: Picture) -> Picture:
     """A worker's result with the name and the marks that the file has here. A worker doesn't know which problems it had at the last run."""
-    if answer.problem == "Vanished":
+    if answer.problem == Problem.VANISHED:
         detail = f"the worker has no such file: {os.fsdecode(answer.path)!r}"
-        return looking.compared_with_before(it, Picture.of(it.path, it.root, None, problem="Unreadable", detail=detail))
+        return looking.compared_with_before(it, Picture.of(it.path, it.root, None, problem=Problem.UNREADABLE, detail=detail))
     same = answer.stamp is not None and it.stamp is not None and answer.stamp.size == it.stamp.size
     stamp = it.stamp if same else None
     if stamp and answer.stamp and answer.stamp.changed == RACY:

@@ -13,7 +13,8 @@ from typing import Callable, Dict, Iterable, Iterator, List, Optional, Sequence,
 from ..catalogue.store import Catalogue, Known
 from ..extract import programs
 from ..extract.sidecars import marks
-from ..model.found import EXIFTOOL, EXIV2, PROBLEMS, UNREAD_TRAILER
+from ..model.found import EXIFTOOL, EXIV2, UNREAD_TRAILER
+from ..model.problems import AGAIN, GONE, NEEDED, Problem
 from ..model.records import Picture, is_as_before
 from .batches import LONGEST_WAIT, Batch, How, Lines, Result
 from .excluded import Excluded
@@ -24,8 +25,6 @@ from .walk import FoundFile, Unlisted, below
 BATCH = 1000  # pictures of one transaction
 FEW = 64  # pictures for which starting a further process takes too long
 FILES = 8  # of batches, which SQLite attaches at once; it can attach ten
-GONE = ("Vanished", "Moved")
-NEEDED = {"NeedsExifTool": "exiftool", "NeedsExiv2": "exiv2"}
 
 PrintLine = Callable[[str], None]
 Look = Callable[[Sequence[FoundFile], How], Iterator[Result]]
@@ -166,9 +165,7 @@ def _is_unchanged(it: FoundFile, known: Optional[Known], how: How = How()) -> bo
 def _worth_another(problem: Optional[str]) -> bool:
     """Whether a problem may be solved although the file is the same: rights, a program that was installed, a file that is back."""
     program = NEEDED.get(problem or "")
-    return problem in ("Unreadable", "ToolFailed", "TooSlow", "InternalError", "LinkToNothing", "NotAFile", *GONE) or (
-        program is not None and programs.is_there(program)
-    )
+    return problem in AGAIN or (program is not None and programs.is_there(program))
 
 
 def _gone(options: IndexOptions, work: Work, catalogue: Catalogue) -> Tuple[List[Picture], Departed]:
@@ -186,7 +183,7 @@ def _gone(options: IndexOptions, work: Work, catalogue: Catalogue) -> Tuple[List
             if path in work.sidecars:
                 work.taken.append(number)
             elif not os.path.lexists(path):
-                gone.append(Picture.of(path, b"", problem="Vanished", detail=PROBLEMS["Vanished"]))
+                gone.append(Picture.of(path, b"", problem=Problem.VANISHED, detail=Problem.VANISHED.text))
                 departed.add(catalogue, number, path)
             elif options.excluded and options.excluded.has_below(path[head:]):
                 options.excluded.known += 1
@@ -198,7 +195,7 @@ def _named_wrong(work: Work, catalogue: Catalogue) -> Iterator[Picture]:
     for it in work.unlisted:
         known = sum(1 for _ in catalogue.below(it.path))
         kept = f"; its {known} pictures stay as they were" if known else ""
-        yield Picture.of(it.path, b"", problem="Unreadable", detail=it.reason + kept)
+        yield Picture.of(it.path, b"", problem=Problem.UNREADABLE, detail=it.reason + kept)
 
 
 def _version(program: str, seconds: float) -> Optional[str]:

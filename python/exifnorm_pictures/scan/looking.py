@@ -13,7 +13,8 @@ from ..extract.formats.streams import digest_of_file
 from ..files.session import Session
 from ..judge import judge
 from ..model.budgets import WHOLE_FILE, TooMuch
-from ..model.found import PROBLEMS, Blocks
+from ..model.found import Blocks
+from ..model.problems import NO_BYTES, Problem
 from ..model.records import RACY, Block, Picture, Stamp
 from ..model.texts import reason
 from .batches import How
@@ -22,7 +23,6 @@ from .walk import FoundFile
 # Nanoseconds in which two edits may have one time: twice a tick of the slowest kernel; and of file systems without parts of a second,
 # of which FAT has two seconds, and others one.
 FINE, COARSE = 20_000_000, 2_000_000_000
-_NOT_OPENED = ("Vanished", "LinkToNothing", "NotAFile", "Unreadable")  # the problems of files whose bytes nobody can read
 
 
 def look(it: FoundFile, how: How, session: Session, packs: bool = True) -> Picture:
@@ -50,9 +50,9 @@ def _look(it: FoundFile, how: How, session: Session, packs: bool) -> Picture:
     except programs.Failed as error:
         return failed(it, str(error))
     except OSError as error:
-        return Picture.of(it.path, it.root, problem="Unreadable", detail=reason(error))
+        return Picture.of(it.path, it.root, problem=Problem.UNREADABLE, detail=reason(error))
     except programs.Missing as error:
-        return Picture.found(it.path, it.root, it.stamp, Blocks(problem="NeedsExifTool", detail=str(error)))
+        return Picture.found(it.path, it.root, it.stamp, Blocks(problem=Problem.NEEDS_EXIFTOOL, detail=str(error)))
     except MemoryError:
         return failed(it, "out of memory")
     except Exception as error:  # an error of a reader affects only this file
@@ -66,15 +66,15 @@ def _read(it: FoundFile, how: How, session: Session, packs: bool) -> Tuple[Block
     """The blocks of a file and its sidecars, and what they mean. A file over a limit has a problem, and so has one for which a program takes too long."""
     try:
         blocks = extraction.blocks_of(it.path, how.whole, session)
-        if blocks.problem == "NoFile":  # which was there when its folder was listed
-            blocks = Blocks(problem="Vanished", detail=PROBLEMS["Vanished"])
+        if blocks.problem == Problem.NO_FILE:  # which was there when its folder was listed
+            blocks = Blocks(problem=Problem.VANISHED, detail=Problem.VANISHED.text)
         if it.sidecars:
             sidecars.add(blocks, it.path, it.sidecars)
         return blocks, [] if blocks.problem else judge.judge_all(blocks, packs)
     except TooMuch as why:
         return extraction.too_much(why), []
     except programs.TooSlow as error:
-        return Blocks(problem="TooSlow", detail=str(error)), []
+        return Blocks(problem=Problem.TOO_SLOW, detail=str(error)), []
 
 
 def _maker_notes(session: Session, path: bytes, judged: Sequence[Block]) -> Optional[bytes]:
@@ -92,7 +92,7 @@ def _pixels(path: bytes, blocks: Blocks) -> Tuple[Optional[str], str, str, Optio
     from ..extract import coded_picture
 
     coded = coded_picture.CodedPicture() if blocks.problem else coded_picture.of_file(path, blocks.budget)
-    is_read = blocks.problem not in _NOT_OPENED
+    is_read = blocks.problem not in NO_BYTES
     return coded.digest, coded.beside, coded.damage, digest_of_file(path, 1 << 62) if is_read else ""
 
 
@@ -100,14 +100,14 @@ def file_digest(path: bytes, blocks: Blocks, whole: bool) -> str:
     """SHA-256 of a whole file, if nothing else of it can be compared: no block of it was read, or a part has no digest."""
     if not blocks.problem and all(it.digest for it in blocks.not_read):
         return ""
-    if blocks.problem in (*_NOT_OPENED, "NeedsExifTool"):
+    if blocks.problem in (*NO_BYTES, Problem.NEEDS_EXIFTOOL):
         return ""
     return digest_of_file(path, WHOLE_FILE if not whole else 1 << 62)
 
 
 def failed(it: FoundFile, why: str) -> Picture:
     """The result for a file at which a program or a process failed."""
-    return compared_with_before(it, Picture.found(it.path, it.root, it.stamp, Blocks(problem="ToolFailed", detail=why)))
+    return compared_with_before(it, Picture.found(it.path, it.root, it.stamp, Blocks(problem=Problem.TOOL_FAILED, detail=why)))
 
 
 def _now() -> int:

@@ -6,6 +6,7 @@ import os
 from typing import Collection, Dict, Iterator, List, Optional, Sequence, Tuple
 
 from ..catalogue.store import Catalogue
+from ..model.problems import Problem
 from ..model.records import Picture
 from ..model.texts import shown_path
 
@@ -59,7 +60,7 @@ class Departed:
                 catalogue.base.executemany("UPDATE pictures SET problem = 'Moved', detail = ? WHERE path = ?", words)
         for it in [*gone, *remounted]:
             to = self.went.get(it.path)
-            yield it if to is None else Picture.of(it.path, b"", problem="Moved", detail=f"to {shown_path(to)}")
+            yield it if to is None else Picture.of(it.path, b"", problem=Problem.MOVED, detail=f"to {shown_path(to)}")
 
     def _remounted(self, catalogue: Catalogue, run: int, new: Collection[bytes]) -> Iterator[Picture]:
         """The pictures of folders that are gone and whose files are new in this run: a file system that is mounted at another place.

@@ -11,7 +11,8 @@ import struct
 from typing import Dict, List, Optional, Tuple
 
 from ...model.budgets import DIRECTORIES, ENTRIES, budget_of
-from ...model.found import PROBLEMS, Blocks, Broken
+from ...model.found import Blocks, Broken
+from ...model.problems import Problem
 from . import tiff
 from .streams import Stream, read_at, size_of
 from .tiff_directories import IFD, LONG, SIZES, Directories, Directory, Entry
@@ -29,7 +30,7 @@ def read(stream: Stream, whole: bool = False) -> Blocks:
     try:
         return tiff.read_pages(BigDirectories(stream), whole)
     except Broken as why:
-        return Blocks(type=tiff.BIG, problem="BigTIFF", detail=f"{PROBLEMS['BigTIFF']}: {why}")
+        return Blocks(type=tiff.BIG, problem=Problem.BIG_TIFF, detail=f"{Problem.BIG_TIFF.text}: {why}")
 
 
 class WideEntry(Entry):
