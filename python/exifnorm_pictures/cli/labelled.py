@@ -6,8 +6,6 @@ import argparse
 import os
 from typing import Dict, Iterator, List, Sequence
 
-from ..catalogue.store import Catalogue, head_is_ours
-from ..catalogue.texts import texts_of
 from ..extract.named import blocks_of
 from ..fields.labels import LabelText
 from ..fields.block_fields import fields_of
@@ -40,13 +38,21 @@ def is_of_many(name: bytes) -> bool:
         return True
     try:
         with opening.reading(name) as file:
-            return head_is_ours(file.read(100))
+            head = file.read(100)
     except OSError:
         return False
+    if not head.startswith(b"SQLite"):
+        return False
+    from ..catalogue.store import head_is_ours  # which takes long to import, and most names are those of pictures
+
+    return head_is_ours(head)
 
 
 def _in_catalogue(name: bytes) -> Iterator[Reading]:
     """The pictures of a catalogue as they were when it looked at them. Their files aren't needed."""
+    from ..catalogue.store import Catalogue
+    from ..catalogue.texts import texts_of
+
     with Catalogue(os.fsdecode(name)) as catalogue:
         for it in catalogue.pictures():
             if it.problem in (Problem.NO_PICTURE, *NOT_THERE):

@@ -8,7 +8,6 @@ from __future__ import annotations
 
 import contextlib
 import os
-import tempfile
 from typing import Optional, Protocol
 
 from ..model.budgets import PROGRAM_SECONDS
@@ -46,6 +45,8 @@ class Session:
     def folder(self) -> str:
         """The folder of this session alone, in that of the run."""
         if self._folder is None:
+            import tempfile  # which few commands need
+
             self._folder = tempfile.mkdtemp(prefix=f"{self.pid}-", dir=self.room)
         return self._folder
 
