@@ -29,7 +29,20 @@ def call(request, folder):
 
 @pytest.mark.skipif(not shutil.which("strace"), reason="not installed: strace")
 def test_the_keyboard_while_modules_are_imported(call, folder):
-    words = ["strace", "-o", folder / "log", "-P", LATE, "-e", "inject=openat:signal=SIGINT", *call, "--version"]
+    # a shell that ran these tests in the background would have the signal ignored
+    words = [
+        "env",
+        "--default-signal=INT",
+        "strace",
+        "-o",
+        folder / "log",
+        "-P",
+        LATE,
+        "-e",
+        "inject=openat:signal=SIGINT",
+        *call,
+        "--version",
+    ]
     done = subprocess.run(words, capture_output=True, env=Studio.environment(), stdin=subprocess.DEVNULL)
     assert "SIGINT" in (folder / "log").read_text(), "the signal was not sent"
     assert (done.returncode, done.stdout, done.stderr) == (-signal.SIGINT, b"", b"")
