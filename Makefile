@@ -168,8 +168,9 @@ npm: wasm
 	python3 packaging/npm.py out/wasm/exifnorm.wasm $(VERSION) $(epoch) out/npm/exifnorm-$(VERSION).tgz
 
 page: wasm
-	python3 packaging/page.py out/wasm/exifnorm.wasm out/page/exifnorm.html
-	@python3 build/guard.py out/page/exifnorm.html
+	rm -f out/page/*.html
+	python3 packaging/page.py out/wasm/exifnorm.wasm out/page/exifnorm-$(VERSION).html
+	@python3 build/guard.py out/page/exifnorm-$(VERSION).html
 
 c-source: $(archive)
 	@python3 packaging/c_source.py $(VERSION) $(epoch) out/c

@@ -38,6 +38,7 @@ def files(wasm: bytes, version: str) -> Iterator[tuple[str, bytes]]:
         yield path.name, data.replace(b"@VERSION@", f"{version}{mark}".encode()) if path.name == "package.json" else data
     for name in LICENCES:
         yield name, (TOP / name).read_bytes()
+    yield "exifnorm.wasm", wasm
     yield "wasm.js", module(wasm)
 
 

@@ -111,12 +111,13 @@ def copy_module(out: Path) -> None:
 
 def build(tree: Path, source: Path) -> list[Path]:
     """Builds everything in a folder with the sources and the proofs. The results, without the archive of the sources."""
-    for words in (["all"], ["dist", f"PYTHON={PYTHON}"], ["wheel", f"PYTHON={PYTHON}"], ["sdist"]):
+    for words in (["all"], ["dist", f"PYTHON={PYTHON}"], ["wheel", f"PYTHON={PYTHON}"], ["sdist"], ["npm"], ["page"]):
         run("make", *words, folder=tree)
     run("dpkg-buildpackage", "-b", "-us", "-uc", folder=tree)
     run("dpkg-source", "-b", source.name, folder=source.parent)
     from_make = [*(tree / "out/dist").glob("exifnorm-*"), *(tree / "out/wheel").glob("*.whl")]
     from_make += [*(tree / "out/c").glob("*.tar.gz"), *(tree / "out/sdist").glob("*.tar.gz")]
+    from_make += [*(tree / "out/npm").glob("*.tgz"), *(tree / "out/page").glob("*.html")]
     return [*from_make, *tree.parent.glob("*.deb"), *source.parent.glob("*.dsc"), *source.parent.glob("*.debian.tar.*")]
 
 

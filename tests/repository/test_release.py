@@ -123,7 +123,18 @@ def test_two_runs_in_different_folders_write_the_same_bytes(releases):
 
 def test_it_has_each_form_and_the_sums(made):
     assert sorted(it.name.partition("_")[0] for it in made.glob("*.deb")) == sorted(DEBS)
-    for pattern in ("*.whl", "*-linux-*.tar.gz", "*.orig.tar.gz", "*.dsc", "*.debian.tar.*", "*.spdx.json", "*-c.tar.gz", "README"):
+    for pattern in (
+        "*.whl",
+        "*-linux-*.tar.gz",
+        "*.orig.tar.gz",
+        "*.dsc",
+        "*.debian.tar.*",
+        "*.spdx.json",
+        "*-c.tar.gz",
+        "*.tgz",
+        "*.html",
+        "README",
+    ):
         one(made, pattern)
     run("sha256sum", "--check", "--strict", "SHA256SUMS", cwd=made)
     assert len((made / "SHA256SUMS").read_text().splitlines()) == len(list(made.iterdir())) - 1
@@ -132,7 +143,7 @@ def test_it_has_each_form_and_the_sums(made):
 def test_each_file_that_the_readme_names_is_there_and_the_other_way_round(made):
     text = (made / "README").read_text()
     assert "@" not in text
-    named = {it.removeprefix("./") for it in re.findall(r"\S*exifnorm\S*[_-]\d\S*\.(?:deb|whl|tar\.gz|tar\.xz|dsc|json)", text)}
+    named = {it.removeprefix("./") for it in re.findall(r"\S*exifnorm\S*[_-]\d\S*\.(?:deb|whl|tar\.gz|tgz|tar\.xz|dsc|json|html)", text)}
     assert named == {it.name for it in made.iterdir()} - {"README", "SHA256SUMS"}
 
 

@@ -12,13 +12,12 @@ from compiling import need
 
 @pytest.fixture(scope="session")
 def module(wasm, session_folder):
-    """A folder with the files of the JavaScript package, and with exifnorm.wasm."""
+    """The folder of the JavaScript package."""
     folder = session_folder / "javascript"
     packed = session_folder / "exifnorm.tgz"
     packed.write_bytes(npm.archive((wasm / "exifnorm.wasm").read_bytes(), "1.0.0", 0))
     with tarfile.open(packed) as archive:
         archive.extractall(folder)
-    (folder / "package" / "exifnorm.wasm").write_bytes((wasm / "exifnorm.wasm").read_bytes())
     return folder / "package"
 
 
