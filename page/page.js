@@ -490,7 +490,7 @@ function summaryCard(rows, counts, others, isPair, stoppedOf) {
   const stopped = stoppedOf ? ` Stopped before the end: there are ${many(stoppedOf, "file")}.` : "", xmp = rows.filter((row) => row.xmp).length;
   return card(look, SIGNS[look], title,
     element("p", "", `${many(rows.length, "picture")}${isPair ? ", paired by path" : ""}${rest}${stopped}`),
-    chosen.some((item) => item?.isPartial) && element("p", "", element("strong", "", "Perhaps not all: "), PARTIAL),
+    chosen.some((item) => item?.isPartial) && element("p", "small", element("strong", "", "Perhaps not all: "), PARTIAL),
     counts.moved > 0 && element("p", "small", "Moved: the same Exif, IPTC and bytes of XMP are at another path. Pixels are not compared."),
     element("p", "small", `Not read: XMP (${xmp ? `${many(xmp, "picture")} with it` : "there is none"}), other formats than JPEG, what is inside a MakerNote, and what follows the head of a JPEG.`));
 }

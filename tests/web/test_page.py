@@ -1,6 +1,7 @@
 """The page in Chromium, opened from a file: what it says of the sample pictures, of folders, of hostile pictures and names, and how it is
 used by keyboard, in narrow and dark windows, and in print."""
 
+import csv
 import os
 import re
 import shutil
@@ -157,12 +158,16 @@ def test_normal_forms(browser, folder):
     browser.call("Browser.setDownloadBehavior", behavior="allow", downloadPath=str(folder))
     compare(browser, BOWL)
     browser.ask("document.querySelectorAll('.downloads button').forEach((node) => node.click())")
-    for _ in range(600):
-        if len(saved := sorted(folder.glob("2003-12-bowl.*"))) == 2 and not [*folder.glob("*.crdownload")]:
-            break
-        time.sleep(0.1)
+    files = saved(folder, "2003-12-bowl.*", 2)
     blocks = dict(exifnorm.jpeg_blocks(BOWL.read_bytes()))
-    assert [path.read_bytes() for path in saved] == [exifnorm.normal(blocks["exif"]), exifnorm.normal(blocks["iim"])]
+    assert [path.read_bytes() for path in files] == [exifnorm.normal(blocks["exif"]), exifnorm.normal(blocks["iim"])]
+
+
+def test_a_long_head(browser, folder):
+    """Of a file more is read until its head is whole."""
+    padding = segment(0xFE, bytes(65_000)) * 20
+    assert compare(browser, *put(folder, picture(padding, exif(ONE)), picture(exif(ONE)))) == "Same Exif and IPTC"
+    assert rows(browser, "")[0] == ["IFD0:Orientation", "turn 90° clockwise to view"]
 
 
 # ---- folders
@@ -217,6 +222,39 @@ def test_moved_pictures(browser, folder):
     }
     assert found["a/p.jpg"] == ["only in the first", "the same Exif and IPTC as 2 pictures only in the second"]
     assert found["b/nothing.jpg"] == ["only in the second", ""]
+
+
+def saved(folder, pattern, count=1):
+    """The files that the page has saved in a folder."""
+    end = time.monotonic() + 60
+    while time.monotonic() < end:
+        files = sorted(folder.glob(pattern))
+        if len(files) == count and not [*folder.glob("*.crdownload")]:
+            return files
+        time.sleep(0.05)
+    raise TimeoutError(pattern)
+
+
+def test_csv(browser, folder):
+    """Each picture in a row, and no cell that a spreadsheet takes for a formula."""
+    browser.call("Browser.setDownloadBehavior", behavior="allow", downloadPath=str(folder))
+    for side in ("first", "second"):
+        (folder / side).mkdir()
+        for name in ("=1+1.jpg", 'a;=2,"b".jpg', "c.jpg"):
+            shutil.copyfile(BOWL, folder / side / name)
+    browser.choose("#folder-0", folder / "first")
+    heading(browser)
+    browser.choose("#folder-1", folder / "second")
+    browser.wait("document.querySelector('#summary h2')?.textContent.includes('All have the same')")
+    browser.ask("[...document.querySelectorAll('.counts button')].at(-1).click()")
+    (file,) = saved(folder, "pictures*.csv")
+    with open(file, newline="", encoding="utf-8") as lines:
+        assert [row[:2] for row in csv.reader(lines)] == [
+            ["path", "verdict"],
+            ["'=1+1.jpg", "the same"],
+            ['a;\'=2,"b".jpg', "the same"],
+            ["c.jpg", "the same"],
+        ]
 
 
 def test_a_picture_and_a_folder(browser):

@@ -1,0 +1,40 @@
+"""How exifnorm.wasm is made: what a machine lacks is said, and what was compiled without proofs is no proved module."""
+
+import guard
+import pytest
+import wasm
+from prove import NotBuilt
+
+MODULE = 'target datalayout = "e-p:64:64"\ntarget triple = "x86_64-unknown-linux-gnu"\ndefine void @f() "target-cpu"="x86-64" nounwind {}\n'
+
+
+def test_without_binaryen(monkeypatch, capsys, folder):
+    monkeypatch.setattr(wasm.shutil, "which", lambda name: None)
+    assert wasm.main([str(folder / "made")]) == 1
+    assert "apt-get install binaryen" in capsys.readouterr().err and not (folder / "made").exists()
+
+
+@pytest.mark.parametrize("words", [[], ["--unproved"], ["a", "b"], ["--other"]])
+def test_wrong_words(words):
+    with pytest.raises(SystemExit, match="wasm.py FOLDER"):
+        wasm.main(words)
+
+
+def test_the_target_of_a_module_is_changed_and_nothing_else():
+    expected = f'target datalayout = "{wasm.LAYOUT}"\ntarget triple = "{wasm.TRIPLE}"\ndefine void @f() nounwind {{}}\n'
+    assert wasm.for_wasm(MODULE) == expected
+    for text in ("", MODULE + MODULE):
+        with pytest.raises(NotBuilt, match="triples"):
+            wasm.for_wasm(text)
+
+
+@pytest.mark.parametrize("version, is_proved", [(b"1.0.0-unproved", True), (b"1.0.0", False)])
+def test_a_module_of_the_other_kind_is_refused(monkeypatch, folder, version, is_proved):
+    """The version in the module decides, whatever was asked for; nothing is left."""
+    monkeypatch.setattr(wasm, "run", lambda *words: None)
+    monkeypatch.setattr(wasm, "build", lambda text, clang, making: [(making / name).write_bytes(version) for name in wasm.NAMES])
+    with pytest.raises(NotBuilt, match=guard.MARK):
+        wasm.make(folder / "module.bc", folder / "clang", is_proved, folder / "made")
+    assert not [*folder.iterdir()]
+    wasm.make(folder / "module.bc", folder / "clang", not is_proved, folder / "made")
+    assert sorted(path.name for path in (folder / "made").iterdir()) == sorted(wasm.NAMES)
