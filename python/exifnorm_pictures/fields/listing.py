@@ -4,16 +4,13 @@ from __future__ import annotations
 
 import hashlib
 import re
-from typing import TYPE_CHECKING, Iterable, Iterator, NamedTuple, Optional, Tuple, Union
+from typing import Iterable, Iterator, NamedTuple, Optional, Tuple, Union
 
 from ..model.texts import escaped
 from ..model import xmp_values
 from ..model.xmp_values import Long, XmpValue
 from .names import full_name
 from .plain_names import group_of, plain_name
-
-if TYPE_CHECKING:
-    from exifnorm import Ratio  # which loads the library, and what reads a catalogue does without
 
 LONGEST_TEXT = 65_536  # bytes of a text that is kept whole
 LONGEST_OTHER_TEXT = 400  # characters of bytes that happen to be a text, in a field of no texts
@@ -25,7 +22,8 @@ OCTETS = {"BYTE", "ASCII", "SBYTE", "UNDEFINED", "UTF8", "octets"}
 WIDE_TEXTS = {"9c9b", "9c9c", "9c9d", "9c9e", "9c9f"}  # of Windows: UTF-16, least significant byte first
 _OTHER_DATASETS = {"2:125", "2:202"}  # pictures
 
-Value = Union[bytes, Tuple[int, ...], "Tuple[Ratio, ...]", Tuple[XmpValue, ...], Long]
+Ratio = Tuple[int, int]  # numerator and denominator; `exifnorm.Ratio` is one too, whose package loads the library
+Value = Union[bytes, Tuple[int, ...], Tuple[Ratio, ...], Tuple[XmpValue, ...], Long]
 
 
 class Field(NamedTuple):
@@ -35,7 +33,7 @@ class Field(NamedTuple):
 
     - bytes of BYTE, ASCII, SBYTE, UNDEFINED and UTF8, and `octets` of IPTC and of the thumbnail: bytes
     - SHORT, LONG, WHOLE, SSHORT and SLONG: a tuple of numbers; FLOAT and DOUBLE: a tuple of bit patterns
-    - RATIONAL and SRATIONAL: a tuple of `exifnorm.Ratio`
+    - RATIONAL and SRATIONAL: a tuple of pairs, numerator and denominator
     - XMP: a tuple of its values, of which there is one but for rare RDF: `Literal`, `Resource`, `Array` or `Structure`
     - `Long` in place of a value that is too long to be kept
     """
@@ -130,8 +128,7 @@ def _kept_property(value: XmpValue) -> XmpValue:
 def exact(it: Field) -> str:
     """The value of a field as it is printed exactly; of one that is too long to be kept, its beginning and its digest.
 
-    >>> from exifnorm import Ratio
-    >>> exact(Field("main", "013b", "ASCII", 5, b"Otto\\0")), exact(Field("exif", "829a", "RATIONAL", 1, (Ratio(10, 1250),)))
+    >>> exact(Field("main", "013b", "ASCII", 5, b"Otto\\0")), exact(Field("exif", "829a", "RATIONAL", 1, ((10, 1250),)))
     ('"Otto"', '10/1250')
     """
     value = kept_value(it)

@@ -166,9 +166,7 @@ def _value(where: str, kind: str, count: int, value: Any) -> Value:
         return tuple(numbers)
     if len(numbers) % 2:
         raise ValueError("half a fraction")
-    from exifnorm import Ratio  # which loads the library
-
-    return tuple(map(Ratio, numbers[0::2], numbers[1::2]))
+    return tuple(zip(numbers[0::2], numbers[1::2]))
 
 
 def _property(value: Any) -> XmpValue:

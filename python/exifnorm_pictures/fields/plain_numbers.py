@@ -23,8 +23,7 @@ RATIOS = ("RATIONAL", "SRATIONAL")
 def fractions(it: Field) -> Optional[List[Optional[Fraction]]]:
     """The numbers of a field; None in it for a fraction with the denominator 0, and None for all if it has no numbers or too many.
 
-    >>> from exifnorm import Ratio
-    >>> fractions(Field("exif", "a432", "RATIONAL", 2, (Ratio(10, 80), Ratio(1, 0)))), fractions(Field("main", "0112", "SHORT", 1, (6,)))
+    >>> fractions(Field("exif", "a432", "RATIONAL", 2, ((10, 80), (1, 0)))), fractions(Field("main", "0112", "SHORT", 1, (6,)))
     ([Fraction(1, 8), None], [Fraction(6, 1)])
     """
     if it.type not in INTEGERS and it.type not in RATIOS:

@@ -131,8 +131,7 @@ _RULES = {"main": _EXIF, "exif": _EXIF, "thumb": _EXIF, "gps": _GPS, "iptc": _II
 def plain(it: Field) -> str:
     """The value of a field as a person writes it.
 
-    >>> from exifnorm import Ratio
-    >>> plain(Field("exif", "829a", "RATIONAL", 1, (Ratio(10, 1250),))), plain(Field("main", "0112", "SHORT", 1, (6,)))
+    >>> plain(Field("exif", "829a", "RATIONAL", 1, ((10, 1250),))), plain(Field("main", "0112", "SHORT", 1, (6,)))
     ('1/125 s', 'turn 90° clockwise to view')
     """
     if it.where == "xmp":
@@ -190,8 +189,7 @@ POSITION = tuple(key for half in _HALVES for key in half)  # the tags of the fou
 def position(fields: Dict[str, Field]) -> Optional[str]:
     """The position of the GPS directory in degrees, of its fields by tag; None if a part is missing.
 
-    >>> from exifnorm import Ratio
-    >>> angles = {"0002": (Ratio(46, 1), Ratio(30, 1), Ratio(0, 1)), "0004": (Ratio(7, 1), Ratio(1213, 100), Ratio(0, 1))}
+    >>> angles = {"0002": ((46, 1), (30, 1), (0, 1)), "0004": ((7, 1), (1213, 100), (0, 1))}
     >>> some = {key: Field("gps", key, "RATIONAL", 3, value) for key, value in angles.items()}
     >>> position({**some, "0001": Field("gps", "0001", "ASCII", 2, b"N\\0"), "0003": Field("gps", "0003", "ASCII", 2, b"E\\0")})
     '46.500000° N, 7.202167° E'
