@@ -10,6 +10,7 @@ import pytest
 from exifnorm_pictures.cli import main
 from exifnorm_pictures.fields import normal_form
 from exifnorm_pictures.fields.listing import exact
+from exifnorm_pictures.files.session import Session
 from exifnorm_pictures.judge import repairs
 from exifnorm_pictures.model import steps
 from exifnorm_pictures.model.found import EXIF, FoundBlock
@@ -293,20 +294,35 @@ def test_which_repairs_make_pictures_the_same(folder, capsys, monkeypatch):
     ],
 )
 @pytest.mark.parametrize("name", ["unsorted", "shared", "all"])
-def test_the_rest_of_a_repaired_file_stays(kind, holder, name):
-    """Also where the block becomes longer."""
+@pytest.mark.parametrize("piece", (1, 1000, 1 << 20))
+def test_the_rest_of_a_repaired_file_stays(kind, holder, name, piece, folder, monkeypatch):
+    """Also where the block becomes longer, and wherever a piece that is read of the file ends."""
+    monkeypatch.setattr(repaired_file, "_PIECE", piece)
     made = repairs.repaired(REFUSED[name])
-    found = [FoundBlock(EXIF, REFUSED[name], "Exif", "")]
-    octets, done = repaired_file.repaired_file(holder(REFUSED[name]), kind, found)
-    assert octets == holder(made.block) and done == made.steps
+    (folder / "a").write_bytes(holder(REFUSED[name]))
+    with open(folder / "a", "rb") as picture, open(folder / "b", "wb") as copy:
+        changes, done = repaired_file.changes(picture, kind, [FoundBlock(EXIF, REFUSED[name], "Exif", "")])
+        repaired_file.write(picture, changes, copy)
+    assert (folder / "b").read_bytes() == holder(made.block) and done == made.steps
 
 
-def test_a_block_that_is_not_found_once_is_not_replaced():
+def test_two_blocks_of_a_file_are_replaced(folder):
+    blocks = [REFUSED["unsorted"], REFUSED["all"]]
+    (folder / "a").write_bytes(jpeg(*map(app1, blocks)))
+    with open(folder / "a", "rb") as picture, open(folder / "b", "wb") as copy:
+        changes, _ = repaired_file.changes(picture, "JPEG", [FoundBlock(EXIF, it, "Exif", "") for it in reversed(blocks)])
+        repaired_file.write(picture, changes, copy)
+    assert (folder / "b").read_bytes() == jpeg(*(app1(repairs.repaired(it).block) for it in blocks))
+
+
+def test_a_block_that_is_not_found_once_is_not_replaced(folder):
     block = REFUSED["unsorted"]
     found = [FoundBlock(EXIF, block, "Exif", "")]
-    assert repaired_file.repaired_file(jpeg(app1(block), app1(block)), "JPEG", found) is None
-    assert repaired_file.repaired_file(jpeg(), "JPEG", found) is None
-    assert repaired_file.repaired_file(jpeg(app1(block)), "TIFF", found) is None
+    far = jpeg(app1(block), *[app1(bytes(60_000))] * 40, app1(block))  # more than one piece lies between
+    for kind, octets in (("JPEG", jpeg(app1(block), app1(block))), ("JPEG", far), ("JPEG", jpeg()), ("TIFF", jpeg(app1(block)))):
+        (folder / "a").write_bytes(octets)
+        with open(folder / "a", "rb") as picture:
+            assert repaired_file.changes(picture, kind, found) is None
 
 
 def test_mend_without_exiftool(folder, capsys, monkeypatch):
@@ -351,7 +367,7 @@ def test_mend_compares_exact_numbers(folder):
             + struct.pack(">II", *fraction)
         )
         (folder / "a.jpg").write_bytes(jpeg(app1(octets)))
-        listed += [it for it in mend._printed(str(folder / "a.jpg")) if "FocalLength" in it]
+        listed += [it for it in mend._printed(Session(), str(folder / "a.jpg")) if "FocalLength" in it]
     assert listed == ["[ExifIFD] FocalLength : 5.4 mm (5.40625)", "[ExifIFD] FocalLength : 5.4 mm (5.4)"]
     lines = [b"A : a", b"B : b", b"A : 1"]
     assert mend._with_numbers(lines) == lines and mend._with_numbers([*lines, b"C : b"]) == [

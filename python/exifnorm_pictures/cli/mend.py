@@ -51,8 +51,9 @@ def _counted(counts: "Counter[str]") -> str:
 
 def _mend_one(arguments: argparse.Namespace, picture: bytes, out: bytes) -> Tuple[int, str]:
     """The status of a picture, and by what it is counted."""
+    folder = os.fsencode(arguments.names[0]) if arguments.files_from or arguments.catalogue else None
     try:
-        mended = mend.mend(picture, out, arguments.session, bool(arguments.files_from or arguments.catalogue), arguments.lossless)
+        mended = mend.mend(picture, out, arguments.session, folder, arguments.lossless)
     except (mend.NotWritten, programs.Failed, programs.Missing, TooMuch) as error:
         names: Dict[Type[Exception], str] = {mend.NotWritten: "NotWritten", TooMuch: Problem.TOO_MUCH, programs.TooSlow: Problem.TOO_SLOW}
         names.update({programs.Missing: Problem.NEEDS_EXIFTOOL, mend.NeedsExifTool: Problem.NEEDS_EXIFTOOL})

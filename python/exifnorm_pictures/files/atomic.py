@@ -7,13 +7,12 @@ from __future__ import annotations
 
 import contextlib
 import os
-import shutil
 import stat
 from typing import BinaryIO, Callable, Iterator, Optional, Tuple
 
 from ..model.errors import Failure
 from ..model.texts import reason
-from . import opening, rights
+from . import copying, opening, rights
 
 Write = Callable[[BinaryIO], None]
 
@@ -27,14 +26,15 @@ def not_written(name: str, why: object) -> str:
     return f"{name} isn't written: {why}"
 
 
-def copy_new(source: bytes, out: bytes, like: bytes) -> None:
-    """Copies a file to `out`, with the times and the rights of the file `like`, or fewer. Raises `FileExistsError` if `out` exists."""
+def copy_new(source: bytes, out: bytes, like: bytes, check: Callable[[bytes], None] = lambda _: None) -> None:
+    """Copies a file to `out`, with the times and the rights of the file `like`, or fewer; its holes stay holes. Raises `FileExistsError` if
+    `out` exists, and whatever `check` raises of the copy, which it opens by another name before there is an `out`."""
     times, allowed = os.stat(like), rights.rights_of(like)
 
     def write(file: BinaryIO) -> None:
         with opening.reading(source) as given:
-            shutil.copyfileobj(given, file)
-        file.flush()
+            copying.copy(given.fileno(), file.fileno())
+        check(b"/proc/%d/fd/%d" % (os.getpid(), file.fileno()))
         rights.give(file.fileno(), allowed)
         os.utime(file.fileno(), ns=(times.st_atime_ns, times.st_mtime_ns))
 

@@ -63,6 +63,7 @@ FIELDS = 100_000  # of a block that are kept to be shown; the block is compared 
 FIELD_BYTES = 8 << 20  # of the fields of a block as JSON, here and in a catalogue of others; need 8.6 kB
 KEPT_BYTES = 8 << 20  # of the fields of a picture in a catalogue, all blocks together; need 3.8 kB
 WHOLE_FILE = 16 << 20  # bytes of a file of which no block was read, for a digest of all of it; with --whole any number
+MENDED_BYTES = 1 << 30  # of a picture with a refused block that `mend` copies for each remedy, which may write its holes; need 100 MB
 OUTPUT = 64 << 20  # bytes that another program may write about a picture
 
 # A catalogue may be a stranger's, too.

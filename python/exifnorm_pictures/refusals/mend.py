@@ -4,22 +4,23 @@ from __future__ import annotations
 
 import os
 import re
-import shutil
 import tempfile
 from collections import Counter
 from dataclasses import dataclass, field
-from typing import Callable, Dict, List, NamedTuple, Optional, Tuple
+from typing import Callable, Dict, List, NamedTuple, Optional, Tuple, Union
 
 from ..extract import programs
 from ..extract.extraction import blocks_of
-from ..files import atomic, opening
+from ..files import atomic, copying, opening
 from ..files.session import Session
 from ..judge.judge import judge_all
+from ..model.budgets import MENDED_BYTES, TooMuch
 from ..model.found import EXIF, REST, Blocks, damage
 from ..model.steps import Step, loses
-from ..model.texts import reason
+from ..model.texts import reason, shown_path
 from ..model.verdicts import ACCEPTED
-from .repaired_file import KINDS, repaired_file
+from . import repaired_file
+from .repaired_file import KINDS
 
 COPY, NONE = "copy", "none"
 STEPS = ("repair", "touch", "exiv2", "rebuild")
@@ -63,13 +64,14 @@ class Mended:
     is_written: bool = False  # whether there is a copy
 
 
-def mend(picture: bytes, out: bytes, session: Session, with_folders: bool = False, lossless: bool = False) -> Mended:
-    """Writes a copy with accepted blocks to the new file `out`. Raises `NotWritten`, `NeedsExifTool` and `programs.Failed`.
+def mend(picture: bytes, out: bytes, session: Session, folder: Optional[bytes] = None, lossless: bool = False) -> Mended:
+    """Writes a copy with accepted blocks to the new file `out`. Raises `NotWritten`, `NeedsExifTool`, `programs.Failed` and `TooMuch`.
 
     The steps are tried in the order of `STEPS`. The first that changes no printed value is used; if none is, the one that loses
     the fewest values and, among equals, adds the fewest; with `lossless` a copy that loses any isn't written. The values are those that
     ExifTool prints, without offsets. Without ExifTool only a repair that loses nothing is used. Temporary files are in the session's
-    folder; `with_folders` makes the folders of `out`.
+    folder. With `folder` the folders of `out` are made; no link may lead out of it. A copy is judged before it gets its name, since another
+    process may write to the picture meanwhile.
     """
     if os.path.lexists(out):
         raise NotWritten("the copy is there already")
@@ -77,22 +79,32 @@ def mend(picture: bytes, out: bytes, session: Session, with_folders: bool = Fals
         result, made = attempt(session, picture, own)
         if made is None or (lossless and result.lost):
             return result
-        if with_folders:
-            _make_folders(out)
-        _put(made, picture, out)
+        if folder is not None:
+            _make_folders(out, folder)
+
+        def check(copy: bytes) -> None:
+            name = os.path.join(os.fsencode(own), b"copy" + os.fsencode(_suffix(picture)))
+            os.symlink(copy, name)
+            written = blocks_of(name, session=session)
+            if written.problem or _refusals(written) or (made == picture and damage(it.what for it in written.not_read) != result.damage):
+                raise NotWritten("the picture was changed while it was copied")
+
+        _put(made, picture, out, check)
     result.is_written = True
     return result
 
 
 def attempt(session: Session, picture: bytes, room: str) -> Tuple[Mended, Optional[bytes]]:
     """What `mend` does with a picture, and the file that it would write, which is in the folder `room`; none if no step helps. Raises
-    `NeedsExifTool` and `programs.Failed`."""
+    `NeedsExifTool`, `programs.Failed` and `TooMuch`."""
     taken = blocks_of(picture, session=session)
     if taken.problem:
         return Mended(NONE, {}, problem=f"{taken.problem}: {taken.detail}"), None
     before, left = _refusals(taken), damage(it.what for it in taken.not_read)
     if not before:
         return Mended(COPY, {}, damage=left), picture
+    if os.stat(picture).st_size > MENDED_BYTES:
+        raise TooMuch(f"more than {MENDED_BYTES:,} bytes of a picture to mend")
     repair = _repaired(session, picture, taken, room)
     if programs.is_there("exiftool"):
         best = _best(session, picture, repair, room)
@@ -107,9 +119,13 @@ def attempt(session: Session, picture: bytes, room: str) -> Tuple[Mended, Option
     return Mended(step, before, lost, gained, "", repairs, left), os.fsencode(made)
 
 
-def _make_folders(out: bytes) -> None:
+def _make_folders(out: bytes, folder: bytes) -> None:
+    """Makes the folders of a copy below a folder."""
+    below, top = os.path.realpath(os.path.dirname(out)), os.path.realpath(folder)
+    if os.path.commonpath([below, top]) != top:
+        raise NotWritten(f"a link leads out of {shown_path(folder)}")
     try:
-        os.makedirs(os.path.dirname(out), exist_ok=True)
+        os.makedirs(below, exist_ok=True)
     except OSError as error:
         raise NotWritten(reason(error)) from error
 
@@ -123,13 +139,13 @@ class _Repair(NamedTuple):
 
 def _repaired(session: Session, picture: bytes, taken: Blocks, room: str) -> Optional[_Repair]:
     """A copy whose Exif blocks are repaired; none if that isn't enough, or changes anything else that is read of the file."""
-    with opening.reading(picture) as given:
-        made = repaired_file(given.read(), taken.type, taken.found)
-    if made is None:
-        return None
     name = os.path.join(room, "repair" + _suffix(picture))
-    with open(name, "xb") as copy:
-        copy.write(made[0])
+    with opening.reading(picture) as given:
+        made = repaired_file.changes(given, taken.type, taken.found)
+        if made is None:
+            return None
+        with open(name, "xb") as copy:
+            repaired_file.write(given, made[0], copy)
     after = blocks_of(os.fsencode(name), session=session)
     if after.problem or _refusals(after) or _beside_exif(after) != _beside_exif(taken):
         return None
@@ -142,10 +158,10 @@ def _beside_exif(taken: Blocks) -> List[object]:
     return [*((it.kind, it.name, it.data) for it in taken.found if it.kind != EXIF), *sorted(parts)]
 
 
-def _put(made: bytes, picture: bytes, out: bytes) -> None:
-    """Writes the bytes of `made` to `out`, with the times and the rights of the picture."""
+def _put(made: bytes, picture: bytes, out: bytes, check: Callable[[bytes], None]) -> None:
+    """Writes the bytes of `made` to `out`, with the times and the rights of the picture, after a check of the copy."""
     try:
-        atomic.copy_new(made, out, like=picture)
+        atomic.copy_new(made, out, picture, check)
     except OSError as error:
         raise NotWritten("the copy is there already" if isinstance(error, FileExistsError) else reason(error)) from error
 
@@ -163,17 +179,21 @@ def _suffix(picture: bytes) -> str:
     return extension[0].decode("ascii") if extension else ""
 
 
+def _copy(source: Union[bytes, str], name: str) -> None:
+    with opening.reading(source) as given, open(name, "xb") as copy:
+        copying.copy(given.fileno(), copy.fileno())
+
+
 def _best(session: Session, picture: bytes, repair: Optional[_Repair], room: str) -> Optional[Attempt]:
     suffix = _suffix(picture)
     first = os.path.join(room, "first" + suffix)
-    with opening.reading(picture) as given, open(first, "xb") as made_first:
-        shutil.copyfileobj(given, made_first)
+    _copy(picture, first)
     before = _printed(session, first)
     best: Optional[Attempt] = None
     for step in STEPS:
         made = os.path.join(room, step + suffix)
         if step != "repair":
-            shutil.copyfile(first, made)
+            _copy(first, made)
             if not _REMEDIES[step](session, made):
                 continue
         elif repair is None:

@@ -2,51 +2,103 @@
 
 from __future__ import annotations
 
+import os
 import struct
 import zlib
-from typing import Callable, Dict, Optional, Sequence, Tuple
+from typing import BinaryIO, Callable, Dict, List, NamedTuple, Optional, Sequence, Tuple
 
+from ..files import copying
 from ..judge import repairs
 from ..model.found import EXIF, FoundBlock
 from ..model.steps import Step
 
 _HEAD = b"Exif\0\0"  # which JPEG puts before a block, and some programs in WebP too
+_PIECE = 1 << 20  # bytes that are searched at once
 
 
-def repaired_file(picture: bytes, kind: str, found: Sequence[FoundBlock]) -> Optional[Tuple[bytes, Tuple[Step, ...]]]:
-    """The whole file with repaired Exif blocks, and the steps of the repairs. None if a block can't be repaired or isn't found in the file.
+class Change(NamedTuple):
+    """Bytes of a file that others replace, and where they are."""
 
-    `kind` is the type of the file: JPEG, PNG or WEBP.
+    at: int
+    old: bytes
+    new: bytes
+
+
+def changes(picture: BinaryIO, kind: str, found: Sequence[FoundBlock]) -> Optional[Tuple[List[Change], Tuple[Step, ...]]]:
+    """What replaces the refused Exif blocks of a file, in the order of the file, and the steps of the repairs. None if a block can't be
+    repaired or isn't found in the file. Raises `TooLong`.
+
+    `kind` is the type of the file: JPEG, PNG or WEBP. It is read in pieces.
     """
     wrap = _WRAPPERS.get(kind)
     if wrap is None:
         return None
-    now, steps = picture, ()  # type: bytes, Tuple[Step, ...]
-    for block in {it.data for it in found if it.kind == EXIF}:
+    replaced, steps = [], ()  # type: List[Change], Tuple[Step, ...]
+    for block in dict.fromkeys(it.data for it in found if it.kind == EXIF):
         made = repairs.repaired(block)
-        if made is None:
+        change = _change(picture, wrap, block, made.block) if made and made.steps else None
+        if made is None or (made.steps and change is None):
             return None
-        if not made.steps:
-            continue
-        replaced = _replaced(now, wrap, block, made.block)
-        if replaced is None:
-            return None
-        now, steps = replaced, steps + made.steps
-    if kind == "WEBP":
-        now = now[:4] + struct.pack("<I", len(now) - 8) + now[8:]
-    return (now, steps) if steps else None
+        if change:
+            replaced.append(change)
+            steps += made.steps
+    if kind == "WEBP" and replaced:
+        replaced.append(_length(picture, replaced))
+    replaced.sort()
+    if any(one.at + len(one.old) > other.at for one, other in zip(replaced, replaced[1:])):
+        return None  # one block is in another
+    return (replaced, steps) if steps else None
 
 
-def _replaced(picture: bytes, wrap: Callable[[bytes], bytes], old: bytes, new: bytes) -> Optional[bytes]:
-    """The file with another block. None unless the old one is in it exactly once, in a segment or chunk of its own."""
+def write(picture: BinaryIO, replaced: Sequence[Change], copy: BinaryIO) -> None:
+    """Writes a copy with these changes to an empty file. Holes stay holes. Raises `OSError`."""
+    source, target = picture.fileno(), copy.fileno()
+    begin = at = 0
+    for change in replaced:
+        copying.copy_range(source, begin, change.at, target, at)
+        at += change.at - begin
+        at += copying.put(target, change.new, at)
+        begin = change.at + len(change.old)
+    copying.copy_range(source, begin, os.fstat(source).st_size, target, at)
+
+
+def _change(picture: BinaryIO, wrap: Callable[[bytes], bytes], old: bytes, new: bytes) -> Optional[Change]:
+    """The place of a block and what replaces it. None unless it is in the file exactly once, in a segment or chunk of its own."""
     for head in (b"", _HEAD):
         try:
             before, after = wrap(head + old), wrap(head + new)
         except struct.error:  # the new block is too long for a segment
             return None
-        if picture.count(before) == 1:
-            return picture.replace(before, after)
+        places = _places(picture, before)
+        if len(places) == 1:
+            return Change(places[0], before, after)
     return None
+
+
+def _places(picture: BinaryIO, wanted: bytes) -> List[int]:
+    """Where some bytes are in a file: all places, but no more than two of each piece."""
+    picture.seek(0)
+    places: List[int] = []
+    window, start = b"", 0
+    while len(places) < 2:
+        piece = picture.read(max(_PIECE, len(wanted)))
+        window += piece
+        first = window.find(wanted)
+        second = window.find(wanted, first + 1) if first >= 0 else -1
+        places += [start + it for it in (first, second) if it >= 0]
+        if not piece:
+            break
+        kept = min(len(wanted) - 1, len(window))  # fewer bytes than are searched for, so that no place is found twice
+        start, window = start + len(window) - kept, window[len(window) - kept :]
+    return places
+
+
+def _length(picture: BinaryIO, replaced: Sequence[Change]) -> Change:
+    """The change of the number of bytes that a WebP begins with."""
+    picture.seek(4)
+    old = picture.read(4)
+    longer = sum(len(it.new) - len(it.old) for it in replaced)
+    return Change(4, old, struct.pack("<I", os.fstat(picture.fileno()).st_size + longer - 8))
 
 
 def _segment(data: bytes) -> bytes:
