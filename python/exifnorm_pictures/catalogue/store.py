@@ -390,10 +390,10 @@ class Catalogue:
         """The greatest number of a row."""
         return int(self.base.execute(f"SELECT ifnull(max(id), 0) FROM main.{table}").fetchone()[0])
 
-    def _is_kept(self, run: int, it: Picture) -> bool:
+    def _is_kept(self, run: int, picture: Picture) -> bool:
         """Whether a picture that can't be read now was known before. Its earlier results are kept."""
-        if it.problem in NO_BYTES:
-            words = (it.problem, it.detail, run, it.path)
+        if picture.problem in NO_BYTES:
+            words = (picture.problem, picture.detail, run, picture.path)
             return self.base.execute("UPDATE pictures SET problem = ?, detail = ?, run = ? WHERE path = ?", words).rowcount > 0
         return False
 
@@ -511,9 +511,9 @@ class Catalogue:
                 other.close()
 
 
-def unlike(one: Catalogue, other: Catalogue) -> NoCatalogue:
+def unlike(catalogue: Catalogue, other: Catalogue) -> NoCatalogue:
     """The error for two catalogues of which only one has XMP sidecars."""
-    has, has_not = (one, other) if one.has_sidecars() else (other, one)
+    has, has_not = (catalogue, other) if catalogue.has_sidecars() else (other, catalogue)
     return NoCatalogue(f"{has.name} was made by `index --sidecars`, and {has_not.name} without; make both alike")
 
 

@@ -213,10 +213,10 @@ def _tiff(directories: Directories, found: "hashlib.blake2b", budget: Budget, be
             _add(directories.stream, found, start, end)
 
 
-def _value(directories: Directories, it: Entry) -> bytes:
+def _value(directories: Directories, entry: Entry) -> bytes:
     """A value: numbers as texts, so that SHORT and LONG are alike."""
-    numbers = directories.numbers(it)
-    return b",".join(b"%d" % number for number in numbers) if numbers else directories.value(it)
+    numbers = directories.numbers(entry)
+    return b",".join(b"%d" % number for number in numbers) if numbers else directories.value(entry)
 
 
 def _strips(directories: Directories, page: Directory, by_tag: Dict[int, Entry], found: "hashlib.blake2b") -> Iterator[Tuple[int, int]]:

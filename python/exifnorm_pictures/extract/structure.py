@@ -87,14 +87,14 @@ class Walk:
     def four(self, place: int) -> int:
         return int(self._four.unpack_from(self.block, place)[0])
 
-    def number(self, it: Entry) -> int:
+    def number(self, entry: Entry) -> int:
         """The number of an entry with one, of type SHORT or LONG."""
-        return self.two(it.place + 8) if it.type in (3, 8) else it.last
+        return self.two(entry.place + 8) if entry.type in (3, 8) else entry.last
 
-    def value(self, it: Entry) -> bytes:
+    def value(self, entry: Entry) -> bytes:
         """The bytes of a value, as far as they are in the block."""
-        start = it.last if it.size > 4 else it.place + 8
-        return self.block[start : start + it.size]
+        start = entry.last if entry.size > 4 else entry.place + 8
+        return self.block[start : start + entry.size]
 
     def pictures(self) -> List[bytes]:
         """The thumbnail's JPEG and its strips, as far as they are in the block."""
@@ -102,8 +102,8 @@ class Walk:
         pairs = [[self._numbers(by[tag]) for tag in pair if tag in by] for pair in ((0x0201, 0x0202), (0x0111, 0x0117))]
         return [self.block[start : start + size] for pair in pairs if len(pair) == 2 for start, size in zip(*pair)]
 
-    def _numbers(self, it: Entry) -> List[int]:
-        return _numbers(self.block, self.order, it.place + 8, it.type, it.size, it.last)
+    def _numbers(self, entry: Entry) -> List[int]:
+        return _numbers(self.block, self.order, entry.place + 8, entry.type, entry.size, entry.last)
 
 
 class Notes(NamedTuple):

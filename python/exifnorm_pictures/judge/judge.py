@@ -39,12 +39,12 @@ def judge(kind: str, block: bytes, packs: bool = False, at: FoundBlock = _BY_ITS
     return _with_fields(Block(kind, *at[2:5], ACCEPTED, digest, None, None, len(block), octets), Fields(form), packs)
 
 
-def _with_fields(it: Block, fields: Fields, packs: bool) -> Block:
+def _with_fields(block: Block, fields: Fields, packs: bool) -> Block:
     """A block with its fields."""
     if not packs:
-        return it._replace(made=fields)
+        return block._replace(made=fields)
     kept = packed(fields.all())
-    return it._replace(packed=kept.octets, but_note=kept.but_note)
+    return block._replace(packed=kept.octets, but_note=kept.but_note)
 
 
 def _repaired(it: Block, block: bytes, packs: bool, budget: Optional[Budget]) -> Block:
@@ -58,25 +58,25 @@ def _repaired(it: Block, block: bytes, packs: bool, budget: Optional[Budget]) ->
     return _with_fields(known, Fields(found.form), packs)
 
 
-def _says_nothing(it: FoundBlock) -> bool:
+def _says_nothing(block: FoundBlock) -> bool:
     """Whether a block is there and has no field: an empty record, or a header with an empty directory and no further one."""
-    data = it.data
-    if it.kind == IPTC:
+    data = block.data
+    if block.kind == IPTC:
         return not data.strip(b"\0")
-    return it.kind == EXIF and len(data) <= 64 and data[:10] in _NOTHING and not any(data[10:])
+    return block.kind == EXIF and len(data) <= 64 and data[:10] in _NOTHING and not any(data[10:])
 
 
 _NOTHING = (b"II*\0\x08\0\0\0\0\0", b"MM\0*\0\0\0\x08\0\0")  # a header, and a directory without entries
 
 
-def _with_notes(it: Block, at: FoundBlock, blocks: Blocks) -> Block:
+def _with_notes(block: Block, at: FoundBlock, blocks: Blocks) -> Block:
     """An Exif block with the place of its MakerNote; the bytes that only it can reach are noted as not read."""
     if not structure.may_have_notes(at.data):
-        return it
+        return block
     found = structure.notes(at.data)
     if found.uncovered:
-        blocks.leave(found.words + ("" if it.name == NAMES[EXIF] else f" ({it.name})"), found.octets)
-    return it if found.place is None else it._replace(note=found.place if at.note is None else at.note)
+        blocks.leave(found.words + ("" if block.name == NAMES[EXIF] else f" ({block.name})"), found.octets)
+    return block if found.place is None else block._replace(note=found.place if at.note is None else at.note)
 
 
 def judge_all(blocks: Blocks, packs: bool = False) -> List[Block]:
@@ -112,9 +112,9 @@ def judge_all(blocks: Blocks, packs: bool = False) -> List[Block]:
     return found + extended.not_named() if extended else found
 
 
-def _within(it: Block, kept: int) -> Block:
+def _within(block: Block, kept: int) -> Block:
     """A block without its packed fields, if so many bytes are kept of a picture: its pages may share one long text."""
-    return it if kept <= KEPT_BYTES or it.packed is None else it._replace(packed=left_out(it.packed))
+    return block if kept <= KEPT_BYTES or block.packed is None else block._replace(packed=left_out(block.packed))
 
 
 class _Extended:
@@ -129,10 +129,10 @@ class _Extended:
         self.named = {part: xmp.Extensions(some, blocks.budget) for part, some in self.every.items()}
         self.none = xmp.Extensions({}, blocks.budget)
 
-    def judge(self, it: FoundBlock, packs: bool) -> Block:
+    def judge(self, block: FoundBlock, packs: bool) -> Block:
         """A packet with its extended XMP."""
-        part = _part(it)
-        return _judge_xmp(it, self.named.get(part, self.none), self.remaining.get(part, {}), packs)
+        part = _part(block)
+        return _judge_xmp(block, self.named.get(part, self.none), self.remaining.get(part, {}), packs)
 
     def not_named(self) -> List[Block]:
         """What no packet beside it named."""
@@ -140,9 +140,9 @@ class _Extended:
         return [_unreadable(XMP, it, len(it.data), hashlib.sha256(it.data).hexdigest(), "ExtensionNotNamed") for it in left]
 
 
-def _part(it: FoundBlock) -> str:
+def _part(block: FoundBlock) -> str:
     """The part of the file that a block is in, by its name: `MPF picture 2`, and nothing for the picture itself."""
-    part: str = it.name.partition(" of ")[2]
+    part: str = block.name.partition(" of ")[2]
     return part
 
 

@@ -147,10 +147,10 @@ class Compared(NamedTuple):
     is_new: bool = False
 
 
-def compared(session: Session, sides: Sides, one: Picture, other: Picture) -> Optional[Compared]:
+def compared(session: Session, sides: Sides, picture: Picture, other: Picture) -> Optional[Compared]:
     """Two pictures compared; None if a reading isn't known: a file has changed since, or there is no ExifTool."""
     known: Dict[int, Reading] = {}
-    for number, it in enumerate((one, other)):
+    for number, it in enumerate((picture, other)):
         kept = sides.maker_notes(number, it, unpacked)
         if kept is not None:
             known[number] = kept
@@ -158,7 +158,7 @@ def compared(session: Session, sides: Sides, one: Picture, other: Picture) -> Op
             return None
     missing = [number for number in (0, 1) if number not in known]
     try:
-        known.update(zip(missing, readings_of(session, [(one, other)[number].path for number in missing]) if missing else ()))
+        known.update(zip(missing, readings_of(session, [(picture, other)[number].path for number in missing]) if missing else ()))
     except (programs.Failed, programs.Missing):
         return None
     first, second = known[0], known[1]
@@ -166,9 +166,9 @@ def compared(session: Session, sides: Sides, one: Picture, other: Picture) -> Op
     return Compared(found) if found else Compared([], second.doubt or first.doubt, first.warnings != second.warnings)
 
 
-def is_there(it: Picture) -> bool:
+def is_there(picture: Picture) -> bool:
     """Whether the file is the one that was looked at."""
     try:
-        return is_marked_as(Stamp.of(os.stat(it.path)), it.marks)
+        return is_marked_as(Stamp.of(os.stat(picture.path)), picture.marks)
     except (OSError, ValueError):  # a name that has a NUL
         return False

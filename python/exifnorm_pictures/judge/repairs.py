@@ -113,16 +113,16 @@ def _changed_value(original: bytes, now: bytes, walk: Walk, budget: Budget) -> _
 # The steps, by the engine's causes
 
 
-def _value(it: Directory, one: Entry) -> Tuple[str, str]:
+def _value(directory: Directory, entry: Entry) -> Tuple[str, str]:
     """What is lost with an entry that is left out, and where."""
-    return "a value", f"{it.name} {one.tag:04x}"
+    return "a value", f"{directory.name} {entry.tag:04x}"
 
 
-def _without(block: bytes, walk: Walk, it: Directory, place: int) -> bytearray:
+def _without(block: bytes, walk: Walk, directory: Directory, place: int) -> bytearray:
     """The block without the entry at a place; the room is filled behind the directory."""
     out = bytearray(block)
-    out[place : it.next + 4] = out[place + 12 : it.next + 4] + bytes(12)
-    struct.pack_into(walk.order + "H", out, it.at, it.size - 1)
+    out[place : directory.next + 4] = out[place + 12 : directory.next + 4] + bytes(12)
+    struct.pack_into(walk.order + "H", out, directory.at, directory.size - 1)
     return out
 
 
@@ -154,13 +154,15 @@ def _overlap(block: bytes, walk: Walk) -> _Done:
     )
 
 
-def _values(walk: Walk, it: Directory) -> List[Tuple[bool, int, int, int]]:
+def _values(walk: Walk, directory: Directory) -> List[Tuple[bool, int, int, int]]:
     """The values of a directory: whether it may be moved, where it begins, its length, and the place of its offset."""
     found = [
-        (one.tag != MAKER_NOTE, one.last, one.size, one.place + 8) for one in it.entries if one.size > 4 and (it.name, one.tag) not in LINKS
+        (one.tag != MAKER_NOTE, one.last, one.size, one.place + 8)
+        for one in directory.entries
+        if one.size > 4 and (directory.name, one.tag) not in LINKS
     ]
-    by = {one.tag: one for one in it.entries}
-    if it.name == "thumb" and 0x0201 in by and 0x0202 in by:
+    by = {one.tag: one for one in directory.entries}
+    if directory.name == "thumb" and 0x0201 in by and 0x0202 in by:
         found.append((True, by[0x0201].last, by[0x0202].last, by[0x0201].place + 8))
     return found
 
@@ -248,18 +250,21 @@ def _empty(block: bytes, walk: Walk) -> _Done:
     return None
 
 
-def _without_directory(block: bytes, walk: Walk, it: Directory) -> Optional[bytearray]:
+def _without_directory(block: bytes, walk: Walk, directory: Directory) -> Optional[bytearray]:
     """The block without the pointer to a directory; None for the main directory."""
-    if it.name == "thumb":
-        return _put(block, walk, it.named_at, 0)
-    pointers = ((outer, one) for outer in walk.directories for one in outer.entries if one.place + 8 == it.named_at)
+    if directory.name == "thumb":
+        return _put(block, walk, directory.named_at, 0)
+    pointers = ((outer, one) for outer in walk.directories for one in outer.entries if one.place + 8 == directory.named_at)
     return next((_without(block, walk, outer, one.place) for outer, one in pointers), None)
 
 
 def _doubled(block: bytes, walk: Walk) -> _Done:
-    def value(one: Entry) -> Tuple[bytes, bytes]:
-        head = block[one.place : one.place + 8]
-        return head, block[one.last : one.last + one.size] if one.size > 4 else block[one.place + 8 : one.place + 8 + one.size]
+    def value(entry: Entry) -> Tuple[bytes, bytes]:
+        head = block[entry.place : entry.place + 8]
+        return (
+            head,
+            block[entry.last : entry.last + entry.size] if entry.size > 4 else block[entry.place + 8 : entry.place + 8 + entry.size],
+        )
 
     for it in walk.directories:
         by: Dict[int, Entry] = {}
@@ -290,10 +295,10 @@ def _unknown_type(block: bytes, walk: Walk) -> _Done:
     return _without(block, walk, it, one.place), f"tag {one.tag:04x} of unknown type {one.type} left out", *_value(it, one)
 
 
-def _with_type(block: bytes, walk: Walk, one: Entry, number: Optional[int] = None) -> bytearray:
+def _with_type(block: bytes, walk: Walk, entry: Entry, number: Optional[int] = None) -> bytearray:
     out = bytearray(block)
-    struct.pack_into(walk.order + "H", out, one.place + 2, 4)
-    return out if number is None else _put(bytes(out), walk, one.place + 8, number)
+    struct.pack_into(walk.order + "H", out, entry.place + 2, 4)
+    return out if number is None else _put(bytes(out), walk, entry.place + 8, number)
 
 
 def _pointer_form(block: bytes, walk: Walk) -> _Done:

@@ -102,16 +102,16 @@ class Stamp(NamedTuple):
     device: int = 0  # which another mount may change: it identifies a file together with the inode, and shows no edit
 
     @classmethod
-    def of(cls, it: os.stat_result) -> "Stamp":
-        marks = (it.st_size, it.st_mtime_ns, it.st_ctime_ns, it.st_ino, it.st_dev)
+    def of(cls, status: os.stat_result) -> "Stamp":
+        marks = (status.st_size, status.st_mtime_ns, status.st_ctime_ns, status.st_ino, status.st_dev)
         if min(marks) >= _LEAST and max(marks) <= _GREATEST:
             return tuple.__new__(cls, marks)
         return cls._make(map(_in_64_bits, marks))
 
 
-def is_as_before(one: Stamp, other: Stamp) -> bool:
+def is_as_before(stamp: Stamp, other: Stamp) -> bool:
     """Whether two stamps show no edit."""
-    return one[:4] == other[:4]
+    return stamp[:4] == other[:4]
 
 
 def is_marked_as(now: Stamp, marks: Sequence[Optional[int]]) -> bool:
@@ -233,15 +233,17 @@ class Picture(NamedTuple):
         return found
 
 
-def is_same_file(one: Picture, other: Picture) -> bool:
+def is_same_file(picture: Picture, other: Picture) -> bool:
     """Whether nothing was written to a file and its sidecars between two looks: size, times and inode are the same. Not if it may have been
     edited again without a mark, and not if it has rotted, so that something of it has another digest."""
-    if one.path and one == other:  # of one look; bytes have no path
+    if picture.path and picture == other:  # of one look; bytes have no path
         return True
-    has_marks = None not in one.marks and one.changed != RACY
-    digests = zip((one.sha256, one.file, one.not_read, *one.octets), (other.sha256, other.file, other.not_read, *other.octets))
+    has_marks = None not in picture.marks and picture.changed != RACY
+    digests = zip(
+        (picture.sha256, picture.file, picture.not_read, *picture.octets), (other.sha256, other.file, other.not_read, *other.octets)
+    )
     has_rotted = any(mine and its and mine != its for mine, its in digests)
-    return has_marks and one.marks == other.marks and one.sidecars == other.sidecars and not has_rotted
+    return has_marks and picture.marks == other.marks and picture.sidecars == other.sidecars and not has_rotted
 
 
 def _marks(stamp: Optional[Stamp]) -> Dict[str, Any]:

@@ -104,7 +104,7 @@ class Verdict:
         return self.result in (REFUSED, UNREADABLE) and not self.same_bytes
 
 
-def verdict(kind: str, one: Side, other: Side) -> Verdict:
+def verdict(kind: str, side: Side, other: Side) -> Verdict:
     """Compares the blocks of one kind.
 
     >>> verdict(EXIF, Side(ACCEPTED, "d", "o"), Side(ABSENT)).result
@@ -112,16 +112,16 @@ def verdict(kind: str, one: Side, other: Side) -> Verdict:
     >>> verdict(EXIF, Side(REFUSED, "", "o"), Side(REFUSED, "", "o"))
     Verdict(kind='exif', result='refused', same_bytes=True)
     """
-    statuses = {one.status, other.status}
+    statuses = {side.status, other.status}
     if statuses == {ABSENT}:
         return Verdict(kind, ABSENT)
-    same_bytes = one.octets == other.octets
-    if REFUSED in statuses and not same_bytes and all(it.digest or it.repaired or it.status == ABSENT for it in (one, other)):
-        return Verdict(kind, SAME_REPAIRED if (one.digest or one.repaired) == (other.digest or other.repaired) else DIFFERENT_REPAIRED)
+    same_bytes = side.octets == other.octets
+    if REFUSED in statuses and not same_bytes and all(it.digest or it.repaired or it.status == ABSENT for it in (side, other)):
+        return Verdict(kind, SAME_REPAIRED if (side.digest or side.repaired) == (other.digest or other.repaired) else DIFFERENT_REPAIRED)
     for status in (REFUSED, UNREADABLE):
         if status in statuses:
             return Verdict(kind, status, same_bytes)
-    if ABSENT in statuses or one.digest != other.digest:
+    if ABSENT in statuses or side.digest != other.digest:
         return Verdict(kind, DIFFERENT)
     return Verdict(kind, SAME, same_bytes)
 
@@ -131,19 +131,19 @@ def verdicts(one: Dict[str, Side], other: Dict[str, Side], kinds: Iterable[str] 
     return [verdict(kind, one.get(kind, Side(ABSENT)), other.get(kind, Side(ABSENT))) for kind in kinds]
 
 
-def left_open(one: Iterable[NotRead], other: Iterable[NotRead]) -> List[str]:
+def left_open(parts: Iterable[NotRead], other: Iterable[NotRead]) -> List[str]:
     """The parts that were not read and may differ: those without a digest, and those that only one picture has in these bytes.
 
     >>> left_open([NotRead("trailer", "d")], [NotRead("trailer", "d")]), left_open([NotRead("trailer", "d")], [])
     ([], ['trailer'])
     """
-    first, second = Counter(it for it in one), Counter(it for it in other)
+    first, second = Counter(it for it in parts), Counter(it for it in other)
     differ = (first - second) + (second - first)
     unknown = [it for it in first + second if not it.digest]
     return sorted({it.what for it in [*differ, *unknown]})
 
 
-def sentence(found: Sequence[Verdict], open_parts: Sequence[str] = ()) -> str:
+def sentence(verdicts: Sequence[Verdict], open_parts: Sequence[str] = ()) -> str:
     """The kinds that were compared, and the result, in a sentence.
 
     >>> sentence([Verdict(EXIF, SAME), Verdict(IPTC, SAME), Verdict(XMP, SAME)])
@@ -154,10 +154,10 @@ def sentence(found: Sequence[Verdict], open_parts: Sequence[str] = ()) -> str:
     parts = []
     for result in (SAME, SAME_BUT, SAME_NUMBERS, MOVED_NOTE, DIFFERENT, SAME_REPAIRED, DIFFERENT_REPAIRED, REFUSED, UNREADABLE, LEFT_OUT):
         for same_bytes in (False, True) if result in (REFUSED, UNREADABLE) else (None,):
-            kinds = [it.kind for it in found if it.result == result and same_bytes in (None, it.same_bytes)]
+            kinds = [it.kind for it in verdicts if it.result == result and same_bytes in (None, it.same_bytes)]
             if kinds:
                 parts.append(clause(kinds, result, bool(same_bytes)))
-    text = ", ".join(parts + none_of([it.kind for it in found if it.result == ABSENT]))
+    text = ", ".join(parts + none_of([it.kind for it in verdicts if it.result == ABSENT]))
     return text + (f"; {NOT_WHOLLY_READ}: {', '.join(open_parts)}" if open_parts else "")
 
 
@@ -181,7 +181,7 @@ def none_of(kinds: Sequence[str]) -> List[str]:
     return ["no " + " and no ".join(NAMES[it] for it in kinds)] if kinds else []
 
 
-def result(found: Sequence[Verdict], open_parts: Sequence[str] = ()) -> str:
+def result(verdicts: Sequence[Verdict], open_parts: Sequence[str] = ()) -> str:
     """The worst of some verdicts in a word or two: a known difference comes before an unknown result.
 
     >>> result([Verdict(EXIF, SAME), Verdict(XMP, ABSENT)], ["trailer"])
@@ -190,17 +190,17 @@ def result(found: Sequence[Verdict], open_parts: Sequence[str] = ()) -> str:
     'only bytes that a MakerNote can reach differ'
     """
     for word in (DIFFERENT, DIFFERENT_REPAIRED):
-        if any(it.result == word for it in found):
+        if any(it.result == word for it in verdicts):
             return word
     for status in (REFUSED, UNREADABLE):
-        if any(it.result == status and it.is_open for it in found):
+        if any(it.result == status and it.is_open for it in verdicts):
             return status
     if open_parts:
         return ONLY_REACHED if all(it.endswith(REACHED) for it in open_parts) else NOT_WHOLLY_READ
     for word in (SAME_REPAIRED, MOVED_NOTE, SAME_BUT, SAME_NUMBERS):
-        if any(it.result == word or (word == SAME_BUT and it.result == LEFT_OUT) for it in found):
+        if any(it.result == word or (word == SAME_BUT and it.result == LEFT_OUT) for it in verdicts):
             return word
     for status in (REFUSED, UNREADABLE):
-        if any(it.result == status for it in found):
+        if any(it.result == status for it in verdicts):
             return f"{status}, the same bytes"
     return SAME

@@ -137,17 +137,17 @@ def _chunks(work: Sequence[FoundFile]) -> Iterator[Sequence[FoundFile]]:
     yield chunk
 
 
-def _failed(it: FoundFile, why: str) -> Picture:
-    return looking.compared_with_before(it, Picture.of(it.path, it.root, it.stamp, problem=Problem.TOOL_FAILED, detail=why))
+def _failed(file: FoundFile, why: str) -> Picture:
+    return looking.compared_with_before(file, Picture.of(file.path, file.root, file.stamp, problem=Problem.TOOL_FAILED, detail=why))
 
 
-def _here(it: FoundFile, answer: Picture) -> Picture:
+def _here(file: FoundFile, answer: Picture) -> Picture:
     """A worker's result with the name and the marks that the file has here. A worker doesn't know which problems it had at the last run."""
     if answer.problem == Problem.VANISHED:
         detail = f"the worker has no such file: {os.fsdecode(answer.path)!r}"
-        return looking.compared_with_before(it, Picture.of(it.path, it.root, None, problem=Problem.UNREADABLE, detail=detail))
-    same = answer.stamp is not None and it.stamp is not None and answer.stamp.size == it.stamp.size
-    stamp = it.stamp if same else None
+        return looking.compared_with_before(file, Picture.of(file.path, file.root, None, problem=Problem.UNREADABLE, detail=detail))
+    same = answer.stamp is not None and file.stamp is not None and answer.stamp.size == file.stamp.size
+    stamp = file.stamp if same else None
     if stamp and answer.stamp and answer.stamp.changed == RACY:
         stamp = stamp._replace(changed=RACY)
-    return looking.compared_with_before(it, answer._replace(path=it.path, root=it.root).stamped(stamp))
+    return looking.compared_with_before(file, answer._replace(path=file.path, root=file.root).stamped(stamp))

@@ -154,12 +154,12 @@ def _first(row: Tuple[int]) -> int:
     return row[0]
 
 
-def _is_unchanged(it: FoundFile, known: Optional[Known], how: How = How()) -> bool:
-    if known is None or known.stamp is None or it.stamp is None or (how.pixels and known.coded_picture is None):
+def _is_unchanged(file: FoundFile, known: Optional[Known], how: How = How()) -> bool:
+    if known is None or known.stamp is None or file.stamp is None or (how.pixels and known.coded_picture is None):
         return False
-    if known.sidecars != (marks(it.path, it.sidecars) if it.sidecars else ""):
+    if known.sidecars != (marks(file.path, file.sidecars) if file.sidecars else ""):
         return False
-    return is_as_before(known.stamp, it.stamp) and not _worth_another(known.problem)
+    return is_as_before(known.stamp, file.stamp) and not _worth_another(known.problem)
 
 
 def _worth_another(problem: Optional[str]) -> bool:
@@ -263,11 +263,11 @@ class _Looking:
             self.versions.update({it: _version(it, self.options.how.seconds) for it in new})
             self.catalogue.set_versions(self.run, self.version, self.versions.get(EXIFTOOL), self.versions.get(EXIV2))
 
-    def count(self, it: Picture, lines: Optional[Lines]) -> None:
+    def count(self, picture: Picture, lines: Optional[Lines]) -> None:
         """Counts and reports a picture."""
-        self.work.counts[it.state] += 1
+        self.work.counts[picture.state] += 1
         if lines:
-            self.print_lines(lines(it))
+            self.print_lines(lines(picture))
 
     def print_lines(self, lines: Iterable[str]) -> None:
         """Prints lines about pictures."""

@@ -25,51 +25,51 @@ from .walk import FoundFile
 FINE, COARSE = 20_000_000, 2_000_000_000
 
 
-def look(it: FoundFile, how: How, session: Session, packs: bool = True) -> Picture:
+def look(file: FoundFile, how: How, session: Session, packs: bool = True) -> Picture:
     """The result for one file, its fields packed for a catalogue unless that isn't asked for. An error of any kind affects only this file."""
-    return compared_with_before(it, _look(it, how, session, packs))
+    return compared_with_before(file, _look(file, how, session, packs))
 
 
-def compared_with_before(it: FoundFile, found: Picture) -> Picture:
+def compared_with_before(file: FoundFile, picture: Picture) -> Picture:
     """The result for a file, marked as known if the last run had the same problem with it."""
-    return found._replace(is_known=True) if found.problem and found.problem == it.problem else found
+    return picture._replace(is_known=True) if picture.problem and picture.problem == file.problem else picture
 
 
-def _look(it: FoundFile, how: How, session: Session, packs: bool) -> Picture:
+def _look(file: FoundFile, how: How, session: Session, packs: bool) -> Picture:
     began = _now()
     try:
-        marks = sidecars.marks(it.path, it.sidecars, lambda *times: _is_racy(times, began)) if it.sidecars else ""
-        blocks, judged = _read(it, how, session, packs)
-        whole_file = file_digest(it.path, blocks, how.whole)
-        if it.sidecars:
-            whole_file = sidecars.with_sidecars(whole_file, it.path, it.sidecars)
-        notes = _maker_notes(session, it.path, judged) if how.maker_notes else None
-        pixels = _pixels(it.path, blocks) if how.pixels else (None, "", "", None)
+        marks = sidecars.marks(file.path, file.sidecars, lambda *times: _is_racy(times, began)) if file.sidecars else ""
+        blocks, judged = _read(file, how, session, packs)
+        whole_file = file_digest(file.path, blocks, how.whole)
+        if file.sidecars:
+            whole_file = sidecars.with_sidecars(whole_file, file.path, file.sidecars)
+        notes = _maker_notes(session, file.path, judged) if how.maker_notes else None
+        pixels = _pixels(file.path, blocks) if how.pixels else (None, "", "", None)
     except LibraryMissing:  # an OSError too, but not of this file
         raise
     except programs.Failed as error:
-        return failed(it, str(error))
+        return failed(file, str(error))
     except OSError as error:
-        return Picture.of(it.path, it.root, problem=Problem.UNREADABLE, detail=reason(error))
+        return Picture.of(file.path, file.root, problem=Problem.UNREADABLE, detail=reason(error))
     except programs.Missing as error:
-        return Picture.found(it.path, it.root, it.stamp, Blocks(problem=Problem.NEEDS_EXIFTOOL, detail=str(error)))
+        return Picture.found(file.path, file.root, file.stamp, Blocks(problem=Problem.NEEDS_EXIFTOOL, detail=str(error)))
     except MemoryError:
-        return failed(it, "out of memory")
+        return failed(file, "out of memory")
     except Exception as error:  # an error of a reader affects only this file
-        return Picture.found(it.path, it.root, it.stamp, extraction.failed_here(error, session))
+        return Picture.found(file.path, file.root, file.stamp, extraction.failed_here(error, session))
     coded, beside, damage, whole = pixels
     more = {"notes": notes, "coded_picture": coded, "beside": beside, "damage": damage, "sha256": whole, "sidecars": marks}
-    return Picture.found(it.path, it.root, _unless_changed(it, began), blocks, judged, file=whole_file, **more)
+    return Picture.found(file.path, file.root, _unless_changed(file, began), blocks, judged, file=whole_file, **more)
 
 
-def _read(it: FoundFile, how: How, session: Session, packs: bool) -> Tuple[Blocks, List[Block]]:
+def _read(file: FoundFile, how: How, session: Session, packs: bool) -> Tuple[Blocks, List[Block]]:
     """The blocks of a file and its sidecars, and what they mean. A file over a limit has a problem, and so has one for which a program takes too long."""
     try:
-        blocks = extraction.blocks_of(it.path, how.whole, session)
+        blocks = extraction.blocks_of(file.path, how.whole, session)
         if blocks.problem == Problem.NO_FILE:  # which was there when its folder was listed
             blocks = Blocks(problem=Problem.VANISHED, detail=Problem.VANISHED.text)
-        if it.sidecars:
-            sidecars.add(blocks, it.path, it.sidecars)
+        if file.sidecars:
+            sidecars.add(blocks, file.path, file.sidecars)
         return blocks, [] if blocks.problem else judge.judge_all(blocks, packs)
     except TooMuch as why:
         return extraction.too_much(why), []
@@ -105,9 +105,9 @@ def file_digest(path: bytes, blocks: Blocks, whole: bool) -> str:
     return digest_of_file(path, WHOLE_FILE if not whole else 1 << 62)
 
 
-def failed(it: FoundFile, why: str) -> Picture:
+def failed(file: FoundFile, why: str) -> Picture:
     """The result for a file at which a program or a process failed."""
-    return compared_with_before(it, Picture.found(it.path, it.root, it.stamp, Blocks(problem=Problem.TOOL_FAILED, detail=why)))
+    return compared_with_before(file, Picture.found(file.path, file.root, file.stamp, Blocks(problem=Problem.TOOL_FAILED, detail=why)))
 
 
 def _now() -> int:
@@ -118,24 +118,24 @@ def _now() -> int:
         return 0
 
 
-def _unless_changed(it: FoundFile, began: int) -> Optional[Stamp]:
+def _unless_changed(file: FoundFile, began: int) -> Optional[Stamp]:
     """The marks that identify the file; none if it was written to meanwhile, so that the next run looks again.
 
     If it was changed so shortly before that a further edit could leave the same times, they are kept with a ctime that no file has, as
     git does it: the next run looks again, and a file that moves is still recognised.
     """
     try:
-        now = os.stat(it.path)
+        now = os.stat(file.path)
     except (OSError, ValueError):
         return None
-    if it.stamp is None or it.stamp != Stamp.of(now):
+    if file.stamp is None or file.stamp != Stamp.of(now):
         return None
     times = (now.st_mtime_ns, now.st_ctime_ns)
     if began - max(times) > COARSE:
-        return it.stamp
+        return file.stamp
     if not began:
-        return it.stamp._replace(changed=RACY)
-    return it.stamp._replace(changed=RACY) if _is_racy(times, began) else it.stamp
+        return file.stamp._replace(changed=RACY)
+    return file.stamp._replace(changed=RACY) if _is_racy(times, began) else file.stamp
 
 
 def _is_racy(times: Sequence[int], began: int) -> bool:

@@ -96,16 +96,16 @@ def _below(
                 yield FoundFile(it.path, top, _stamp(it), known.of(it.name))
 
 
-def _leads_to_folder(it: "os.DirEntry[bytes]") -> bool:
+def _leads_to_folder(entry: "os.DirEntry[bytes]") -> bool:
     try:
-        return it.is_dir()
+        return entry.is_dir()
     except OSError:  # a link that leads to itself
         return False
 
 
-def _stamp(it: "os.DirEntry[bytes]") -> Optional[Stamp]:
+def _stamp(entry: "os.DirEntry[bytes]") -> Optional[Stamp]:
     try:
-        return Stamp.of(it.stat())
+        return Stamp.of(entry.stat())
     except OSError:
         return None
 

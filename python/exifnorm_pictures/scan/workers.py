@@ -77,9 +77,9 @@ def look_at_some(task: Task, how: How) -> Batch:
     return batch(task.file, entries, task.chunk[len(entries) :], how.lines)
 
 
-def _look(it: FoundFile, how: How) -> Picture:
+def _look(file: FoundFile, how: How) -> Picture:
     """A process's result for a file."""
-    return look(it, how, _sessions[-1])
+    return look(file, how, _sessions[-1])
 
 
 _sessions: List[Session] = []  # in a process of a pool its one session: a task of a pool is given nothing that its process has made

@@ -49,9 +49,9 @@ def _says(text: "str | None") -> bool:
     return bool(text) and not text.isspace()  # type: ignore[union-attr]
 
 
-def _language(it: Element, outer: str) -> str:
+def _language(element: Element, outer: str) -> str:
     """The language of an element's texts, which it has from the elements around it unless it has its own."""
-    found = it.get(_LANG)
+    found = element.get(_LANG)
     if found is None:
         return outer
     if len(found) > LANGUAGE:
@@ -115,28 +115,28 @@ def _resource(uri: str) -> Resource:
     return Resource(uri)
 
 
-def _value(it: Element, language: str) -> Value:
+def _value(element: Element, language: str) -> Value:
     """The value of a property element."""
-    own = {name: text for name, text in it.attrib.items() if name != _LANG}
+    own = {name: text for name, text in element.attrib.items() if name != _LANG}
     if not own:
-        return _content(it, language)
+        return _content(element, language)
     if own == {_PARSE_TYPE: "Resource"}:
-        if _says(it.text):
+        if _says(element.text):
             raise Unusual
-        return Node(tuple(_properties(it, language)))
-    if len(it) or _says(it.text):
+        return Node(tuple(_properties(element, language)))
+    if len(element) or _says(element.text):
         raise Unusual
     if list(own) == [_RESOURCE]:
         return _resource(own[_RESOURCE])
     return _by_attributes(own, language)
 
 
-def _content(it: Element, language: str) -> Value:
-    if not len(it):
-        return Literal(it.text or "", language)
-    if len(it) > 1 or _says(it.text) or _says(it[0].tail) or _ABOUT in it[0].attrib or "about" in it[0].attrib:
+def _content(element: Element, language: str) -> Value:
+    if not len(element):
+        return Literal(element.text or "", language)
+    if len(element) > 1 or _says(element.text) or _says(element[0].tail) or _ABOUT in element[0].attrib or "about" in element[0].attrib:
         raise Unusual
-    return Node(tuple(_node(it[0], language)))
+    return Node(tuple(_node(element[0], language)))
 
 
 def _by_attributes(own: Dict[str, str], language: str) -> Node:

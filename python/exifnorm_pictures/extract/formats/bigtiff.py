@@ -105,17 +105,17 @@ class BigDirectories(Directories):
         except struct.error:
             raise Broken(f"the entry {tag:04x} has a number of more than four bytes") from None
 
-    def place_of(self, it: Entry) -> Optional[Tuple[int, int]]:
-        start = self.number(it.last)
-        return (start, start + it.size) if _HEADER <= start and start + it.size <= self.size else None
+    def place_of(self, entry: Entry) -> Optional[Tuple[int, int]]:
+        start = self.number(entry.last)
+        return (start, start + entry.size) if _HEADER <= start and start + entry.size <= self.size else None
 
     def part(self, start: int, end: int) -> bytes:
         if self._inside.get(start, -1) >= end:
             return read_at(self.stream, start, end - start)
         return super().part(start, end)
 
-    def numbers(self, it: Entry) -> List[int]:
-        if not isinstance(it, WideEntry):
-            return super().numbers(it)
-        data = self.value(it)
-        return [number for number, in struct.iter_unpack(self.order + "Q", data)] if len(data) == it.size else []
+    def numbers(self, entry: Entry) -> List[int]:
+        if not isinstance(entry, WideEntry):
+            return super().numbers(entry)
+        data = self.value(entry)
+        return [number for number, in struct.iter_unpack(self.order + "Q", data)] if len(data) == entry.size else []

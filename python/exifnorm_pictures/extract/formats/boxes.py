@@ -77,30 +77,30 @@ def boxes_of_file(blocks: Blocks, stream: Stream, is_whole: Callable[[Set[bytes]
     return found
 
 
-def content(stream: Stream, it: Box) -> bytes:
+def content(stream: Stream, box: Box) -> bytes:
     """The content of a box, which is kept. Raises `Broken` and `TooMuch`."""
-    budget_of(stream).spend(BOX_BYTES, it.end - it.start)
-    return read_at(stream, it.start, it.end - it.start)
+    budget_of(stream).spend(BOX_BYTES, box.end - box.start)
+    return read_at(stream, box.start, box.end - box.start)
 
 
-def add_xmp(blocks: Blocks, stream: Stream, it: Box) -> None:
+def add_xmp(blocks: Blocks, stream: Stream, box: Box) -> None:
     """Adds the packet of a box, in which cameras keep room for one. Raises `Broken` and `TooMuch`."""
-    data = content(stream, it)
+    data = content(stream, box)
     if data.strip(b"\0"):
-        blocks.add(XMP, data, f"{it.kind.decode('ascii').strip()} box at {it.at}")
+        blocks.add(XMP, data, f"{box.kind.decode('ascii').strip()} box at {box.at}")
 
 
 # How a packet begins, which other XML doesn't: with a wrapper, or with its first element after a declaration
 _PACKET = re.compile(rb"(?:\xef\xbb\xbf)?\s*(?:<\?xml\s[^>]{0,200}\?>\s*)?<(?:\?xpacket\s|(?:x:xmpmeta|x:xapmeta|rdf:RDF)\b)")
 
 
-def add_xml(blocks: Blocks, stream: Stream, it: Box) -> None:
+def add_xml(blocks: Blocks, stream: Stream, box: Box) -> None:
     """Adds the packet of a box xml, or names the box if it has other XML. Raises `Broken` and `TooMuch`."""
-    data = content(stream, it)
+    data = content(stream, box)
     if _PACKET.match(data[:1024]):
-        blocks.add(XMP, data, f"xml box at {it.at}")
+        blocks.add(XMP, data, f"xml box at {box.at}")
     else:
-        leave(blocks, it.name, stream, it.start, it.end)
+        leave(blocks, box.name, stream, box.start, box.end)
 
 
 class Fields:

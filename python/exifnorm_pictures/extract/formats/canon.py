@@ -13,10 +13,10 @@ VERSION, MAIN, EXIF, MAKER_NOTE, GPS = b"CNCV", b"CMT1", b"CMT2", b"CMT3", b"CMT
 _WITHOUT = frozenset((b"CCTP", b"CTBO", b"THMB", b"free"))  # kinds and places of tracks, thumbnail
 
 
-def parts(blocks: Blocks, stream: Stream, it: Box) -> Dict[bytes, Box]:
+def parts(blocks: Blocks, stream: Stream, box: Box) -> Dict[bytes, Box]:
     """The version and the structures of the box. Other boxes in it are named. Raises `Broken`."""
     found: Dict[bytes, Box] = {}
-    for one in boxes(stream, it.start, it.end):
+    for one in boxes(stream, box.start, box.end):
         if one.kind in (VERSION, MAIN, EXIF, MAKER_NOTE, GPS):
             if one.kind in found:
                 raise Broken(f"a second {one.name}")
@@ -26,8 +26,8 @@ def parts(blocks: Blocks, stream: Stream, it: Box) -> Dict[bytes, Box]:
     return found
 
 
-def leave_all(blocks: Blocks, stream: Stream, it: Box) -> None:
+def leave_all(blocks: Blocks, stream: Stream, box: Box) -> None:
     """Names the structures, in a picture whose Exif is elsewhere. Raises `Broken`."""
-    for one in parts(blocks, stream, it).values():
+    for one in parts(blocks, stream, box).values():
         if one.kind != VERSION:
             leave(blocks, f"{one.name} of Canon", stream, one.start, one.end)

@@ -100,9 +100,9 @@ class _Joined(Directories):
             raise _NotOne
         return [it if it.size <= 4 else it._replace(last=self._moved(it, start, end)) for it in found.entries]
 
-    def _moved(self, it: Entry, start: int, end: int) -> bytes:
-        place = start + self.number(it.last)
-        return self._packed(place if place + it.size <= end else NOWHERE)
+    def _moved(self, entry: Entry, start: int, end: int) -> bytes:
+        place = start + self.number(entry.last)
+        return self._packed(place if place + entry.size <= end else NOWHERE)
 
     def _packed(self, number: int) -> bytes:
         return struct.pack(self.order + "I", number)
@@ -126,8 +126,8 @@ def _laid_out(note: bytes, budget: Budget) -> bytes:
 _NOTHING: Tuple[List[bytes], ...] = ([], [b"II*"], [b"MM\0*"])  # Canon writes a second header at the end, with an offset of 0
 
 
-def _insert(entries: List[Entry], it: Entry) -> None:
+def _insert(entries: List[Entry], entry: Entry) -> None:
     """Inserts an entry in the order of the tags. Raises `_NotOne` if its tag is there."""
-    if any(one.tag == it.tag for one in entries):
+    if any(one.tag == entry.tag for one in entries):
         raise _NotOne
-    entries.insert(next((number for number, one in enumerate(entries) if one.tag > it.tag), len(entries)), it)
+    entries.insert(next((number for number, one in enumerate(entries) if one.tag > entry.tag), len(entries)), entry)

@@ -89,16 +89,16 @@ class _Track:
             for it in boxes(stream, one.start, one.end):
                 self._sort(it, waiting)
 
-    def _sort(self, it: Box, waiting: List[Box]) -> None:
-        if it.kind in (b"free", b"skip"):
+    def _sort(self, box: Box, waiting: List[Box]) -> None:
+        if box.kind in (b"free", b"skip"):
             return
-        if it.kind in self._found:
-            raise Broken(f"a second {it.name} in a track")
-        if it.kind in _BELOW_TRACK:
-            waiting.append(it)
-        elif it.kind not in _OF_TRACKS:
-            leave(self.blocks, f"{it.name} in a track", self.stream, it.start, it.end)
-        self._found[it.kind] = it
+        if box.kind in self._found:
+            raise Broken(f"a second {box.name} in a track")
+        if box.kind in _BELOW_TRACK:
+            waiting.append(box)
+        elif box.kind not in _OF_TRACKS:
+            leave(self.blocks, f"{box.name} in a track", self.stream, box.start, box.end)
+        self._found[box.kind] = box
 
     def take(self) -> None:
         """Names the samples, if they aren't pixels."""

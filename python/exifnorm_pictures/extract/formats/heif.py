@@ -88,8 +88,8 @@ class _Reader:
             if item.kind not in PICTURES:
                 self._take(item, names)
 
-    def _leave(self, what: str, it: Box) -> None:
-        leave(self.blocks, what, self.stream, it.start, it.end)
+    def _leave(self, what: str, box: Box) -> None:
+        leave(self.blocks, what, self.stream, box.start, box.end)
 
     def _properties(self, iprp: Box) -> None:
         for it in boxes(self.stream, iprp.start, iprp.end):

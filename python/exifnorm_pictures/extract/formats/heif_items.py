@@ -65,29 +65,29 @@ class Items:
         self._auxiliary: List[int] = []
         self._thumbnails: List[int] = []
 
-    def read(self, it: Box) -> None:
+    def read(self, box: Box) -> None:
         """Reads a box of `READERS`. Raises `Broken` and `TooMuch`."""
-        READERS[it.kind](self, it)
+        READERS[box.kind](self, box)
 
-    def _full(self, it: Box) -> "tuple[int, Fields]":
+    def _full(self, box: Box) -> "tuple[int, Fields]":
         """The version and the fields of a box."""
-        fields = Fields(content(self.stream, it), it.name)
+        fields = Fields(content(self.stream, box), box.name)
         version = fields.number(1)
         fields.number(3)
         return version, fields
 
-    def _hdlr(self, it: Box) -> None:
-        _, fields = self._full(it)
+    def _hdlr(self, box: Box) -> None:
+        _, fields = self._full(box)
         fields.number(4)
         if fields.number(4) != int.from_bytes(b"pict", "big"):
             raise Broken("the meta box is of no picture")
 
-    def _pitm(self, it: Box) -> None:
-        version, fields = self._full(it)
+    def _pitm(self, box: Box) -> None:
+        version, fields = self._full(box)
         self.primary = fields.number(4 if version else 2)
 
-    def _idat(self, it: Box) -> None:
-        self.idat = it
+    def _idat(self, box: Box) -> None:
+        self.idat = box
 
     def _iinf(self, it: Box) -> None:
         version, fields = self._full(it)
@@ -96,11 +96,11 @@ class Items:
         if not count == len(self.items) == len({item.number for item in self.items}):
             raise Broken("the list of items is wrong")
 
-    def _infe(self, it: Box) -> Item:
+    def _infe(self, box: Box) -> Item:
         self.budget.spend(ITEMS)
-        version, fields = self._full(it)
+        version, fields = self._full(box)
         if version not in (2, 3):
-            raise Broken(f"an item of version {version} at {it.at}")
+            raise Broken(f"an item of version {version} at {box.at}")
         number = fields.number(2 if version == 2 else 4)
         is_protected = fields.number(2) != 0
         kind = fields.number(4).to_bytes(4, "big")
@@ -110,8 +110,8 @@ class Items:
         type_ = fields.text()
         return Item(number, kind, is_protected, type_, fields.text() if fields.at < len(fields.data) else b"")
 
-    def _iloc(self, it: Box) -> None:
-        version, fields = self._full(it)
+    def _iloc(self, box: Box) -> None:
+        version, fields = self._full(box)
         sizes = fields.number(2)
         offset, length, base, index = sizes >> 12, sizes >> 8 & 15, sizes >> 4 & 15, sizes & 15 if version else 0
         if version > 2 or not {offset, length, base, index} <= {0, 4, 8}:

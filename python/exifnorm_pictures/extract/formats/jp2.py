@@ -57,34 +57,34 @@ def _is_whole(kinds: Set[bytes]) -> bool:
     return bool({b"jp2c", b"ftbl", b"mdat"} & kinds)
 
 
-def _take(blocks: Blocks, stream: Stream, it: Box, depth: int) -> None:
+def _take(blocks: Blocks, stream: Stream, box: Box, depth: int) -> None:
     """Adds the blocks of a box, or names it."""
-    if it.kind in _NESTED:
+    if box.kind in _NESTED:
         if depth > _DEEPEST:
             raise Broken(f"more than {_DEEPEST} boxes in one another")
-        for one in boxes(stream, it.start, it.end):
+        for one in boxes(stream, box.start, box.end):
             _take(blocks, stream, one, depth + 1)
-    elif it.kind == b"uuid":
-        _uuid(blocks, stream, it)
-    elif it.kind == b"xml ":
-        add_xml(blocks, stream, it)
-    elif it.kind not in _WITHOUT:
-        leave(blocks, it.name, stream, it.start, it.end)
+    elif box.kind == b"uuid":
+        _uuid(blocks, stream, box)
+    elif box.kind == b"xml ":
+        add_xml(blocks, stream, box)
+    elif box.kind not in _WITHOUT:
+        leave(blocks, box.name, stream, box.start, box.end)
 
 
-def _uuid(blocks: Blocks, stream: Stream, it: Box) -> None:
-    where = f"uuid box at {it.at}"
-    if it.uuid in _KINDS:
-        kind, data = _KINDS[it.uuid], content(stream, it)
+def _uuid(blocks: Blocks, stream: Stream, box: Box) -> None:
+    where = f"uuid box at {box.at}"
+    if box.uuid in _KINDS:
+        kind, data = _KINDS[box.uuid], content(stream, box)
         blocks.add(kind, data[len(_SIX) :] if kind == EXIF and data.startswith(_SIX) else data, where)
-    elif it.uuid == XMP_UUID:
-        add_xmp(blocks, stream, it)
-    elif it.uuid == _PHOTOSHOP:
-        photoshop.add_resources(blocks, [(where, content(stream, it))])
-    elif it.uuid == _GEOTIFF and read_at(stream, it.start, min(4, it.end - it.start)) in tiff.HEADS:
-        _geotiff(blocks, Window(stream, it.start, it.end - it.start), where)
-    elif it.uuid not in _SETTINGS or it.end - it.start > 4:
-        leave(blocks, it.name, stream, it.start, it.end)
+    elif box.uuid == XMP_UUID:
+        add_xmp(blocks, stream, box)
+    elif box.uuid == _PHOTOSHOP:
+        photoshop.add_resources(blocks, [(where, content(stream, box))])
+    elif box.uuid == _GEOTIFF and read_at(stream, box.start, min(4, box.end - box.start)) in tiff.HEADS:
+        _geotiff(blocks, Window(stream, box.start, box.end - box.start), where)
+    elif box.uuid not in _SETTINGS or box.end - box.start > 4:
+        leave(blocks, box.name, stream, box.start, box.end)
 
 
 def _geotiff(blocks: Blocks, stream: Window, where: str) -> None:

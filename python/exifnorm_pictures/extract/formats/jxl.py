@@ -40,20 +40,20 @@ def _is_whole(kinds: Set[bytes]) -> bool:
     return b"jxlc" in kinds or b"jxlp" in kinds
 
 
-def _take(blocks: Blocks, stream: Stream, it: Box) -> None:
-    what = it.name
-    if it.kind == b"xml ":
-        return add_xml(blocks, stream, it)
-    if it.uuid == XMP_UUID:
-        return add_xmp(blocks, stream, it)
-    if it.kind == b"Exif":
-        block = item_exif.block_of(content(stream, it))
+def _take(blocks: Blocks, stream: Stream, box: Box) -> None:
+    what = box.name
+    if box.kind == b"xml ":
+        return add_xml(blocks, stream, box)
+    if box.uuid == XMP_UUID:
+        return add_xmp(blocks, stream, box)
+    if box.kind == b"Exif":
+        block = item_exif.block_of(content(stream, box))
         if block is not None:
-            return blocks.add(EXIF, block, f"Exif box at {it.at}")
+            return blocks.add(EXIF, block, f"Exif box at {box.at}")
         what = "Exif box without a header"
-    elif it.kind == b"brob":
-        kind = _IN_BROB.get(read_at(stream, it.start, min(4, it.end - it.start)))
+    elif box.kind == b"brob":
+        kind = _IN_BROB.get(read_at(stream, box.start, min(4, box.end - box.start)))
         if kind is not None:
-            return blocks.add(kind, COMPRESSED + content(stream, it), f"brob box at {it.at}")
-    leave(blocks, what, stream, it.start, it.end)
+            return blocks.add(kind, COMPRESSED + content(stream, box), f"brob box at {box.at}")
+    leave(blocks, what, stream, box.start, box.end)
     return None

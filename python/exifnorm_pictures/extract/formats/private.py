@@ -44,57 +44,57 @@ class Private:
         self.is_panasonic = read_at(directories.stream, 0, 4) == RW2_HEAD
         self.tags = PANASONIC_TAGS if self.is_panasonic else TAGS
 
-    def takes(self, it: Entry, of: str) -> bool:
+    def takes(self, entry: Entry, of: str) -> bool:
         """Reads or names what an entry leads to. Returns whether the entry is taken out of its directory. Raises `Broken`.
 
         Where an offset has a type that is none for offsets, ExifTool gives up the whole directory, so such a file isn't read here.
         """
-        if it.tag == _SONY:
-            if it.size != 4:  # as in a DNG, where it is a value
+        if entry.tag == _SONY:
+            if entry.size != 4:  # as in a DNG, where it is a value
                 return False
-            if it.type not in (*_BYTES, LONG):
-                raise Broken(f"the entry {it.tag:04x} of {of} has no offset")
-            self._sony(it, f"Sony's private directory of {of}")
-        elif it.tag == _ORIGINAL:
-            return self._compare(it, f"the original raw file in {of}")
-        elif it.tag == _PROFILES:
-            self._profiles(it)
-        elif it.tag == _SAMSUNG:
+            if entry.type not in (*_BYTES, LONG):
+                raise Broken(f"the entry {entry.tag:04x} of {of} has no offset")
+            self._sony(entry, f"Sony's private directory of {of}")
+        elif entry.tag == _ORIGINAL:
+            return self._compare(entry, f"the original raw file in {of}")
+        elif entry.tag == _PROFILES:
+            self._profiles(entry)
+        elif entry.tag == _SAMSUNG:
             self.blocks.name(NotRead(f"what Samsung's offsets of {of} lead to", ""))
-        elif it.tag in _JPEGS:
-            return self._jpeg(it)
-        elif it.tag == _PANASONIC_CAMERA:
-            return self._compare(it, f"Panasonic's CameraIFD of {of}")
-        elif it.tag == _PANASONIC_PIXELS:
-            if not is_pointer(it):
-                raise Broken(f"the entry {it.tag:04x} of {of} has no offset")
+        elif entry.tag in _JPEGS:
+            return self._jpeg(entry)
+        elif entry.tag == _PANASONIC_CAMERA:
+            return self._compare(entry, f"Panasonic's CameraIFD of {of}")
+        elif entry.tag == _PANASONIC_PIXELS:
+            if not is_pointer(entry):
+                raise Broken(f"the entry {entry.tag:04x} of {of} has no offset")
             self._reaches(self.directories.size, self.directories.size)  # they have no length, and no trailer is known
         return True
 
-    def _place_of(self, it: Entry) -> Optional[Tuple[int, int]]:
+    def _place_of(self, entry: Entry) -> Optional[Tuple[int, int]]:
         """The range of a value of bytes that is a file by itself."""
-        return self.directories.place_of(it) if it.size > 4 and it.type in _BYTES else None
+        return self.directories.place_of(entry) if entry.size > 4 and entry.type in _BYTES else None
 
-    def _compare(self, it: Entry, what: str) -> bool:
+    def _compare(self, entry: Entry, what: str) -> bool:
         """A value that is compared by its bytes. Returns whether there is one."""
-        place = self._place_of(it)
+        place = self._place_of(entry)
         if place is None:
             return False
         self.blocks.name(NotRead(what, digest_of_rest(self.directories.stream, *place) or ""))
         return True
 
-    def _jpeg(self, it: Entry) -> bool:
-        place = self._place_of(it)
+    def _jpeg(self, entry: Entry) -> bool:
+        place = self._place_of(entry)
         if place is None:
             return False
-        part = "embedded JPEG" if it.tag == _JPEGS[0] else "second embedded JPEG"
-        add_jpeg(self.blocks, self.directories.stream, place[0], it.size, part, self._whole)
+        part = "embedded JPEG" if entry.tag == _JPEGS[0] else "second embedded JPEG"
+        add_jpeg(self.blocks, self.directories.stream, place[0], entry.size, part, self._whole)
         return True
 
-    def _sony(self, it: Entry, what: str) -> None:
+    def _sony(self, entry: Entry, what: str) -> None:
         """Sony's private directory: compared with the encrypted one that it points to, but without the offset of that."""
         try:
-            directory = self.directories.read(self.directories.number(it.last))
+            directory = self.directories.read(self.directories.number(entry.last))
             digest = self._sony_digest(directory)
         except Broken:
             digest = ""
@@ -120,18 +120,18 @@ class Private:
             self._reaches(start + length, start)
         return digest.hexdigest()
 
-    def _value(self, it: Entry) -> bytes:
+    def _value(self, entry: Entry) -> bytes:
         """The bytes of a value, and those of an entry that has a type that isn't known. Raises `Broken`."""
-        place = self.directories.place_of(it) if it.size > 4 else None
-        if it.size > 4 and place is None:
-            raise Broken(f"the value of tag {it.tag:04x} isn't in the file")
+        place = self.directories.place_of(entry) if entry.size > 4 else None
+        if entry.size > 4 and place is None:
+            raise Broken(f"the value of tag {entry.tag:04x} isn't in the file")
         if place:
             self._reaches(place[1], place[0])
-        return self.directories.value(it) if it.size else it.last
+        return self.directories.value(entry) if entry.size else entry.last
 
-    def _profiles(self, it: Entry) -> None:
+    def _profiles(self, entry: Entry) -> None:
         """The further camera profiles of a DNG, each a directory whose offsets count from its own header."""
-        places = self.directories.numbers(it) if it.type in (LONG, IFD) else []
+        places = self.directories.numbers(entry) if entry.type in (LONG, IFD) else []
         if not places:
             raise Broken("the list of camera profiles isn't whole")
         self.directories.budget.spend(DIRECTORIES, len(places))
@@ -151,13 +151,13 @@ class Private:
         directories.check()
 
 
-def _parts(directories: Directories, it: Directory) -> List[Tuple[int, int]]:
+def _parts(directories: Directories, directory: Directory) -> List[Tuple[int, int]]:
     """The parts of a file that a directory with its header and its values takes."""
-    places = [directories.place_of(entry) for entry in it.entries if entry.size > 4]
-    return [(0, 8), (it.at, it.end), *(place for place in places if place)]
+    places = [directories.place_of(entry) for entry in directory.entries if entry.size > 4]
+    return [(0, 8), (directory.at, directory.end), *(place for place in places if place)]
 
 
-def add_directory(blocks: Blocks, directories: Directories, it: Directory, kept: List[Entry], where: str, part: str) -> None:
+def add_directory(blocks: Blocks, directories: Directories, directory: Directory, kept: List[Entry], where: str, part: str) -> None:
     """Adds some entries of a directory without pointers as a block. Raises `Broken`."""
     layout = Layout(directories, Table(kept, {}))
     if layout.length > LIMIT:

@@ -129,8 +129,8 @@ class Reader:
             if it.following:
                 waiting.appendleft((it.following, name, number + 1))
 
-    def _named(self, it: Directory, part: str) -> List[_Place]:
-        entries = [entry for entry in it.entries if entry.tag == _SUB_IFDS]
+    def _named(self, directory: Directory, part: str) -> List[_Place]:
+        entries = [entry for entry in directory.entries if entry.tag == _SUB_IFDS]
         if entries and part.count("SubIFD") >= DEEPEST:
             raise Broken(f"more than {DEEPEST} SubIFDs below one another")
         if entries:  # they count when they are named, since a list of them may be long, and when they are read
@@ -155,8 +155,8 @@ class Reader:
         if self._end is not None:
             self._end = max(self._end, end)
 
-    def _pixels_reach(self, it: Directory) -> None:
-        by_tag = {entry.tag: entry for entry in it.entries}
+    def _pixels_reach(self, directory: Directory) -> None:
+        by_tag = {entry.tag: entry for entry in directory.entries}
         for offsets, lengths in _PAIRS:
             if offsets not in by_tag:
                 continue
@@ -195,28 +195,28 @@ class Reader:
         where += ", with pointers of type IFD as LONG" if layout.has_ifd else ""
         self.blocks.add(EXIF, layout.block(), where, page.part, note=layout.note)
 
-    def _is_whole(self, it: Entry) -> bool:
+    def _is_whole(self, entry: Entry) -> bool:
         """Whether an entry that is left out is a list of numbers that the file contains."""
-        return it.type in (3, LONG, IFD) and (it.size <= 4 or self.directories.place_of(it) is not None)
+        return entry.type in (3, LONG, IFD) and (entry.size <= 4 or self.directories.place_of(entry) is not None)
 
-    def _is_block(self, it: Entry, part: str) -> bool:
+    def _is_block(self, entry: Entry, part: str) -> bool:
         """Adds the block of an entry, if it has one. Returns whether the entry is taken out of its directory."""
         of = part or "page 1"
-        where = f"tag {it.tag:04x} of {of}"
-        data = self.directories.shared(it) if it.tag in (_XMP, _IPTC, _PHOTOSHOP) else b""
-        if it.tag == _XMP and data:
+        where = f"tag {entry.tag:04x} of {of}"
+        data = self.directories.shared(entry) if entry.tag in (_XMP, _IPTC, _PHOTOSHOP) else b""
+        if entry.tag == _XMP and data:
             self.blocks.add(XMP, data, where, part)
-        elif it.tag == _IPTC and it.type == LONG and data[3:4] == b"\x1c" and data[:1] != b"\x1c":
+        elif entry.tag == _IPTC and entry.type == LONG and data[3:4] == b"\x1c" and data[:1] != b"\x1c":
             self.blocks.add(IPTC, b"".join(data[at : at + 4][::-1] for at in range(0, len(data), 4)), where, part)
-        elif it.tag == _IPTC and data[:1] == b"\x1c":
+        elif entry.tag == _IPTC and data[:1] == b"\x1c":
             self.blocks.add(IPTC, data, where, part)
-        elif it.tag == _PHOTOSHOP and data:
+        elif entry.tag == _PHOTOSHOP and data:
             photoshop.add_resources(self.blocks, [(where, data)], part)
-        elif it.tag == _LAYERS and it.size > 4 and (place := self.directories.place_of(it)):
+        elif entry.tag == _LAYERS and entry.size > 4 and (place := self.directories.place_of(entry)):
             self.blocks.not_read.append(NotRead(f"Photoshop's layers of {of}", digest_of_rest(self.directories.stream, *place) or ""))
         else:
-            if it.tag in _OTHER_POINTERS and it.type in (LONG, IFD):
-                self.blocks.not_read.append(NotRead(f"{_OTHER_POINTERS[it.tag]} of {of}", ""))
+            if entry.tag in _OTHER_POINTERS and entry.type in (LONG, IFD):
+                self.blocks.not_read.append(NotRead(f"{_OTHER_POINTERS[entry.tag]} of {of}", ""))
             return False
         return True
 

@@ -23,19 +23,19 @@ class Table(NamedTuple):
     below: "Dict[int, Table]"
 
 
-def is_pointer(it: Entry) -> bool:
+def is_pointer(entry: Entry) -> bool:
     """Whether an entry has a pointer's type and count, and is followed."""
-    return it.type == LONG and it.elements == 1
+    return entry.type == LONG and entry.elements == 1
 
 
-def is_directory(it: Entry) -> bool:
+def is_directory(entry: Entry) -> bool:
     """The same of a pointer to a directory, which may have type IFD, as libtiff writes it (TIFF Technical Note 1): it counts as LONG."""
-    return it.type in (LONG, IFD) and it.elements == 1
+    return entry.type in (LONG, IFD) and entry.elements == 1
 
 
-def is_ifd(table: Table, it: Entry) -> bool:
+def is_ifd(table: Table, entry: Entry) -> bool:
     """Whether an entry is a pointer of type IFD that is followed."""
-    return it.tag in table.below and it.type == IFD
+    return entry.tag in table.below and entry.type == IFD
 
 
 class Layout:

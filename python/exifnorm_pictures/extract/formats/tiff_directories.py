@@ -80,25 +80,25 @@ class Directories:
         self._starts.insert(place, start)
         self._ends[start] = end
 
-    def place_of(self, it: Entry) -> Optional[Tuple[int, int]]:
+    def place_of(self, entry: Entry) -> Optional[Tuple[int, int]]:
         """The range of a value that is not in the entry itself; None if the file doesn't contain all of it."""
-        start = self.number(it.last)
-        return (start, start + it.size) if 8 <= start and start + it.size <= self.size else None
+        start = self.number(entry.last)
+        return (start, start + entry.size) if 8 <= start and start + entry.size <= self.size else None
 
-    def value(self, it: Entry) -> bytes:
+    def value(self, entry: Entry) -> bytes:
         """The value of an entry; no bytes if the file doesn't contain all of it. Raises `Broken`."""
-        if it.size <= 4:
-            return it.last[: it.size]
-        place = self.place_of(it)
+        if entry.size <= 4:
+            return entry.last[: entry.size]
+        place = self.place_of(entry)
         return self.part(*place) if place else b""
 
-    def shared(self, it: Entry) -> bytes:
+    def shared(self, entry: Entry) -> bytes:
         """The same, of an entry whose value is a block by itself: pages that share it have it once in memory."""
-        place = self.place_of(it) if it.size > 4 else None
+        place = self.place_of(entry) if entry.size > 4 else None
         if place is None:
-            return self.value(it)
+            return self.value(entry)
         if place not in self._shared:
-            self._shared[place] = self.value(it)
+            self._shared[place] = self.value(entry)
         return self._shared[place]
 
     def part(self, start: int, end: int) -> bytes:
@@ -114,8 +114,8 @@ class Directories:
             if self._ends[self._starts[place]] > start:
                 raise Broken(f"the value at {start} shares bytes with a directory")
 
-    def numbers(self, it: Entry) -> List[int]:
+    def numbers(self, entry: Entry) -> List[int]:
         """The values of an entry of type SHORT, LONG or IFD; none for other types. Raises `Broken`."""
-        code = {3: "H", LONG: "I", IFD: "I"}.get(it.type)
-        data = self.value(it)
-        return [number for number, in struct.iter_unpack(self.order + code, data)] if code and len(data) == it.size else []
+        code = {3: "H", LONG: "I", IFD: "I"}.get(entry.type)
+        data = self.value(entry)
+        return [number for number, in struct.iter_unpack(self.order + code, data)] if code and len(data) == entry.size else []
