@@ -100,7 +100,6 @@ MAKERS = {
 # end, as `Growing` does, or are the caller's own.
 KEEPERS = {
     "crates/px_bytes/src/growing.rt: Growing",
-    "crates/px_plans/src/plan.rt: Plan",
     "crates/px_words/src/texts.rt: Plain",
 }
 

@@ -1,5 +1,5 @@
 -- The laws of the definitions.
-use Rattle.std.specs.Prelude.{◌≡◌, ◌↔◌, ◌≢◌, ◌+◌, ◌++◌, ℕ, List, [], ◌∷◌, Some, None, filter_map, flat_map, take}
+use Rattle.std.specs.Prelude.{◌≡◌, ◌⊎◌, ◌↔◌, ◌≢◌, ◌+◌, ◌++◌, ℕ, List, [], ◌∷◌, Some, None, filter_map, flat_map, take}
 use Rattle.px_jpeg.specs.declared.parts.Part.{Part}
 use Rattle.px_jpeg.specs.declared.contents.HeadPart.{HeadPart}
 use Rattle.px_jpeg.specs.declared.faults.Cause.{Cause}
@@ -24,6 +24,10 @@ OneHead = (b : List ℕ) (parts others : List Part) → HasHead b parts → HasH
 abbrev pub FaultsTell : Type 0
 FaultsTell = ((b : List ℕ) (c : Cause) (p : ℕ) (parts : List Part) → Fault b c p → HasHead b parts → ⊥)
     × ((b : List ℕ) (c d : Cause) (p r : ℕ) → Fault b c p → Fault b d r → (c ≡ d) × (p ≡ r))
+
+-- Bytes have a head or a first fault.
+abbrev pub IsHeadOrFault : List ℕ → Type 0
+IsHeadOrFault b = ((parts : List Part) × HasHead b parts) ⊎ ((c : Cause) × (p : ℕ) × Fault b c p)
 
 -- Bytes can be cut into resources and a rest in only one way.
 abbrev pub OneCut : Type 0

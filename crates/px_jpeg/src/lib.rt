@@ -17,5 +17,5 @@ pub use extended::{EXTENDED_HEAD, Extended, read_extended};
 pub use faults::{Cause, HeadFault};
 pub use head::{Head, Parts, find_parts, read_head};
 pub use parts::Part;
-pub use pieces::{Kind, Piece, Pieces, store_pieces};
+pub use pieces::{Kind, Piece, Pieces};
 pub use resources::{Resource, Resources, find_resources};

@@ -1,4 +1,4 @@
-// The segments of a head that contain Exif or Photoshop's image resources. CIPA DC-008, 4.7.2; Adobe Photoshop File Formats.
+// The segments of a head that contain Exif, Photoshop's image resources or XMP. CIPA DC-008, 4.7.2; Adobe Photoshop File Formats.
 ghost use Rattle.std.specs.Prelude.{◌≡◌, ◌≤◌, ◌<◌, ◌+◌, ◌∷◌, [], true, Some, None, length, take, drop, IfSome, MatchOption};
 ghost use Rattle.px_jpeg.specs.Pieces.{is_exif, is_photoshop, is_xmp, is_extended, kind_of, is_header, begins};
 ghost use Rattle.px_jpeg.specs.Pieces.{mark_len, piece_of, pieces, AllInside};
@@ -210,7 +210,7 @@ impl<'a> Iterator for Pieces<'a> {
 }
 
 impl<'a> Head<'a> {
-    /// The pieces of Exif and of Photoshop's image resources, in order.
+    /// The pieces of Exif, of Photoshop's image resources, of XMP and of extended XMP, in order.
     pub fn pieces(&self) -> Pieces<'a>
         ensures { result ≡ pieces self.now.octets None self.now.parts }
     {
@@ -219,26 +219,5 @@ impl<'a> Head<'a> {
             parts: self.parts(),
             last: None,
         }
-    }
-}
-
-/// Stores the pieces of a head at the start of `out` and returns their number, or returns `None` if `out` is
-/// shorter.
-pub fn store_pieces(head: &Head, out: &mut [Piece]) -> Option<usize>
-    ensures stored { IfSome result (λ n. take n out.new ≡ pieces head.now.octets None head.now.parts) }
-    ensures within { IfSome result (λ n. n ≤ length out.old) }
-    ensures short { result ≡ None → length out.old < length (pieces head.now.octets None head.now.parts) }
-{
-    let mut left = head.pieces();
-    let mut n = 0;
-    loop {
-        let Some(piece) = left.next() else {
-            return Some(n);
-        };
-        if n == out.len() {
-            return None;
-        }
-        out[n] = piece;
-        n += 1;
     }
 }

@@ -1,6 +1,6 @@
 // px_jpeg: what the C library doesn't call: the pieces of a head, and where a piece of extended XMP belongs.
 use crate::pictures::{APP1, APP13, CAPTION, EXIF, RESOURCE, picture};
-use px_jpeg::{Extended, Kind, Part, Piece, read_extended, read_head, store_pieces};
+use px_jpeg::{Extended, Kind, Part, Piece, read_extended, read_head};
 use std::test::Fail;
 
 // A packet of XMP, of four bytes. XMP part 3, 1.1.3.
@@ -21,7 +21,7 @@ fn piece(kind: Kind, begins: bool, start: usize, size: usize) -> Piece {
 }
 
 #[test]
-fn the_pieces_of_a_head_are_stored(rt: HostRuntime) -> Result<(), Fail> {
+fn the_pieces_of_a_head_are_returned(rt: HostRuntime) -> Result<(), Fail> {
     let segments = [
         APP1, EXIF, APP13, RESOURCE, CAPTION, APP13, RESOURCE, CAPTION, XMP,
     ];
@@ -34,12 +34,11 @@ fn the_pieces_of_a_head_are_stored(rt: HostRuntime) -> Result<(), Fail> {
         piece(Kind::Photoshop, false, 94, 20),
         piece(Kind::Xmp, true, 147, 4),
     ];
-    let mut stored = [first; 4];
-    assert_eq!(rt; store_pieces(&head, &mut stored), Some(4));
-    assert!(rt; stored == expected);
-    assert_eq!(rt; head.pieces().next(), Some(first));
-    let mut few = [first; 3];
-    assert_eq!(rt; store_pieces(&head, &mut few), None);
+    let mut pieces = head.pieces();
+    for piece in &expected {
+        assert_eq!(rt; pieces.next(), Some(*piece));
+    }
+    assert_eq!(rt; pieces.next(), None);
     Ok(())
 }
 

@@ -9,6 +9,7 @@ ghost use Rattle.px_plans.specs.calls.Kept.{value_in, strip_in, dir_in, offset_i
 use px_bytes::{Memory, Refused};
 use px_layout::Chunk;
 use px_tree::Dir;
+use std::alloc::Global;
 use std::collections::BTreeMap;
 
 // The offsets of a directory: of its table, and of its values by tag.
@@ -138,6 +139,11 @@ impl Offsets {
             jpeg: None,
             strips: StripOffsets::new(memory),
         }
+    }
+
+    // The allocator of the vector and of the maps.
+    pub(crate) fn allocator(&self) -> Global {
+        *self.strips.line.allocator()
     }
 
     // The number of chunks that have an offset.

@@ -17,7 +17,6 @@ use std::alloc::{AllocError, Global};
 #[derive(Drop)]
 pub struct Plan {
     len: u32,
-    memory: Memory,
     offsets: Offsets,
     ghost counted: { IsCount (size_in offsets) (offset_in offsets) },
 }
@@ -40,7 +39,6 @@ impl Plan {
     {
         Plan {
             len,
-            memory: memory.fresh(),
             offsets: Offsets::new(memory),
         }
     }
@@ -70,7 +68,7 @@ impl Plan {
         ensures err { OnErr result (plan_of self.new ≡ plan_of self.old) }
         ensures unplaced { OnErr result ((plan_of self.old).offset chunk ≡ None) }
     {
-        let mut memory = self.memory.fresh();
+        let mut memory = Memory::new(self.offsets.allocator());
         Ok(self.place_in(&mut memory, chunk, offset)?)
     }
 
