@@ -64,6 +64,36 @@ def test_fstat_of_out_fails(run, folder, odd_files):
     assert (folder / "OUT").read_bytes() == b"old"
 
 
+def test_out_that_is_not_stored_is_a_failed_write(run, folder, odd_files):
+    """Where the system reports only then that the quota is used up. A refused file has nothing to store."""
+    environment = {**os.environ, "LD_PRELOAD": odd_files, "ODD_FILES": "sync"}
+    assert run("normalise", "one", "OUT", env=environment) == (4, b"failed: WriteFailed\n")
+    (folder / "loop").write_bytes(ONE[:-4] + bytes.fromhex("00000008"))
+    assert run("normalise", "loop", "OUT", env=environment) == (2, b"refused: Loop at 22\n")
+    assert run("check", "one", env=environment) == (0, b"ok exif\n")
+
+
+def test_a_close_that_fails_after_the_file_is_stored(run, folder, odd_files):
+    """All of OUT is on the disk then, and std has no close with a result."""
+    assert run("normalise", "one", "OUT", env={**os.environ, "LD_PRELOAD": odd_files, "ODD_FILES": "close"}) == (0, b"")
+    assert (folder / "OUT").read_bytes() == ONE
+
+
+@pytest.mark.parametrize("how", ["sync", "close"])
+def test_out_that_is_no_regular_file_is_not_stored(run, folder, odd_files, how):
+    """A pipe and a device: the links are in the test's own folder."""
+    (folder / "null").symlink_to("/dev/null")
+    environment = {**os.environ, "LD_PRELOAD": odd_files, "ODD_FILES": how}
+    assert run("normalise", "one", "null", env=environment) == (0, b"")
+    os.mkfifo(folder / "pipe")
+    reader = os.open(folder / "pipe", os.O_RDONLY | os.O_NONBLOCK)
+    try:
+        assert run("normalise", "one", "pipe", env=environment) == (0, b"")
+        assert os.read(reader, 100) == ONE
+    finally:
+        os.close(reader)
+
+
 @pytest.mark.parametrize("same", ["inode", "device"])
 def test_files_are_one_only_if_device_and_inode_agree(run, folder, odd_files, same):
     assert run("normalise", "one", "OUT", env={**os.environ, "LD_PRELOAD": odd_files, "ODD_FILES": same}) == (0, b"")
