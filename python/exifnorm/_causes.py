@@ -1,4 +1,8 @@
-"""Each cause of a refusal in a sentence for people, and what helps."""
+"""Each cause of a refusal in a sentence for people, and what helps.
+
+    >>> OF_BLOCKS["EmptyDirectory"][0], OF_HEADS["JpegLength"][0]
+    ('A directory has no entry.', "The head of the JPEG is damaged: a segment's length is less than 2.")
+"""
 
 from __future__ import annotations
 

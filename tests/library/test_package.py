@@ -74,6 +74,7 @@ def test_a_jpeg_is_no_block(call):
 
 def test_each_cause_is_one_fault_and_a_sentence():
     names = [_library.library().cause_name(number) for number in range(1, 20)]
+    assert {number: _library.library().cause_name(number) for number in _jpeg.CAUSES} == _jpeg.CAUSES, "C has the same names"
     names += _jpeg.CAUSES.values()
     assert len(set(names)) == 24
     sentences = [exifnorm.Refused(name, 0).sentence for name in names]
