@@ -168,7 +168,6 @@ export class Engine {
     let isWhole = true;
     try {
       this.#answer = this.#allocate(ANSWER);
-      this.#bytes.fill(0, this.#answer, this.#answer + ANSWER);
       return work(BigInt(this.#answer), BigInt(this.#answer + FAULT));
     } catch (error) {
       isWhole = !(error instanceof WebAssembly.RuntimeError);

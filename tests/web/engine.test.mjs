@@ -50,6 +50,7 @@ test("a form that is too long is an error, and its memory is not kept", () => {
   assert.equal(engine.check(block), "exif");
   assert.throws(() => engine.normalise(block), { name: "NormalTooLong" });
   assert.equal(engine.compare(block, block), true);
+  assert.throws(() => engine.check(new Uint8Array(1 << 27)), { cause: "TooLong", place: exifnorm.LIMIT });
   assert.ok(engine.memory <= 1 << 26, `${engine.memory} bytes`);
   assert.equal(engine.check(ONE), "exif");
 });

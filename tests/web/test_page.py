@@ -142,6 +142,18 @@ def test_refused_with_its_remedy(browser):
     assert ["IFD0:Make", "refused", "NIKON CORPORATION"] in rows(browser, "Fields that could be read")
 
 
+def test_many_refusals(browser, folder):
+    loop = exif(ONE[:-4] + bytes.fromhex("00000008"))
+    assert compare(browser, *put(folder, picture(*[loop, segment(0xFE, b"")] * 25))) == "Refused"
+    assert browser.ask("document.querySelectorAll('.refusal').length") == 20 and "5 further refusals" in text(browser)
+
+
+def test_a_caption_whose_character_set_is_a_guess(browser, folder):
+    declared = iptc(b"\x1c\1\x5a\0\3\x1b%G\x1c\x02\x78\0\3\xc3\xbcb")
+    compare(browser, *put(folder, picture(iptc(b"\x1c\x02\x78\0\2\xfcb")), picture(declared)))
+    assert rows(browser, "Captions") == [["caption (IPTC)", "üb (its character set isn't declared)", "üb"]]
+
+
 def test_one_picture(browser):
     assert compare(browser, BOWL) == "Valid"
     assert ["IPTC:Caption-Abstract", "Bowl, celadon glaze, 1820"] in rows(browser, "Fields")
@@ -222,6 +234,27 @@ def test_moved_pictures(browser, folder):
     }
     assert found["a/p.jpg"] == ["only in the first", "the same Exif and IPTC as 2 pictures only in the second"]
     assert found["b/nothing.jpg"] == ["only in the second", ""]
+
+
+def test_pictures_that_may_not_be_moved(browser, folder):
+    """Those with other XMP, with more that isn't read, or with a refused block; and a file that is no picture."""
+    caption, loop = iptc(b"\x1c\x02\x78\0\4Vase"), exif(ONE[:-4] + bytes.fromhex("00000008"))
+    more = segment(0xE1, b"Exif\0\1" + ONE)
+    pairs = {
+        "xmp": (picture(caption, segment(0xE1, XMP + b"<x/>")), picture(caption, segment(0xE1, XMP + b"<y/>"))),
+        "more": (picture(exif(ONE), more), picture(exif(ONE), more)),
+        "loop": (picture(loop), picture(loop)),
+    }
+    for name, both in pairs.items():
+        for side, octets in zip(("first", "second"), both):
+            path = folder / side / side / f"{name}.jpg"
+            path.parent.mkdir(parents=True, exist_ok=True)
+            path.write_bytes(octets)
+    (folder / "first" / "notes.txt").write_bytes(b"no picture")
+    compare_folders(browser, folder / "first", folder / "second")
+    browser.ask("document.querySelector('[data-filter=all]').click()")
+    assert {row[1] for row in rows(browser, "All pictures")} == {"only in the first", "only in the second"}
+    assert len(rows(browser, "All pictures")) == 6 and "1 other file left out" in text(browser)
 
 
 def saved(folder, pattern, count=1):
