@@ -2,3 +2,4 @@ pub mod TagSteps
 pub mod NameLaws
 pub mod AttributeLaws
 pub mod TagLaws
+pub mod SectionLaws

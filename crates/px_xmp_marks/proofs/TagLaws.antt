@@ -296,7 +296,7 @@ and_both : (a b : Bool) → (a && b) ≡ true → (a ≡ true) × (b ≡ true)
 and_both true b h = (refl, h)
 and_both false b h = absurd (cc)
 
-starts_from : (p x : List ℕ) → starts_with nat_eq x p ≡ true → x ≡ p ++ drop (length p) x
+pub starts_from : (p x : List ℕ) → starts_with nat_eq x p ≡ true → x ≡ p ++ drop (length p) x
 starts_from [] x h = refl
 starts_from (a ∷ p) [] h = absurd (cc)
 starts_from (a ∷ p) (b ∷ x) h =

@@ -1,3 +1,4 @@
 pub mod Reading
 pub mod Grammar
 pub mod Laws
+pub mod Sections

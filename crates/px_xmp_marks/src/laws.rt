@@ -1,7 +1,8 @@
-//! The laws of attributes and tags: what is read is exactly what the grammar has. Each is the contract of a function
+//! The laws of attributes, tags and sections: what is read is exactly what the grammar has. Each is the contract of a function
 //! that does nothing.
 ghost use Rattle.px_xmp_marks.specs.Laws.{AttributesAreRead, OnlyAttributesAreRead, StartTagsAreRead, OnlyStartTagsAreRead};
 ghost use Rattle.px_xmp_marks.specs.Laws.{EndTagsAreRead, OnlyEndTagsAreRead, AttributesInOrder};
+ghost use Rattle.px_xmp_marks.specs.Sections.{SectionsAreRead, OnlySectionsAreRead};
 
 /// Each attribute of the grammar is read, whatever follows it.
 pub fn attributes_are_read()
@@ -36,4 +37,14 @@ pub fn end_tags_are_read()
 /// What is read as an end tag is one of the grammar.
 pub fn only_end_tags_are_read()
     ensures { OnlyEndTagsAreRead }
+{}
+
+/// Each CDATA section of the grammar is read, whatever follows it.
+pub fn sections_are_read()
+    ensures { SectionsAreRead }
+{}
+
+/// What is read as a CDATA section is one of the grammar.
+pub fn only_sections_are_read()
+    ensures { OnlySectionsAreRead }
 {}

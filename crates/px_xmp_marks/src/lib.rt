@@ -1,15 +1,17 @@
-//! The marks of XML 1.0 with namespaces, as they are written: names, attributes and tags. Namespaces are found elsewhere.
-//! A name has ASCII letters, digits, `_`, `-` and `.` alone, as those of XMP have; others are for another reader. It works
-//! on octets, and allocates nothing.
+//! The marks of XML 1.0 with namespaces, as they are written: names, attributes, tags and CDATA sections. Namespaces are
+//! found elsewhere. A name has ASCII letters, digits, `_`, `-` and `.` alone, as those of XMP have; others are for another
+//! reader. It works on octets, and allocates nothing.
 #![tactic(auto)]
 
 mod attributes;
 pub mod laws;
 mod listing;
 mod names;
+mod sections;
 mod tags;
 
 pub use attributes::{Attribute, read_attribute};
 pub use listing::{NextAttribute, next_attribute};
 pub use names::{Name, read_name};
+pub use sections::read_section;
 pub use tags::{EndTag, StartTag, read_end_tag, read_start_tag};
