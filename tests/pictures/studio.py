@@ -30,6 +30,7 @@ PROGRAMS = {
     "exiftool": "libimage-exiftool-perl",
     "exiv2": "exiv2",
     "convert": "imagemagick",
+    "ssconvert": "gnumeric",
     "chromium": "chromium",
     "parallel": "parallel",
     "sqlite3": "sqlite3",

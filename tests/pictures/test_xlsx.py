@@ -1,4 +1,4 @@
-"""--xlsx: the tables of --csv as spreadsheet files, whose texts stay texts. openpyxl reads them."""
+"""--xlsx: the tables of --csv as spreadsheet files, whose texts stay texts. openpyxl and Gnumeric read them."""
 
 import csv
 import sys
@@ -6,12 +6,12 @@ import sys
 import openpyxl
 import pytest
 from made_files import app1, exif, jpeg
-from studio import put
+from studio import needs, put, tool
 from test_captions import data_set, with_record
 
 from exifnorm_pictures.cli import sheets
 
-NUMBERS = ["1998.10", "1998.1", "2003-12", "007", "1E5", "=1+1", "+49", "@x", "TRUE", "12.4.2001", "http://a.example/"]
+NUMBERS = ["1998.10", "1998.1", "2003-12", "007", "1E5", "=1+1", "+1/2", "+49", "@x", "TRUE", "12.4.2001", "http://a.example/"]
 
 
 def rows_of(path):
@@ -29,6 +29,16 @@ def test_inventory_numbers_stay_texts(folder, called):
     cells = [row[column] for row in sheet.iter_rows(min_row=2)]
     assert {it.data_type for it in cells} == {"s"} and {it.number_format for it in cells} == {"@"} and not any(it.hyperlink for it in cells)
     assert sheet.freeze_panes == "B2"
+
+
+@needs("ssconvert")
+def test_gnumeric_shows_the_same_texts(folder, called):
+    """A program that people open such files in, which turns such texts of a CSV file into numbers and dates."""
+    put(folder / "p", {f"{at:02}.jpg": jpeg(with_record(data_set(5, it.encode()))) for at, it in enumerate(NUMBERS)})
+    called("captions", "p", "--xlsx", "t.xlsx")
+    tool(folder, "ssconvert", "t.xlsx", "shown.csv")
+    with open("shown.csv", encoding="utf-8", newline="") as file:
+        assert [row["title"] for row in csv.DictReader(file)] == NUMBERS
 
 
 @pytest.mark.parametrize(
