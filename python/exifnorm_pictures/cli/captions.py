@@ -41,45 +41,45 @@ def run(arguments: argparse.Namespace) -> int:
     return worst
 
 
-def _row(it: Reading) -> List[Cell]:
+def _row(reading: Reading) -> List[Cell]:
     """A row of a table: the text of each label, of several standards one that is whole, and no camera's."""
-    known = conflicts(it.texts)
-    texts = [best([one for one in it.texts if one.label == word], known) for word in WORDS]
-    problem = [f"{it.problem}: {it.detail}"] if it.problem else []
-    unread = "; ".join([*problem, *refused(it), *each_kind(not_read(it))])
-    return [it.name, *texts, "; ".join(own_texts(it.texts)), "; ".join(one.label for one in known if one.is_real), unread]
+    known = conflicts(reading.texts)
+    texts = [best([one for one in reading.texts if one.label == word], known) for word in WORDS]
+    problem = [f"{reading.problem}: {reading.detail}"] if reading.problem else []
+    unread = "; ".join([*problem, *refused(reading), *each_kind(not_read(reading))])
+    return [reading.name, *texts, "; ".join(own_texts(reading.texts)), "; ".join(one.label for one in known if one.is_real), unread]
 
 
-def _lines(it: Reading) -> Iterator[str]:
-    if it.problem:
-        yield f"{it.problem}: {it.detail}"
+def _lines(reading: Reading) -> Iterator[str]:
+    if reading.problem:
+        yield f"{reading.problem}: {reading.detail}"
         return
-    yield from refused(it)
-    known = {one.label: one for one in conflicts(it.texts)}
+    yield from refused(reading)
+    known = {one.label: one for one in conflicts(reading.texts)}
     for word in WORDS:
         conflict = known.get(word)
         mark = f"   <- {conflict.detail or 'they differ'}" if conflict and conflict.kind != ALIKE else ""
-        for ours in together([one for one in it.texts if one.label == word]):
+        for ours in together([one for one in reading.texts if one.label == word]):
             is_compared = not all(one.is_extra or one.block for one in ours)
             note = f"   <- {_OWN}" if any(one.is_own for one in ours) else mark if is_compared else ""
             yield f"{_padded(word)} {escaped(ours[0].line)}   [{origins(ours)}]{note}"
-    if not it.blocks:
+    if not reading.blocks:
         yield "no Exif, IPTC or XMP block"
-    elif not refused(it) and all(one.is_empty for one in it.texts):
+    elif not refused(reading) and all(one.is_empty for one in reading.texts):
         yield "no title, caption, name, keyword or rights"
-    if not_read(it):
-        yield f"not wholly read: {', '.join(each_kind(not_read(it)))}"
+    if not_read(reading):
+        yield f"not wholly read: {', '.join(each_kind(not_read(reading)))}"
 
 
 def _padded(word: str) -> str:
     return f"{word}:" + " " * (_WIDTH - width(word) - 1)
 
 
-def _members(it: Reading) -> Members:
-    return {**members(it), "captions": [text_members(one) for one in it.texts if not one.is_empty]}
+def _members(reading: Reading) -> Members:
+    return {**members(reading), "captions": [text_members(one) for one in reading.texts if not one.is_empty]}
 
 
-def text_members(it: LabelText) -> Members:
+def text_members(text: LabelText) -> Members:
     """A text as a JSON object."""
-    known: Members = {"label": it.label, "standard": it.standard, "field": it.field, "block": it.block or None}
-    return {**known, "texts": list(it.texts), "guess": it.guess or None, "own": it.is_own}
+    known: Members = {"label": text.label, "standard": text.standard, "field": text.field, "block": text.block or None}
+    return {**known, "texts": list(text.texts), "guess": text.guess or None, "own": text.is_own}

@@ -182,17 +182,21 @@ def _side(name: str, arguments: argparse.Namespace) -> Catalogue:
     return made
 
 
-def _parts_of(it: changes.Compared, exact: bool) -> List[object]:
+def _parts_of(comparison: changes.Compared, exact: bool) -> List[object]:
     """The changes of a picture, without its name."""
-    note = f" ({it.note})" if it.note else ""
-    to = f" to {shown_path(it.moved_to)}" if it.moved_to is not None else ""
-    return [bool(it.changes), f"{it.result}{to}{note}", [*(line_of(one, exact) for one in it.changes), *_readings(it, exact)]]
+    note = f" ({comparison.note})" if comparison.note else ""
+    to = f" to {shown_path(comparison.moved_to)}" if comparison.moved_to is not None else ""
+    return [
+        bool(comparison.changes),
+        f"{comparison.result}{to}{note}",
+        [*(line_of(one, exact) for one in comparison.changes), *_readings(comparison, exact)],
+    ]
 
 
-def _readings(it: changes.Compared, exact: bool) -> Iterator[str]:
+def _readings(comparison: changes.Compared, exact: bool) -> Iterator[str]:
     """Each value of a MakerNote that ExifTool reads otherwise."""
     name = group_name(*MAKER_NOTE)
-    for one in it.maker_note or () if exact else ():
+    for one in comparison.maker_note or () if exact else ():
         yield f"~ {name} {one.name}: {NONE if one.before is None else one.before} -> {NONE if one.after is None else one.after}"
 
 

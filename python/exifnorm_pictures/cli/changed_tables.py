@@ -58,29 +58,34 @@ def print_objects(found: Found, counts: "Counter[str]", choice: Choice, pictures
     )
 
 
-def _members(it: Compared) -> Members:
+def _members(comparison: Compared) -> Members:
     """A picture that was compared."""
-    found: Members = {**path_members(it.name), "result": it.result, "note": it.note or None}
-    found["coded_picture"] = it.picture
-    found["moved_to"] = None if it.moved_to is None else path_members(it.moved_to)
-    found["kinds"] = {WORDS[one.kind]: one.result for one in it.verdicts}
+    found: Members = {**path_members(comparison.name), "result": comparison.result, "note": comparison.note or None}
+    found["coded_picture"] = comparison.picture
+    found["moved_to"] = None if comparison.moved_to is None else path_members(comparison.moved_to)
+    found["kinds"] = {WORDS[one.kind]: one.result for one in comparison.verdicts}
     found["maker_note"] = None
-    if it.maker_note is not None:
-        values = [{"name": one.name, "before": one.before, "after": one.after} for one in it.maker_note]
+    if comparison.maker_note is not None:
+        values = [{"name": one.name, "before": one.before, "after": one.after} for one in comparison.maker_note]
         found["maker_note"] = {"reads": "otherwise" if values else "the same", "values": values}
-    found["repairs"] = [_repair_members(*one) for one in it.repairs]
-    return {**found, "fields": [_field_members(one) for one in it.changes], "left_out": it.left_out}
+    found["repairs"] = [_repair_members(*one) for one in comparison.repairs]
+    return {**found, "fields": [_field_members(one) for one in comparison.changes], "left_out": comparison.left_out}
 
 
 def _repair_members(name: str, before: Sequence[Step], after: Sequence[Step]) -> Members:
     return {"name": name, "before": [one._asdict() for one in before], "after": [one._asdict() for one in after]}
 
 
-def _field_members(it: Difference) -> Members:
-    plain = plain_sides(it)
-    sides = {"before": _side_members(plain[0], it.before), "after": _side_members(plain[1], it.after)}
-    name = {"name": it.name, "directory": it.where, "key": exact_key(it.where, it.key), "block": it.block or None}
-    return {**name, **sides, "equal_number": it.is_equal_number, "note": it.note or None}
+def _field_members(difference: Difference) -> Members:
+    plain = plain_sides(difference)
+    sides = {"before": _side_members(plain[0], difference.before), "after": _side_members(plain[1], difference.after)}
+    name = {
+        "name": difference.name,
+        "directory": difference.where,
+        "key": exact_key(difference.where, difference.key),
+        "block": difference.block or None,
+    }
+    return {**name, **sides, "equal_number": difference.is_equal_number, "note": difference.note or None}
 
 
 def _side_members(plain: Optional[str], fields: Tuple[Field, ...]) -> Optional[Members]:

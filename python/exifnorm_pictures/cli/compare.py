@@ -60,12 +60,12 @@ def _choice(arguments: argparse.Namespace, *records: Picture) -> Choice:
     return choice
 
 
-def _status(found: Comparison) -> int:
-    if found.is_identical or found.is_empty:
+def _status(comparison: Comparison) -> int:
+    if comparison.is_identical or comparison.is_empty:
         return SUCCESS
-    if any(it.problem in NO_BYTES for it in found.records):
+    if any(it.problem in NO_BYTES for it in comparison.records):
         return UNKNOWN
-    return status_of(Counter([found.result]))
+    return status_of(Counter([comparison.result]))
 
 
 # The page
@@ -95,21 +95,21 @@ _SENTENCES = {
 }
 
 
-def _lines(found: Comparison, rows: Sequence[Row], names: Sequence[bytes], exact: bool, notes: Sequence[str]) -> Iterator[str]:
-    yield _sentence(found, rows)
-    if found.is_identical:
+def _lines(comparison: Comparison, rows: Sequence[Row], names: Sequence[bytes], exact: bool, notes: Sequence[str]) -> Iterator[str]:
+    yield _sentence(comparison, rows)
+    if comparison.is_identical:
         yield from notes
         return
-    if found.is_empty:
-        yield from [_of_pictures(found, names)] * (found.found.picture != coded.UNKNOWN)
+    if comparison.is_empty:
+        yield from [_of_pictures(comparison, names)] * (comparison.found.picture != coded.UNKNOWN)
         yield from notes
         return
-    if any(it.problem for it in found.records):
-        yield from (f"{shown_path(name)}: {it.problem}: {it.detail}" for name, it in zip(names, found.records) if it.problem)
+    if any(it.problem for it in comparison.records):
+        yield from (f"{shown_path(name)}: {it.problem}: {it.detail}" for name, it in zip(names, comparison.records) if it.problem)
         return
-    note = found.found.note
-    yield f"{note[:1].upper()}{note[1:]}. {_of_pictures(found, names)}".rstrip()
-    if any(it.status != verdicts.ACCEPTED for record in found.records for it in record.blocks):
+    note = comparison.found.note
+    yield f"{note[:1].upper()}{note[1:]}. {_of_pictures(comparison, names)}".rstrip()
+    if any(it.status != verdicts.ACCEPTED for record in comparison.records for it in record.blocks):
         yield "More about a block that isn't accepted: exifnorm-pictures explain PICTURE"
     yield from notes
     if rows:
@@ -117,21 +117,21 @@ def _lines(found: Comparison, rows: Sequence[Row], names: Sequence[bytes], exact
         yield from _table(_heads(names), rows, exact)
 
 
-def _sentence(found: Comparison, rows: Sequence[Row]) -> str:
+def _sentence(comparison: Comparison, rows: Sequence[Row]) -> str:
     """The result."""
-    if found.is_identical:
+    if comparison.is_identical:
         return "The two files are identical, byte for byte."
-    if found.is_empty:
+    if comparison.is_empty:
         return "Nothing to compare: neither picture has Exif, IPTC or XMP."
-    if found.result == changes.DAMAGED:
-        return "Both pictures are damaged." if found.records[0].damage else _SENTENCES[found.result]
-    if found.result not in (verdicts.DIFFERENT, verdicts.DIFFERENT_REPAIRED, changes.ONLY_NUMBERS):
-        return _SENTENCES[found.result]
+    if comparison.result == changes.DAMAGED:
+        return "Both pictures are damaged." if comparison.records[0].damage else _SENTENCES[comparison.result]
+    if comparison.result not in (verdicts.DIFFERENT, verdicts.DIFFERENT_REPAIRED, changes.ONLY_NUMBERS):
+        return _SENTENCES[comparison.result]
     equal = sum(it.is_equal_number for it in rows)
     real = len(rows) - equal
     what = [f"{real} field{'s differ' if real != 1 else ' differs'}"] if real else []
     what += [f"{equal} equal number{'s are' if equal != 1 else ' is'} only written otherwise"] if equal else []
-    head = "Different metadata" + (" after a repair in memory" if found.result == verdicts.DIFFERENT_REPAIRED else "")
+    head = "Different metadata" + (" after a repair in memory" if comparison.result == verdicts.DIFFERENT_REPAIRED else "")
     return f"{head}: {', and '.join(what)}." if what else f"{head}."
 
 
@@ -142,14 +142,14 @@ _OF_PICTURES = {
 }
 
 
-def _of_pictures(found: Comparison, names: Sequence[bytes]) -> str:
+def _of_pictures(comparison: Comparison, names: Sequence[bytes]) -> str:
     """What is known of the coded pictures; nothing if only some fields are compared."""
-    if found.has_only_fields:
+    if comparison.has_only_fields:
         return "Only these fields were compared."
-    if found.found.picture == coded.UNKNOWN and len({it.type for it in found.records}) > 1:
+    if comparison.found.picture == coded.UNKNOWN and len({it.type for it in comparison.records}) > 1:
         return "Only metadata was compared: the pictures are in two formats."
-    damages = [f"{shown_path(name)} is damaged: {it.damage}." for name, it in zip(names, found.records) if it.damage]
-    return " ".join(damages) or _OF_PICTURES[found.found.picture]
+    damages = [f"{shown_path(name)} is damaged: {it.damage}." for name, it in zip(names, comparison.records) if it.damage]
+    return " ".join(damages) or _OF_PICTURES[comparison.found.picture]
 
 
 def _heads(names: Sequence[bytes]) -> List[str]:
@@ -175,60 +175,60 @@ def _table(heads: Sequence[str], rows: Sequence[Row], exact: bool) -> Iterator[s
     return columns(table, shutil.get_terminal_size((100, 24)).columns)
 
 
-def _cells(it: Row, exact: bool) -> Sequence[str]:
-    if it.note:
-        return (it.name, escaped(it.note))
-    name = f"{it.name} {tag_of(it.differences[0])}".rstrip() if exact and len(it.differences) == 1 else it.name
-    return (name, *(NONE if text is None else escaped(text) if not exact else text for text in (it.exact if exact else it.plain)))
+def _cells(row: Row, exact: bool) -> Sequence[str]:
+    if row.note:
+        return (row.name, escaped(row.note))
+    name = f"{row.name} {tag_of(row.differences[0])}".rstrip() if exact and len(row.differences) == 1 else row.name
+    return (name, *(NONE if text is None else escaped(text) if not exact else text for text in (row.exact if exact else row.plain)))
 
 
 # --csv
 
 
-def _print_table(found: Comparison, rows: Sequence[Row], names: Sequence[bytes], notes: Sequence[str]) -> None:
+def _print_table(comparison: Comparison, rows: Sequence[Row], names: Sequence[bytes], notes: Sequence[str]) -> None:
     """A row for each field that differs, and at the end one for each reason why the answer isn't whole."""
     table = Table(["field", "before", "after", "exact before", "exact after", "note"])
     for it in rows:
         table.row(it.name, *it.plain, *it.exact, it.note or ("equal number" if it.is_equal_number else None))
-    problems = [f"{shown_path(name)}: {it.problem}: {it.detail}" for name, it in zip(names, found.records) if it.problem]
-    note = "" if problems or not found.found.note else f" ({found.found.note})"
+    problems = [f"{shown_path(name)}: {it.problem}: {it.detail}" for name, it in zip(names, comparison.records) if it.problem]
+    note = "" if problems or not comparison.found.note else f" ({comparison.found.note})"
     for note in notes:
         table.row(None, None, None, None, None, note)
-    if _status(found) == UNKNOWN:
-        table.row(None, None, None, None, None, "; ".join([_sentence(found, rows) + note, *problems]))
+    if _status(comparison) == UNKNOWN:
+        table.row(None, None, None, None, None, "; ".join([_sentence(comparison, rows) + note, *problems]))
 
 
 # --json
 
 
-def _members(found: Comparison, rows: Sequence[Row], names: Sequence[bytes], choice: Choice) -> Members:
+def _members(comparison: Comparison, rows: Sequence[Row], names: Sequence[bytes], choice: Choice) -> Members:
     pictures = []
-    for name, it in zip(names, found.records):
+    for name, it in zip(names, comparison.records):
         unread = [part.what for part in it.unread]
         about = {"type": it.type or None, "not_read": unread, "damage": it.damage or None}
         pictures.append({**picture_object(name, it.problem, it.detail), **about})
-    whole: Members = {"pictures": pictures, "result": found.result, "identical_files": found.is_identical}
-    whole["coded_picture"] = coded.SAME if found.is_identical else found.found.picture
-    kinds = {WORDS[it.kind]: it.result for it in found.found.verdicts}
+    whole: Members = {"pictures": pictures, "result": comparison.result, "identical_files": comparison.is_identical}
+    whole["coded_picture"] = coded.SAME if comparison.is_identical else comparison.found.picture
+    kinds = {WORDS[it.kind]: it.result for it in comparison.found.verdicts}
     return {
         **whole,
-        "note": found.found.note or None,
+        "note": comparison.found.note or None,
         "kinds": kinds,
-        "proved": found.proved,
+        "proved": comparison.proved,
         "fields": [_row_members(it) for it in rows],
-        "left_out": found.left_out,
+        "left_out": comparison.left_out,
         **members_of(choice),
     }
 
 
-def _row_members(it: Row) -> Members:
-    sides = {word: _side_members(it, side) for side, word in enumerate(("before", "after"))}
-    return {"name": it.name, **sides, "equal_number": it.is_equal_number, "note": it.note or None}
+def _row_members(row: Row) -> Members:
+    sides = {word: _side_members(row, side) for side, word in enumerate(("before", "after"))}
+    return {"name": row.name, **sides, "equal_number": row.is_equal_number, "note": row.note or None}
 
 
-def _side_members(it: Row, side: int) -> Optional[Members]:
+def _side_members(row: Row, side: int) -> Optional[Members]:
     """The value before or after; its typed form only if the row is one field."""
-    if it.plain[side] is None:
+    if row.plain[side] is None:
         return None
-    fields = (it.differences[0].before, it.differences[0].after)[side] if len(it.differences) == 1 else ()
-    return {"plain": it.plain[side], "exact": it.exact[side], "value": together(fields) if fields else None}
+    fields = (row.differences[0].before, row.differences[0].after)[side] if len(row.differences) == 1 else ()
+    return {"plain": row.plain[side], "exact": row.exact[side], "value": together(fields) if fields else None}

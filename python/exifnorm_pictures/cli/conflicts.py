@@ -81,10 +81,10 @@ def _chosen(arguments: argparse.Namespace) -> Set[str]:
     return only - {given[it] for it in arguments.ignore}
 
 
-def _count(counts: _Counts, it: Reading, found: Sequence[Conflict]) -> None:
-    counts.pictures += not it.problem
-    counts.unread += it.is_damaged
-    counts.twice += bool(conflicts(it.texts))
+def _count(counts: _Counts, reading: Reading, found: Sequence[Conflict]) -> None:
+    counts.pictures += not reading.problem
+    counts.unread += reading.is_damaged
+    counts.twice += bool(conflicts(reading.texts))
     real = [one.label for one in found if one.is_real]
     counts.real += bool(real)
     counts.minor += bool(found) and not real
@@ -92,29 +92,30 @@ def _count(counts: _Counts, it: Reading, found: Sequence[Conflict]) -> None:
     counts.kinds.update({one.kind for one in found if not one.is_real})
 
 
-def _print_rows(table: Table, it: Reading, found: Sequence[Conflict]) -> None:
+def _print_rows(table: Table, reading: Reading, conflicts: Sequence[Conflict]) -> None:
     """A row for each label; one for what was not read, since a picture without a row would seem to have no contradiction."""
-    for one in found:
-        table.row(it.name, one.label, one.kind, one.detail, *_texts(one))
-    if it.problem:
-        table.row(it.name, None, "not read", f"{it.problem}: {it.detail}", *(None for _ in STANDARDS))
-    for what in (*refused(it), *damage(it.not_read)):
-        table.row(it.name, None, "not read", what, *(None for _ in STANDARDS))
+    for one in conflicts:
+        table.row(reading.name, one.label, one.kind, one.detail, *_texts(one))
+    if reading.problem:
+        table.row(reading.name, None, "not read", f"{reading.problem}: {reading.detail}", *(None for _ in STANDARDS))
+    for what in (*refused(reading), *damage(reading.not_read)):
+        table.row(reading.name, None, "not read", what, *(None for _ in STANDARDS))
 
 
-def _texts(it: Conflict) -> List[Cell]:
+def _texts(conflict: Conflict) -> List[Cell]:
     """The texts of each standard."""
     texts: Dict[str, List[str]] = {}
-    for one in it.texts:
+    for one in conflict.texts:
         texts.setdefault(one.standard, []).append(one.line)
     return ["; ".join(texts.get(standard, [])) for standard in STANDARDS]
 
 
-def _members(it: Reading, found: Sequence[Conflict]) -> Members:
+def _members(reading: Reading, conflicts: Sequence[Conflict]) -> Members:
     rows = [
-        {"label": one.label, "kind": one.kind, "detail": one.detail, "texts": [text_members(text) for text in one.texts]} for one in found
+        {"label": one.label, "kind": one.kind, "detail": one.detail, "texts": [text_members(text) for text in one.texts]}
+        for one in conflicts
     ]
-    return {**members(it), "conflicts": rows}
+    return {**members(reading), "conflicts": rows}
 
 
 def _summary_members(it: _Counts) -> Members:
@@ -133,19 +134,19 @@ def _summary_members(it: _Counts) -> Members:
 # Lines
 
 
-def _print(it: Reading, found: Sequence[Conflict]) -> None:
-    if found:
-        print(shown_path(it.name))
-    for one in found:
+def _print(reading: Reading, conflicts: Sequence[Conflict]) -> None:
+    if conflicts:
+        print(shown_path(reading.name))
+    for one in conflicts:
         print_line(f"  {one.label}" + (f": {one.detail}" if one.detail else ""))
         names = [(origins(ours), escaped(ours[0].line)) for ours in together(one.texts)]
         width = max(len(name) for name, _ in names)
         for name, text in names:
             print_line(f"    {name:<{width}}  {text if len(text) <= LONGEST else f'{text[: LONGEST - 10]}.. ({len(text):,} characters)'}")
-    if it.problem:
-        print_line(f"{shown_path(it.name)}: {it.problem}: {it.detail}")
-    for what in damage(it.not_read):
-        print_line(f"{shown_path(it.name)}: not wholly read: {what}")
+    if reading.problem:
+        print_line(f"{shown_path(reading.name)}: {reading.problem}: {reading.detail}")
+    for what in damage(reading.not_read):
+        print_line(f"{shown_path(reading.name)}: not wholly read: {what}")
 
 
 def _summary(counts: _Counts, every: bool) -> Iterator[str]:

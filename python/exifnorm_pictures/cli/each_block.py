@@ -22,9 +22,9 @@ Described = Tuple[List[str], Members]
 Describe = Callable[[bytes, FoundBlock, Block], Described]  # of a picture by its name
 
 
-def status_of(it: Reading) -> int:
+def status_of(reading: Reading) -> int:
     """The status of a command that prints the blocks or texts of a picture."""
-    return UNKNOWN if it.is_damaged else SUCCESS
+    return UNKNOWN if reading.is_damaged else SUCCESS
 
 
 def each_picture(arguments: argparse.Namespace) -> Iterator[Reading]:
@@ -45,16 +45,16 @@ def each_block(arguments: argparse.Namespace, describe: Describe, refused_too: b
     return worst
 
 
-def _print(arguments: argparse.Namespace, it: Reading, head: List[str], describe: Describe, refused_too: bool) -> None:
-    names, read = path_members(it.name), it.read
+def _print(arguments: argparse.Namespace, reading: Reading, head: List[str], describe: Describe, refused_too: bool) -> None:
+    names, read = path_members(reading.name), reading.read
     if read.problem:
-        line = _of_folder(arguments.command, it.name) if os.path.isdir(it.name) else f"{read.problem}: {read.detail}"
+        line = _of_folder(arguments.command, reading.name) if os.path.isdir(reading.name) else f"{read.problem}: {read.detail}"
         output(arguments, [*head, line], {**names, "problem": read.problem, "detail": read.detail})
         return
     data = {one.name: one for one in read.found}
-    for block in it.blocks:
+    for block in reading.blocks:
         is_described = block.status == ACCEPTED or block.repair or refused_too
-        lines, members = describe(it.name, data[block.name], block) if is_described else _refused(block)
+        lines, members = describe(reading.name, data[block.name], block) if is_described else _refused(block)
         if lines or (arguments.json and members):
             output(arguments, [*head, *lines], {**names, "name": block.name, **members})
             head = []
@@ -71,8 +71,8 @@ def _of_folder(command: str, name: bytes) -> str:
     return f"a folder: {command} takes pictures, such as {files}; captions, conflicts and index take folders"
 
 
-def _refused(it: Block) -> Described:
-    return [f"{it.name}: {it.line}"], block_members(it)
+def _refused(block: Block) -> Described:
+    return [f"{block.name}: {block.line}"], block_members(block)
 
 
 def with_kind(members: Members) -> Members:

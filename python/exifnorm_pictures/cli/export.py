@@ -84,9 +84,9 @@ def _add_about(written: Tables, catalogue: Catalogue) -> None:
     written.add("about", about.items())
 
 
-def _put(made: str, arguments: argparse.Namespace) -> None:
+def _put(text: str, arguments: argparse.Namespace) -> None:
     """Copies the tables to their place, where they may replace an earlier export and no other file."""
-    with open(made, "rb") as whole:
+    with open(text, "rb") as whole:
         try:
             kept = (arguments.catalogue,)
             atomic.replace(os.fsencode(arguments.file), lambda file: shutil.copyfileobj(whole, file), head_is_ours, kept)

@@ -81,41 +81,41 @@ def _reading(arguments: argparse.Namespace, name: bytes) -> Reading:
     return Reading.of(name, blocks_of(name, arguments.session, arguments.whole, arguments.block))
 
 
-def refused(it: Reading) -> List[str]:
+def refused(reading: Reading) -> List[str]:
     """The blocks that aren't accepted, in a line each."""
     return [
         f"{one.name}: {one.line}" + (f"; read after repair in memory: {steps.words(one.steps)}" if one.repair else "")
-        for one in it.blocks
+        for one in reading.blocks
         if one.status != ACCEPTED
     ]
 
 
-def not_read(it: Reading) -> List[str]:
+def not_read(reading: Reading) -> List[str]:
     """The parts that were not read and can have texts: a MakerNote has none."""
-    return [what for what in it.not_read if REACHED not in what]
+    return [what for what in reading.not_read if REACHED not in what]
 
 
-def members(it: Reading) -> Members:
+def members(reading: Reading) -> Members:
     """The beginning of a JSON object."""
-    return {**picture_object(it.name, it.problem, it.detail), "refused": refused(it), "not_read": it.not_read}
+    return {**picture_object(reading.name, reading.problem, reading.detail), "refused": refused(reading), "not_read": reading.not_read}
 
 
 # The fields of texts
 
 
-def origins(found: Sequence[LabelText]) -> str:
+def origins(texts: Sequence[LabelText]) -> str:
     """Where a text is: its fields, each with its block if that isn't the first one, and with a guess about its character set."""
     words = []
-    for it in found:
-        guess = f", {it.guess}" if it.guess and len(found) == 1 else ""  # another field with the same text confirms it
+    for it in texts:
+        guess = f", {it.guess}" if it.guess and len(texts) == 1 else ""  # another field with the same text confirms it
         words.append(it.field + (f" of {it.block}" if it.block else "") + guess)
     return ", ".join(words)
 
 
-def together(found: Sequence[LabelText]) -> List[List[LabelText]]:
+def together(texts: Sequence[LabelText]) -> List[List[LabelText]]:
     """Fields with equal texts together, without those that are empty."""
     by_text: Dict[str, List[LabelText]] = {}
-    for it in found:
+    for it in texts:
         if not it.is_empty:
             by_text.setdefault(" ".join(it.line.split()), []).append(it)
     return list(by_text.values())

@@ -27,21 +27,21 @@ def picture_object(path: bytes, problem: Optional[str], detail: str) -> Members:
     return {**path_members(path), "problem": problem or None, "detail": detail or None}
 
 
-def block_object(it: Block) -> Members:
+def block_object(block: Block) -> Members:
     """A block."""
     return {
-        "kind": WORDS[it.kind],
-        "name": it.name,
-        "status": it.status,
-        "digest": it.digest,
-        "cause": it.cause,
-        "offset": it.place,
-        "length": it.length,
+        "kind": WORDS[block.kind],
+        "name": block.name,
+        "status": block.status,
+        "digest": block.digest,
+        "cause": block.cause,
+        "offset": block.place,
+        "length": block.length,
     }
 
 
-def record_lines(it: Picture) -> List[str]:
+def record_lines(picture: Picture) -> List[str]:
     """The line for a picture that `index` looked at."""
-    about = {**picture_object(it.path, it.problem, it.detail), "type": it.type or None}
-    unread = [one.what for one in it.unread]
-    return [line_of("index", "picture", {**about, "blocks": [block_object(one) for one in it.blocks], "not_read": unread})]
+    about = {**picture_object(picture.path, picture.problem, picture.detail), "type": picture.type or None}
+    unread = [one.what for one in picture.unread]
+    return [line_of("index", "picture", {**about, "blocks": [block_object(one) for one in picture.blocks], "not_read": unread})]

@@ -42,33 +42,33 @@ def output(arguments: argparse.Namespace, lines: Sequence[str], members: Members
 DAMAGED = {"File is empty": "the file is empty", "Entire file is binary zeros": "the file has only zeros"}
 
 
-def record_lines(it: Picture) -> List[str]:
+def record_lines(picture: Picture) -> List[str]:
     """Lines for a picture with a problem: the problem, the refusal of a block, or what is left of a damaged file. None if the
     problem was there at the last run, which the counts say."""
-    if it.is_known or (it.problem is None and not it.unread and all(one.status == ACCEPTED for one in it.blocks)):
+    if picture.is_known or (picture.problem is None and not picture.unread and all(one.status == ACCEPTED for one in picture.blocks)):
         return []
-    name = shown_path(it.path)
+    name = shown_path(picture.path)
     lines = []
-    if it.problem and it.problem != Problem.NO_PICTURE:
-        lines.append(f"{name}: {it.problem}: {it.detail}")
-    lines += [f"{name}: {one.name}: {refused_line(one)}" for one in it.blocks if one.status != ACCEPTED]
-    lines += [f"{name}: not wholly read: {what}" for what in damage(one.what for one in it.unread)]
-    if it.problem == Problem.NO_PICTURE and it.detail in DAMAGED:
-        lines.append(f"{name}: NoPicture: {DAMAGED[it.detail]}")
+    if picture.problem and picture.problem != Problem.NO_PICTURE:
+        lines.append(f"{name}: {picture.problem}: {picture.detail}")
+    lines += [f"{name}: {one.name}: {refused_line(one)}" for one in picture.blocks if one.status != ACCEPTED]
+    lines += [f"{name}: not wholly read: {what}" for what in damage(one.what for one in picture.unread)]
+    if picture.problem == Problem.NO_PICTURE and picture.detail in DAMAGED:
+        lines.append(f"{name}: NoPicture: {DAMAGED[picture.detail]}")
     return lines
 
 
-def closed_folder(it: Picture) -> List[str]:
+def closed_folder(picture: Picture) -> List[str]:
     """A line for a folder that can't be read, which has no row in a catalogue and so no folder above it."""
-    return [] if it.root else [f"the folder {shown_path(it.path)} can't be read: {it.detail}"]
+    return [] if picture.root else [f"the folder {shown_path(picture.path)} can't be read: {picture.detail}"]
 
 
-def refused_line(it: Block) -> str:
+def refused_line(block: Block) -> str:
     """A block that isn't accepted, in a line."""
-    if it.repair:
-        lost = " and ".join(loses(it.steps))
-        return f"refused: {it.refusal}; read after repair: {words(it.steps)}" + (f" (loses {lost})" if lost else "")
-    return "failed: OutOfMemory" if it.cause == "OutOfMemory" else f"{it.status}: {it.refusal}"
+    if block.repair:
+        lost = " and ".join(loses(block.steps))
+        return f"refused: {block.refusal}; read after repair: {words(block.steps)}" + (f" (loses {lost})" if lost else "")
+    return "failed: OutOfMemory" if block.cause == "OutOfMemory" else f"{block.status}: {block.refusal}"
 
 
 def kind_of_part(what: str) -> str:
@@ -80,7 +80,14 @@ def kind_of_part(what: str) -> str:
     return re.sub(r" of [\d,]+ bytes| \(.*?\)|^[\d,]+ (?=byte)", "", what).replace("byte that", "bytes that")
 
 
-def block_members(it: Block) -> Members:
+def block_members(block: Block) -> Members:
     """A block as a JSON object."""
-    known = {"kind": WORDS[it.kind], "name": it.name, "status": it.status, "digest": it.digest, "cause": it.cause, "place": it.place}
-    return {**{name: value for name, value in known.items() if value is not None}, "length": it.length}
+    known = {
+        "kind": WORDS[block.kind],
+        "name": block.name,
+        "status": block.status,
+        "digest": block.digest,
+        "cause": block.cause,
+        "place": block.place,
+    }
+    return {**{name: value for name, value in known.items() if value is not None}, "length": block.length}

@@ -175,8 +175,8 @@ def _name(text: str) -> str:
     return text
 
 
-def _limit_arguments(it: argparse.ArgumentParser) -> None:
-    it.add_argument(
+def _limit_arguments(parser: argparse.ArgumentParser) -> None:
+    parser.add_argument(
         "--limit",
         type=_seconds,
         default=PROGRAM_SECONDS,
@@ -185,34 +185,34 @@ def _limit_arguments(it: argparse.ArgumentParser) -> None:
     )
 
 
-def _looking_arguments(it: argparse.ArgumentParser) -> None:
-    _limit_arguments(it)
-    it.add_argument("--whole", action="store_true", help="read every byte of a JPEG, not only its head and tail")
+def _looking_arguments(parser: argparse.ArgumentParser) -> None:
+    _limit_arguments(parser)
+    parser.add_argument("--whole", action="store_true", help="read every byte of a JPEG, not only its head and tail")
 
 
-def _many_arguments(it: argparse.ArgumentParser) -> None:
-    _looking_arguments(it)
-    _jobs_argument(it)
-    it.add_argument("--quiet", action="store_true", help="no progress on standard error")
+def _many_arguments(parser: argparse.ArgumentParser) -> None:
+    _looking_arguments(parser)
+    _jobs_argument(parser)
+    parser.add_argument("--quiet", action="store_true", help="no progress on standard error")
 
 
-def _jobs_argument(it: argparse.ArgumentParser) -> None:
-    it.add_argument("--jobs", type=_positive, default=0, metavar="N", help="processes that look at pictures (as many as processors)")
+def _jobs_argument(parser: argparse.ArgumentParser) -> None:
+    parser.add_argument("--jobs", type=_positive, default=0, metavar="N", help="processes that look at pictures (as many as processors)")
 
 
-def _more_arguments(it: argparse.ArgumentParser) -> None:
+def _more_arguments(parser: argparse.ArgumentParser) -> None:
     words = "XMP files beside a picture are blocks of it: NAME.EXT.xmp and NAME.xmp"
-    it.add_argument("--sidecars", action="store_true", help=words)
+    parser.add_argument("--sidecars", action="store_true", help=words)
     words = "also a digest of each coded picture, which recognises pictures that were moved and edited, and is for same --kind pixels"
-    it.add_argument("--pixels", action="store_true", help=words)
+    parser.add_argument("--pixels", action="store_true", help=words)
 
 
-def _index_arguments(it: argparse.ArgumentParser) -> None:
-    _example(it, "index /archive --catalogue my.catalogue --exclude '*.tmp'")
-    it.add_argument("folders", nargs="*", type=_name, metavar="FOLDER", help="a folder, with all below it, or a picture")
-    it.add_argument("--catalogue", required=True, type=_name, metavar="FILE", help="the catalogue; created if it is missing")
-    it.add_argument("--keep-old", type=_name, metavar="OLD", help="first copy the catalogue to OLD, for changed and report --since")
-    it.add_argument(
+def _index_arguments(parser: argparse.ArgumentParser) -> None:
+    _example(parser, "index /archive --catalogue my.catalogue --exclude '*.tmp'")
+    parser.add_argument("folders", nargs="*", type=_name, metavar="FOLDER", help="a folder, with all below it, or a picture")
+    parser.add_argument("--catalogue", required=True, type=_name, metavar="FILE", help="the catalogue; created if it is missing")
+    parser.add_argument("--keep-old", type=_name, metavar="OLD", help="first copy the catalogue to OLD, for changed and report --since")
+    parser.add_argument(
         "--exclude",
         action="append",
         default=[],
@@ -220,44 +220,44 @@ def _index_arguments(it: argparse.ArgumentParser) -> None:
         metavar="PATTERN",
         help="pass over files and folders with this name or path below FOLDER; * and ? are wildcards",
     )
-    it.add_argument("--again", action="store_true", help="look at all pictures, even if they haven't changed")
-    it.add_argument(
+    parser.add_argument("--again", action="store_true", help="look at all pictures, even if they haven't changed")
+    parser.add_argument(
         "--maker-notes", action="store_true", help="also keep what ExifTool reads of MakerNotes, so that changed needs no earlier files"
     )
-    _more_arguments(it)
-    it.add_argument("--scheduler", metavar="tcp://HOST:PORT", help="look at the pictures on the workers of this Dask cluster")
-    it.add_argument("--elsewhere", type=_name, metavar="PATH", help="the path of FOLDER on the workers")
-    _looking_arguments(it)
-    _jobs_argument(it)
-    it.add_argument(
+    _more_arguments(parser)
+    parser.add_argument("--scheduler", metavar="tcp://HOST:PORT", help="look at the pictures on the workers of this Dask cluster")
+    parser.add_argument("--elsewhere", type=_name, metavar="PATH", help="the path of FOLDER on the workers")
+    _looking_arguments(parser)
+    _jobs_argument(parser)
+    parser.add_argument(
         "--quiet", action="store_true", help="print only the counts: no progress, no picture and nothing that could be done next"
     )
 
 
-def _merge_arguments(it: argparse.ArgumentParser) -> None:
-    it.add_argument("catalogues", nargs="+", type=_name, metavar="CATALOGUE", help="a catalogue; the last one with a picture counts")
-    it.add_argument("--catalogue", required=True, type=_name, metavar="ALL", help="the catalogue to write; created if it is missing")
+def _merge_arguments(parser: argparse.ArgumentParser) -> None:
+    parser.add_argument("catalogues", nargs="+", type=_name, metavar="CATALOGUE", help="a catalogue; the last one with a picture counts")
+    parser.add_argument("--catalogue", required=True, type=_name, metavar="ALL", help="the catalogue to write; created if it is missing")
 
 
-def _same_arguments(it: argparse.ArgumentParser) -> None:
-    _example(it, "same --catalogue archive.catalogue --csv > same.csv")
-    it.add_argument("--catalogue", required=True, type=_name, metavar="FILE")
+def _same_arguments(parser: argparse.ArgumentParser) -> None:
+    _example(parser, "same --catalogue archive.catalogue --csv > same.csv")
+    parser.add_argument("--catalogue", required=True, type=_name, metavar="FILE")
     words = "the blocks that must mean the same (all); pixels: the coded picture must be the same, by the digests of index --pixels"
-    it.add_argument("--kind", choices=("all", *KIND_OF, PIXELS), default="all", help=words)
-    it.add_argument("--least-fields", type=_positive, default=0, metavar="N", help="leave out groups of pictures with fewer fields")
-    it.add_argument("--no-look", action="store_true", help="don't look at the files, as for a catalogue from elsewhere")
-    _choice_arguments(it)
+    parser.add_argument("--kind", choices=("all", *KIND_OF, PIXELS), default="all", help=words)
+    parser.add_argument("--least-fields", type=_positive, default=0, metavar="N", help="leave out groups of pictures with fewer fields")
+    parser.add_argument("--no-look", action="store_true", help="don't look at the files, as for a catalogue from elsewhere")
+    _choice_arguments(parser)
 
 
-def _forget_arguments(it: argparse.ArgumentParser) -> None:
-    it.add_argument(
+def _forget_arguments(parser: argparse.ArgumentParser) -> None:
+    parser.add_argument(
         "folders", nargs="*", type=_name, metavar="FOLDER", help="a folder, with all below it, or a picture; it need not be there"
     )
-    it.add_argument("--catalogue", required=True, type=_name, metavar="FILE")
+    parser.add_argument("--catalogue", required=True, type=_name, metavar="FILE")
 
 
-def _choice_arguments(it: argparse.ArgumentParser) -> None:
-    group = it.add_argument_group("fields that count", _FIELDS)
+def _choice_arguments(parser: argparse.ArgumentParser) -> None:
+    group = parser.add_argument_group("fields that count", _FIELDS)
     for word, what in (
         ("ignore", "leave out this field, or all that fit a pattern"),
         ("only", "compare this field alone, or all that fit a pattern"),
@@ -279,106 +279,110 @@ Exif block; the property of XMP is XMP-exif:NAME. --ignore saves leaves out
 what every save changes (see the manual page)."""
 
 
-def _changed_arguments(it: argparse.ArgumentParser) -> None:
-    _example(it, "changed last.catalogue archive.catalogue")
-    it.add_argument("before", type=_name, metavar="BEFORE", help="a catalogue or a folder")
-    it.add_argument("after", type=_name, metavar="AFTER", help="a catalogue or a folder")
-    it.add_argument("--each", action="store_true", help="list each picture with its fields, in place of the summary")
-    it.add_argument("--all", action="store_true", help="as --each, with unchanged pictures too")
-    it.add_argument(
+def _changed_arguments(parser: argparse.ArgumentParser) -> None:
+    _example(parser, "changed last.catalogue archive.catalogue")
+    parser.add_argument("before", type=_name, metavar="BEFORE", help="a catalogue or a folder")
+    parser.add_argument("after", type=_name, metavar="AFTER", help="a catalogue or a folder")
+    parser.add_argument("--each", action="store_true", help="list each picture with its fields, in place of the summary")
+    parser.add_argument("--all", action="store_true", help="as --each, with unchanged pictures too")
+    parser.add_argument(
         "--exact",
         action="store_true",
         help="as --each, with the tag, the type and the exact value of each field, and each value of a MakerNote that ExifTool reads otherwise",
     )
-    it.add_argument(
+    parser.add_argument(
         "--no-exiftool", action="store_true", help="don't ask ExifTool whether MakerNotes that differ or have moved read the same"
     )
-    _choice_arguments(it)
-    _more_arguments(it)
-    _many_arguments(it)
+    _choice_arguments(parser)
+    _more_arguments(parser)
+    _many_arguments(parser)
 
 
-def _verify_arguments(it: argparse.ArgumentParser) -> None:
-    _example(it, "verify --catalogue archive.catalogue --evidence sums.txt")
-    it.add_argument("folders", nargs="*", type=_name, metavar="FOLDER", help="a folder, with all below it (all that were indexed)")
-    it.add_argument("--catalogue", required=True, type=_name, metavar="FILE", help="a catalogue of index --pixels, which stays as it is")
-    it.add_argument("--evidence", type=_name, metavar="FILE", help="write SHA-256 of each file to a new file, for sha256sum -c")
-    _limit_arguments(it)
-    _jobs_argument(it)
-    it.add_argument("--quiet", action="store_true", help="no progress on standard error")
+def _verify_arguments(parser: argparse.ArgumentParser) -> None:
+    _example(parser, "verify --catalogue archive.catalogue --evidence sums.txt")
+    parser.add_argument("folders", nargs="*", type=_name, metavar="FOLDER", help="a folder, with all below it (all that were indexed)")
+    parser.add_argument(
+        "--catalogue", required=True, type=_name, metavar="FILE", help="a catalogue of index --pixels, which stays as it is"
+    )
+    parser.add_argument("--evidence", type=_name, metavar="FILE", help="write SHA-256 of each file to a new file, for sha256sum -c")
+    _limit_arguments(parser)
+    _jobs_argument(parser)
+    parser.add_argument("--quiet", action="store_true", help="no progress on standard error")
 
 
-def _example(it: argparse.ArgumentParser, text: str) -> None:
-    it.description = f"{it.description}\n\nExample:\n  exifnorm-pictures {text}"
+def _example(parser: argparse.ArgumentParser, text: str) -> None:
+    parser.description = f"{parser.description}\n\nExample:\n  exifnorm-pictures {text}"
 
 
-def _compare_arguments(it: argparse.ArgumentParser) -> None:
-    _example(it, "compare before.jpg after.jpg")
-    it.add_argument("before", type=_name, metavar="A", help="a picture")
-    it.add_argument("after", type=_name, metavar="B", help="a picture")
-    it.add_argument("--exact", action="store_true", help="each field with its tag, its type and its exact value")
-    it.add_argument(
+def _compare_arguments(parser: argparse.ArgumentParser) -> None:
+    _example(parser, "compare before.jpg after.jpg")
+    parser.add_argument("before", type=_name, metavar="A", help="a picture")
+    parser.add_argument("after", type=_name, metavar="B", help="a picture")
+    parser.add_argument("--exact", action="store_true", help="each field with its tag, its type and its exact value")
+    parser.add_argument(
         "--no-exiftool", action="store_true", help="don't ask ExifTool whether MakerNotes that differ or have moved read the same"
     )
-    _choice_arguments(it)
-    _looking_arguments(it)
+    _choice_arguments(parser)
+    _looking_arguments(parser)
 
 
-def _pictures_arguments(it: argparse.ArgumentParser) -> None:
-    it.add_argument("pictures", nargs="*", type=_name, metavar="PICTURE")
-    it.add_argument("--block", action="store_true", help="each PICTURE is a block that was extracted before")
-    _looking_arguments(it)
+def _pictures_arguments(parser: argparse.ArgumentParser) -> None:
+    parser.add_argument("pictures", nargs="*", type=_name, metavar="PICTURE")
+    parser.add_argument("--block", action="store_true", help="each PICTURE is a block that was extracted before")
+    _looking_arguments(parser)
 
 
-def _show_arguments(it: argparse.ArgumentParser) -> None:
-    _example(it, "show --csv picture.jpg > fields.csv")
-    it.add_argument("--exact", action="store_true", help="each field with its tag, its type and its exact value")
-    _pictures_arguments(it)
+def _show_arguments(parser: argparse.ArgumentParser) -> None:
+    _example(parser, "show --csv picture.jpg > fields.csv")
+    parser.add_argument("--exact", action="store_true", help="each field with its tag, its type and its exact value")
+    _pictures_arguments(parser)
 
 
-def _captions_arguments(it: argparse.ArgumentParser) -> None:
-    _example(it, "captions --csv pictures > captions.csv")
-    it.add_argument("pictures", nargs="*", type=_name, metavar="PICTURE", help="a picture, a folder with all below it, or a catalogue")
-    it.add_argument("--block", action="store_true", help="each PICTURE is a block that was extracted before")
-    _looking_arguments(it)
+def _captions_arguments(parser: argparse.ArgumentParser) -> None:
+    _example(parser, "captions --csv pictures > captions.csv")
+    parser.add_argument("pictures", nargs="*", type=_name, metavar="PICTURE", help="a picture, a folder with all below it, or a catalogue")
+    parser.add_argument("--block", action="store_true", help="each PICTURE is a block that was extracted before")
+    _looking_arguments(parser)
 
 
-def _conflicts_arguments(it: argparse.ArgumentParser) -> None:
-    _example(it, "conflicts pictures")
-    it.set_defaults(block=False)
-    it.add_argument("pictures", nargs="*", type=_name, metavar="PICTURE", help="a picture, a folder with all below it, or a catalogue")
-    it.add_argument("--all", action="store_true", help="also list texts that are empty, cut, in a wrong character set, or a camera's own")
+def _conflicts_arguments(parser: argparse.ArgumentParser) -> None:
+    _example(parser, "conflicts pictures")
+    parser.set_defaults(block=False)
+    parser.add_argument("pictures", nargs="*", type=_name, metavar="PICTURE", help="a picture, a folder with all below it, or a catalogue")
+    parser.add_argument(
+        "--all", action="store_true", help="also list texts that are empty, cut, in a wrong character set, or a camera's own"
+    )
     for word, what in (("ignore", "leave out this label"), ("only", "compare this label alone")):
-        it.add_argument(f"--{word}", action="append", default=[], metavar="LABEL", help=f"{what}, such as title")
-    _looking_arguments(it)
+        parser.add_argument(f"--{word}", action="append", default=[], metavar="LABEL", help=f"{what}, such as title")
+    _looking_arguments(parser)
 
 
-def _report_arguments(it: argparse.ArgumentParser) -> None:
-    it.add_argument("--catalogue", required=True, type=_name, metavar="FILE")
-    it.add_argument("--since", type=_name, metavar="OLD", help="an older catalogue: also list the changes")
-    it.add_argument("--html", type=_name, metavar="PAGE", help="the page to write")
-    it.add_argument("--title", default="Pictures and their metadata", help="the page's title")
-    it.add_argument("--no-look", action="store_true", help="don't look at the files, as for a catalogue from elsewhere")
-    _choice_arguments(it)
-    _limit_arguments(it)
+def _report_arguments(parser: argparse.ArgumentParser) -> None:
+    parser.add_argument("--catalogue", required=True, type=_name, metavar="FILE")
+    parser.add_argument("--since", type=_name, metavar="OLD", help="an older catalogue: also list the changes")
+    parser.add_argument("--html", type=_name, metavar="PAGE", help="the page to write")
+    parser.add_argument("--title", default="Pictures and their metadata", help="the page's title")
+    parser.add_argument("--no-look", action="store_true", help="don't look at the files, as for a catalogue from elsewhere")
+    _choice_arguments(parser)
+    _limit_arguments(parser)
 
 
-def _export_arguments(it: argparse.ArgumentParser) -> None:
-    _example(it, "export archive.catalogue archive.sqlite")
-    it.add_argument("catalogue", type=_name, metavar="CATALOGUE", help="the catalogue to read")
-    it.add_argument("file", type=_name, metavar="FILE", help="the file to write, which may replace an earlier export and no other file")
-    it.add_argument("--no-look", action="store_true", help="don't look at the files, as for a catalogue from elsewhere")
-    it.add_argument("--quiet", action="store_true", help="no progress on standard error")
-    _limit_arguments(it)
+def _export_arguments(parser: argparse.ArgumentParser) -> None:
+    _example(parser, "export archive.catalogue archive.sqlite")
+    parser.add_argument("catalogue", type=_name, metavar="CATALOGUE", help="the catalogue to read")
+    parser.add_argument("file", type=_name, metavar="FILE", help="the file to write, which may replace an earlier export and no other file")
+    parser.add_argument("--no-look", action="store_true", help="don't look at the files, as for a catalogue from elsewhere")
+    parser.add_argument("--quiet", action="store_true", help="no progress on standard error")
+    _limit_arguments(parser)
 
 
-def _mend_arguments(it: argparse.ArgumentParser) -> None:
-    _example(it, "mend --catalogue archive.catalogue --lossless mended")
+def _mend_arguments(parser: argparse.ArgumentParser) -> None:
+    _example(parser, "mend --catalogue archive.catalogue --lossless mended")
     words = "the picture and the copy; with --files-from or --catalogue only a folder OUT"
-    it.add_argument("names", nargs="+", type=_name, metavar="PICTURE OUT", help=words)
-    it.add_argument("--catalogue", type=_name, metavar="FILE", help="all pictures of this catalogue with a refused or unreadable block")
-    it.add_argument("--lossless", action="store_true", help="write no copy that loses or changes a printed value")
-    _limit_arguments(it)
+    parser.add_argument("names", nargs="+", type=_name, metavar="PICTURE OUT", help=words)
+    parser.add_argument("--catalogue", type=_name, metavar="FILE", help="all pictures of this catalogue with a refused or unreadable block")
+    parser.add_argument("--lossless", action="store_true", help="write no copy that loses or changes a printed value")
+    _limit_arguments(parser)
 
 
 # The commands with --csv, and what a row of their tables is

@@ -166,18 +166,18 @@ _ONLY_METADATA = "Only metadata was compared, and pictures with the same metadat
 _ALL_THE_SAME = "the pictures are the same too: any one may stay"
 
 
-def _print_lines(it: groups.Group, number: int, keeps: Keeps) -> None:
+def _print_lines(group: groups.Group, number: int, keeps: Keeps) -> None:
     if number > 1:
         print_line("")
-    print_line(f"{it.count} {'pictures' if it.are_pictures else 'files'}: {it.sentence()}:")
+    print_line(f"{group.count} {'pictures' if group.are_pictures else 'files'}: {group.sentence()}:")
     links: Dict[bytes, List[groups.Link]] = {}
-    for link in it.links:
+    for link in group.links:
         links.setdefault(link.of, []).append(link)
-    reasons = set(it.reasons.values())
-    has_same_pictures = sum(one.keep is False for one in keeps.values()) == it.count - 1 > 0
+    reasons = set(group.reasons.values())
+    has_same_pictures = sum(one.keep is False for one in keeps.values()) == group.count - 1 > 0
     about = {} if has_same_pictures or all(one.why in (NOT_KNOWN, groups.KEEP_ALL) for one in keeps.values()) else keeps
-    for picture in it.members:
-        reason, others = it.reasons.get(picture.id, ""), it.others.get(picture.id, 0)
+    for picture in group.members:
+        reason, others = group.reasons.get(picture.id, ""), group.others.get(picture.id, 0)
         more = f", and {others:,} that {'are' if others > 1 else 'is'} in a group with it above" if others else ""
         notes = [reason] * (len(reasons) > 1) + [about.get(picture.id, Keep()).note]
         print_line(f"  {shown_path(picture.path)}" + (f"   ({text})" if (text := "; ".join(filter(None, notes))) else "") + more)
@@ -187,9 +187,9 @@ def _print_lines(it: groups.Group, number: int, keeps: Keeps) -> None:
         print_line(f"    all: {reasons.pop()}")
     if has_same_pictures:
         print_line(f"    {_ALL_THE_SAME}")
-    if it.rests_on_readings:
+    if group.rests_on_readings:
         print_line(f"    {groups.KEEP_ALL}")
-    for what, paths in (("gone", it.gone), ("changed since it was indexed", it.changed)):
+    for what, paths in (("gone", group.gone), ("changed since it was indexed", group.changed)):
         for path in paths:
             print_line(f"    not counted, {what}: {shown_path(path)}")
 
@@ -199,53 +199,53 @@ def _print_lines(it: groups.Group, number: int, keeps: Keeps) -> None:
 _HEADS = ("group", "pictures", "what is the same", "rests on", "picture", "keep", "note")
 
 
-def _print_rows(table: Table, number: int, it: groups.Group, keeps: Keeps) -> None:
+def _print_rows(table: Table, number: int, group: groups.Group, keeps: Keeps) -> None:
     """A row for each picture, and one without a word on keeping for each file that doesn't count."""
-    about = (number, it.count, it.sentence(), it.basis)
-    for one in it.members:
+    about = (number, group.count, group.sentence(), group.basis)
+    for one in group.members:
         keep = keeps.get(one.id, Keep())
-        table.row(*about, one.path, None if keep.keep is None else int(keep.keep), _note(it, one, keep))
-    for path, note in _not_counted(it):
+        table.row(*about, one.path, None if keep.keep is None else int(keep.keep), _note(group, one, keep))
+    for path, note in _not_counted(group):
         table.row(*about, path, None, note)
 
 
-def _note(group: groups.Group, it: Picture, keep: Keep) -> str:
-    others = group.others.get(it.id, 0)
+def _note(group: groups.Group, picture: Picture, keep: Keep) -> str:
+    others = group.others.get(picture.id, 0)
     more = [f"and {others:,} that {'are' if others > 1 else 'is'} in an earlier group with it"] if others else []
     more += [keep.note or groups.KEEP_ALL * group.rests_on_readings]
-    return "; ".join(filter(None, [group.reasons.get(it.id), *more]))
+    return "; ".join(filter(None, [group.reasons.get(picture.id), *more]))
 
 
-def _not_counted(it: groups.Group) -> Iterator[Tuple[bytes, str]]:
+def _not_counted(group: groups.Group) -> Iterator[Tuple[bytes, str]]:
     """Further names of files, and files that are gone or have changed, each with the reason."""
-    yield from ((link.path, f"not counted, {link.how}: {shown_path(link.of)}") for link in it.links)
-    yield from ((path, "not counted, gone") for path in it.gone)
-    yield from ((path, "not counted, changed since it was indexed") for path in it.changed)
+    yield from ((link.path, f"not counted, {link.how}: {shown_path(link.of)}") for link in group.links)
+    yield from ((path, "not counted, gone") for path in group.gone)
+    yield from ((path, "not counted, changed since it was indexed") for path in group.changed)
 
 
 # --json
 
 
-def _print_group(number: int, it: groups.Group, keeps: Keeps) -> None:
+def _print_group(number: int, group: groups.Group, keeps: Keeps) -> None:
     """One object. Its pictures come last, and one by one: they may be all of an archive."""
     known = {
         "number": number,
-        "count": it.count,
-        "description": it.sentence(),
-        "basis": it.basis,
-        "digests": {WORDS[kind]: digest for kind, digest in it.digests.items()},
-        "same_bytes": it.same_bytes,
-        "wholly_read": not it.not_read and it.basis == groups.MEANING,
-        "links": [{**path_members(one.path), "of": path_members(one.of), "how": one.how} for one in it.links],
-        "gone": [path_members(one) for one in it.gone],
-        "changed": [path_members(one) for one in it.changed],
+        "count": group.count,
+        "description": group.sentence(),
+        "basis": group.basis,
+        "digests": {WORDS[kind]: digest for kind, digest in group.digests.items()},
+        "same_bytes": group.same_bytes,
+        "wholly_read": not group.not_read and group.basis == groups.MEANING,
+        "links": [{**path_members(one.path), "of": path_members(one.of), "how": one.how} for one in group.links],
+        "gone": [path_members(one) for one in group.gone],
+        "changed": [path_members(one) for one in group.changed],
     }
     print(line_of("same", "group", known)[:-1], end=', "pictures": [')
-    for at, one in enumerate(it.members):
-        print(", " * (at > 0) + json.dumps(_picture_members(it, one, keeps.get(one.id, Keep()))), end="")
+    for at, one in enumerate(group.members):
+        print(", " * (at > 0) + json.dumps(_picture_members(group, one, keeps.get(one.id, Keep()))), end="")
     print("]}")
 
 
-def _picture_members(group: groups.Group, it: Picture, keep: Keep) -> Members:
-    known = {"keep": keep.keep, "keep_note": keep.note or None, "reason": group.reasons.get(it.id) or None}
-    return {**path_members(it.path), **known, "others": group.others.get(it.id, 0)}
+def _picture_members(group: groups.Group, picture: Picture, keep: Keep) -> Members:
+    known = {"keep": keep.keep, "keep_note": keep.note or None, "reason": group.reasons.get(picture.id) or None}
+    return {**path_members(picture.path), **known, "others": group.others.get(picture.id, 0)}

@@ -41,11 +41,11 @@ def run(arguments: argparse.Namespace) -> int:
 # Lines
 
 
-def _described(it: Block, is_exact: bool) -> Described:
+def _described(block: Block, is_exact: bool) -> Described:
     """The lines of a block."""
-    by = f", extracted by {PROGRAMS[it.extractor]}" if it.extractor in PROGRAMS else ""
-    lines = list(readable(fields_of(it), it.name + by)) if is_exact else [f"{it.name}{by}:", *_plain_lines(fields_of(it))]
-    return (lines if it.status == ACCEPTED else [*_repaired(it), *lines[1:]]), {}
+    by = f", extracted by {PROGRAMS[block.extractor]}" if block.extractor in PROGRAMS else ""
+    lines = list(readable(fields_of(block), block.name + by)) if is_exact else [f"{block.name}{by}:", *_plain_lines(fields_of(block))]
+    return (lines if block.status == ACCEPTED else [*_repaired(block), *lines[1:]]), {}
 
 
 def _plain_lines(fields: List[Field]) -> Iterator[str]:
@@ -58,58 +58,62 @@ def _plain_lines(fields: List[Field]) -> Iterator[str]:
 _COLUMN = 30  # characters of a name, of which few have more
 
 
-def _repaired(it: Block) -> List[str]:
+def _repaired(block: Block) -> List[str]:
     """The lines before fields that are read after a repair."""
-    lost = steps.loses(it.steps)
-    text = f"  read after repair in memory ({steps.words(it.steps)}), which is tested, and not proved; the file is as it was"
-    return [f"{it.name}: {it.line}", text] + [f"  the repair loses {' and '.join(lost)}: nothing is called the same by it"] * bool(lost)
+    lost = steps.loses(block.steps)
+    text = f"  read after repair in memory ({steps.words(block.steps)}), which is tested, and not proved; the file is as it was"
+    return [f"{block.name}: {block.line}", text] + [f"  the repair loses {' and '.join(lost)}: nothing is called the same by it"] * bool(
+        lost
+    )
 
 
 # --csv
 
 
-def _print_rows(table: Table, it: Reading) -> None:
+def _print_rows(table: Table, reading: Reading) -> None:
     """A row for each field, and one for all that isn't one: a refused block, a part that was not read, a picture without a block."""
-    for block in it.blocks:
+    for block in reading.blocks:
         note = "read after repair in memory" if block.repair else None
         if block.status != ACCEPTED:
-            table.row(it.name, block.name, *_NO_FIELD, block.line + (f"; repaired in memory: {steps.words(block.steps)}" if note else ""))
+            table.row(
+                reading.name, block.name, *_NO_FIELD, block.line + (f"; repaired in memory: {steps.words(block.steps)}" if note else "")
+            )
         for one in fields_of(block):
             name = (group_name(one.where, one.key), exact_key(one.where, one.key))
             values = (*name, one.type, one.elements, plain(one), exact(one))
-            table.row(it.name, block.name, *values, note)
-    for text in _notes(it):
-        table.row(it.name, None, *_NO_FIELD, text)
+            table.row(reading.name, block.name, *values, note)
+    for text in _notes(reading):
+        table.row(reading.name, None, *_NO_FIELD, text)
 
 
 _NO_FIELD = (None,) * 6
 
 
-def _notes(it: Reading) -> Iterator[str]:
+def _notes(reading: Reading) -> Iterator[str]:
     """What a picture has instead of fields, and what was not read of it."""
-    if it.problem:
-        yield f"{it.problem}: {it.detail}"
-    elif not it.read.found:
+    if reading.problem:
+        yield f"{reading.problem}: {reading.detail}"
+    elif not reading.read.found:
         yield "no Exif, IPTC or XMP block"
-    yield from (f"not read: {what}" for what in each_kind(it.not_read))
+    yield from (f"not read: {what}" for what in each_kind(reading.not_read))
 
 
 # --json
 
 
-def _members(it: Reading) -> Members:
-    blocks = [{**block_object(one), **_block_members(one)} for one in it.blocks]
-    about = {**picture_object(it.name, it.problem, it.detail), "type": it.read.type or None}
-    return {**about, "blocks": blocks, "not_read": it.not_read}
+def _members(reading: Reading) -> Members:
+    blocks = [{**block_object(one), **_block_members(one)} for one in reading.blocks]
+    about = {**picture_object(reading.name, reading.problem, reading.detail), "type": reading.read.type or None}
+    return {**about, "blocks": blocks, "not_read": reading.not_read}
 
 
-def _block_members(it: Block) -> Members:
-    repair = [step._asdict() for step in it.steps]
-    return {"extractor": it.extractor, "repair": repair, "fields": list(map(_field_members, fields_of(it)))}
+def _block_members(block: Block) -> Members:
+    repair = [step._asdict() for step in block.steps]
+    return {"extractor": block.extractor, "repair": repair, "fields": list(map(_field_members, fields_of(block)))}
 
 
-def _field_members(it: Field) -> Members:
+def _field_members(field: Field) -> Members:
     """A field: its name for people, what identifies it, and its value for people, exactly and for programs."""
-    name = {"name": group_name(it.where, it.key), "directory": it.where, "key": exact_key(it.where, it.key)}
-    values = {"type": it.type, "count": it.elements, "plain": plain(it), "exact": exact(it), "value": typed(it)}
+    name = {"name": group_name(field.where, field.key), "directory": field.where, "key": exact_key(field.where, field.key)}
+    values = {"type": field.type, "count": field.elements, "plain": plain(field), "exact": exact(field), "value": typed(field)}
     return {**name, **values}

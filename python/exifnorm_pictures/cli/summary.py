@@ -35,14 +35,14 @@ class Line(NamedTuple):
         return _pictures(self.pictures) + self.note
 
 
-def lines(found: Summary, counts: "Counter[str]", notes: Sequence[str] = (), screen: Optional[int] = None) -> Iterator[str]:
+def lines(summary: Summary, counts: "Counter[str]", notes: Sequence[str] = (), screen: Optional[int] = None) -> Iterator[str]:
     """The page, with some notes after the results. Fields with a label of `captions` come first. `screen` has the columns of a terminal."""
-    results = [*_results(found, counts), *notes]
+    results = [*_results(summary, counts), *notes]
     has_rest = any(counts[it] for it in counts if it not in changed.UNCHANGED)
-    parts, equal = _parts(found), _equal_numbers(found)
-    fields = _fields(found, max(LEAST, LINES - len(results) - len(equal) - len(parts) - 6), screen)
+    parts, equal = _parts(summary), _equal_numbers(summary)
+    fields = _fields(summary, max(LEAST, LINES - len(results) - len(equal) - len(parts) - 6), screen)
     rows = [*(it for it in fields if it.is_labelled), *parts, *(it for it in fields if not it.is_labelled), *equal]
-    more = ["  Further fields aren't counted."] * found.has_more
+    more = ["  Further fields aren't counted."] * summary.has_more
     yield _head(counts)
     if rows:
         yield ""
@@ -95,9 +95,9 @@ def _pictures(count: int) -> str:
 # What changed
 
 
-def _parts(found: Summary) -> List[Line]:
+def _parts(summary: Summary) -> List[Line]:
     """A line for each block or directory that came or went."""
-    parts = sorted(found.parts.values(), key=lambda it: (-it.pictures, it.name, it.sign))
+    parts = sorted(summary.parts.values(), key=lambda it: (-it.pictures, it.name, it.sign))
     rows = [Line(_part(it), it.pictures) for it in parts[:LEAST]]
     if len(parts) > LEAST:
         most = parts[LEAST].pictures
@@ -115,9 +115,9 @@ def _at_most(count: int) -> str:
     return " at most each" if count > 1 else " each"
 
 
-def _fields(found: Summary, room: int, screen: Optional[int]) -> List[Line]:
+def _fields(summary: Summary, room: int, screen: Optional[int]) -> List[Line]:
     """The lines of the fields; of those for which there is no room, a line for each group."""
-    every = found.fields()
+    every = summary.fields()
     rows: List[Line] = []
     for at, it in enumerate(every):
         mine = _field(it)
@@ -178,27 +178,27 @@ def _group_line(group: str, fields: Sequence[FieldCount]) -> Line:
     return Line(f"{group}, further fields: {', '.join(words)}", most, _at_most(most) if len(fields) > 1 else "")
 
 
-def _equal_numbers(found: Summary) -> List[Line]:
-    count = len(found.equal_numbers)
-    text = f"equal numbers, written otherwise, in {count:,} field{'s' * (count != 1)} ({cut(found.equal_example)})"
-    return [Line(text, found.equal_pictures)] * bool(count)
+def _equal_numbers(summary: Summary) -> List[Line]:
+    count = len(summary.equal_numbers)
+    text = f"equal numbers, written otherwise, in {count:,} field{'s' * (count != 1)} ({cut(summary.equal_example)})"
+    return [Line(text, summary.equal_pictures)] * bool(count)
 
 
 # The results
 
 
-def _results(found: Summary, counts: "Counter[str]") -> Iterator[str]:
+def _results(summary: Summary, counts: "Counter[str]") -> Iterator[str]:
     for result in changed.RESULTS:
         if counts[result]:
-            names = [] if result in (SAME, changed.SAME_FILE, changed.NO_PICTURE_SAME) else _names(found, result)
+            names = [] if result in (SAME, changed.SAME_FILE, changed.NO_PICTURE_SAME) else _names(summary, result)
             more = " .." if names and counts[result] > len(names) else ""
             yield f"{counts[result]:,} {result}{': ' * bool(names)}{', '.join(names)}{more}"
 
 
-def _names(found: Summary, result: str) -> List[str]:
+def _names(summary: Summary, result: str) -> List[str]:
     """The first pictures with a result, as many as a line has room for."""
     names: List[str] = []
-    for path, place in found.pictures.get(result, ()):
+    for path, place in summary.pictures.get(result, ()):
         name = shown_path(path) + (f" to {shown_path(place)}" if place else "")
         if names and sum(map(len, names)) + len(name) > LONGEST_NAMES:
             break

@@ -96,16 +96,20 @@ def _read_again(folders: Sequence[bytes], arguments: argparse.Namespace, before:
 # What is printed
 
 
-def _add(arguments: argparse.Namespace, listed: List[str], it: verified.Verified) -> None:
+def _add(arguments: argparse.Namespace, listed: List[str], result: verified.Verified) -> None:
     """Prints an object, or notes the line of a file if it is one of the first."""
     if arguments.json:
-        place = None if it.place is None else path_members(it.place)
-        print_object("verify", "picture", {**path_members(it.path), "state": it.state, "note": it.note or None, "place": place})
-    elif len(listed) <= SHOWN and it.state != verified.AS_IT_WAS:
-        words = [it.note] * bool(it.note)
-        if it.place is not None:
-            words = [f"to {shown_path(it.place)}", *words] if it.state == verified.MOVED else [f"{it.note} {shown_path(it.place)}"]
-        listed.append(shown_path(it.path) + (f" ({', '.join(words)})" if words else ""))
+        place = None if result.place is None else path_members(result.place)
+        print_object("verify", "picture", {**path_members(result.path), "state": result.state, "note": result.note or None, "place": place})
+    elif len(listed) <= SHOWN and result.state != verified.AS_IT_WAS:
+        words = [result.note] * bool(result.note)
+        if result.place is not None:
+            words = (
+                [f"to {shown_path(result.place)}", *words]
+                if result.state == verified.MOVED
+                else [f"{result.note} {shown_path(result.place)}"]
+            )
+        listed.append(shown_path(result.path) + (f" ({', '.join(words)})" if words else ""))
 
 
 def _lines(counts: "Counter[str]", listed: Dict[str, List[str]], new: int, files: int, size: int) -> Iterator[str]:

@@ -206,29 +206,31 @@ def _compared(pair: Pair, pairs: Sides, session: Optional[Session], choice: Choi
     return it
 
 
-def _unread(name: bytes, one: Picture, other: Picture) -> Compared:
+def _unread(name: bytes, picture: Picture, other: Picture) -> Compared:
     """Two files of which one or both were not read: their bytes are compared, if they are known."""
-    if one.problem and one.problem == other.problem:
-        is_picture = one.problem != Problem.NO_PICTURE
+    if picture.problem and picture.problem == other.problem:
+        is_picture = picture.problem != Problem.NO_PICTURE
         same, different = (FILE_SAME, FILE_DIFFERENT) if is_picture else (NO_PICTURE_SAME, NO_PICTURE_DIFFERENT)
-        note = one.problem if is_picture else ""
-        if one.file and other.file:
-            return Compared(name, same if one.file == other.file else different, note)
-        if one.size != other.size:
+        note = picture.problem if is_picture else ""
+        if picture.file and other.file:
+            return Compared(name, same if picture.file == other.file else different, note)
+        if picture.size != other.size:
             return Compared(name, different, note)
         return Compared(name, NOT_READ, note or "no picture")
-    notes = [f"{word}: {it.problem}" for word, it in (("before", one), ("after", other)) if it.problem]
+    notes = [f"{word}: {it.problem}" for word, it in (("before", picture), ("after", other)) if it.problem]
     return Compared(name, NOT_READ, ", ".join(notes))
 
 
-def _judge_maker_notes(it: Compared, one: Picture, other: Picture, pairs: Sides, parts: List[str], session: Optional[Session]) -> List[str]:
+def _judge_maker_notes(
+    comparison: Compared, one: Picture, other: Picture, pairs: Sides, parts: List[str], session: Optional[Session]
+) -> List[str]:
     """Asks ExifTool where the bytes or the place of a MakerNote differ, or the bytes that only it can reach. Returns the parts that stay open."""
-    lines = [change for change in it.changes if change[:2] == MAKER_NOTE and change.before and change.after]
+    lines = [change for change in comparison.changes if change[:2] == MAKER_NOTE and change.before and change.after]
     both = bool(one.maker_notes and other.maker_notes)
     moved = both and one.maker_notes != other.maker_notes
     reached = [part for part in parts if part.endswith(REACHED)] if both else []
     rewritten = both and one.exif_octets != other.exif_octets  # then what the MakerNote leads to may be gone or have changed
-    if not (lines or moved or reached or rewritten) or it.result == REFUSED_SAME:
+    if not (lines or moved or reached or rewritten) or comparison.result == REFUSED_SAME:
         return parts
     from ..judge import maker_notes  # which is seldom needed
 
@@ -237,57 +239,58 @@ def _judge_maker_notes(it: Compared, one: Picture, other: Picture, pairs: Sides,
         gone = [word for word, picture in (("earlier", one), ("later", other)) if session and not maker_notes.is_there(picture)]
         if gone:
             note = f"differs in bytes, the {' and the '.join(gone)} picture {'is' if len(gone) == 1 else 'are'} gone or changed"
-            it.changes = [change._replace(note=note) if change in lines else change for change in it.changes]
-        is_open = rewritten and not reached and any(one.kind == EXIF and one.result == SAME for one in it.verdicts)
+            comparison.changes = [change._replace(note=note) if change in lines else change for change in comparison.changes]
+        is_open = rewritten and not reached and any(one.kind == EXIF and one.result == SAME for one in comparison.verdicts)
         if not lines and (moved or is_open):
             what = "a MakerNote that has moved" if moved else "a MakerNote in a block that was written anew"
             parts = [*parts, f"{what}, for which ExifTool and both files are needed"]
-            it.result = result(it.verdicts, parts)
+            comparison.result = result(comparison.verdicts, parts)
         return parts
     if found.doubt and not found.differences:
-        return _in_doubt(it, lines, moved, found, parts)
-    it.maker_note = found.differences
+        return _in_doubt(comparison, lines, moved, found, parts)
+    comparison.maker_note = found.differences
     if found.differences:
-        _read_otherwise(it, lines, moved)
+        _read_otherwise(comparison, lines, moved)
         return parts
     if not moved:  # an edit in place: ExifTool may overlook it, since it corrects some MakerNotes before it reads them
-        it.note += "; MakerNote reads the same (ExifTool)" if lines or reached else ""
-        it.changes = [
-            change._replace(note="differs in bytes, reads the same (ExifTool)") if change in lines else change for change in it.changes
+        comparison.note += "; MakerNote reads the same (ExifTool)" if lines or reached else ""
+        comparison.changes = [
+            change._replace(note="differs in bytes, reads the same (ExifTool)") if change in lines else change
+            for change in comparison.changes
         ]
         return parts
-    it.note += "; MakerNote moved, reads the same (ExifTool)"
-    it.changes = [change for change in it.changes if change not in lines]
-    if not any(change.where in _OF_EXIF for change in it.changes):
-        plain = [verdict.kind == EXIF and verdict.result in (SAME, DIFFERENT, DIFFERENT_REPAIRED) for verdict in it.verdicts]
-        it.verdicts = [Verdict(EXIF, MOVED_NOTE) if is_exif else verdict for verdict, is_exif in zip(it.verdicts, plain)]
+    comparison.note += "; MakerNote moved, reads the same (ExifTool)"
+    comparison.changes = [change for change in comparison.changes if change not in lines]
+    if not any(change.where in _OF_EXIF for change in comparison.changes):
+        plain = [verdict.kind == EXIF and verdict.result in (SAME, DIFFERENT, DIFFERENT_REPAIRED) for verdict in comparison.verdicts]
+        comparison.verdicts = [Verdict(EXIF, MOVED_NOTE) if is_exif else verdict for verdict, is_exif in zip(comparison.verdicts, plain)]
     parts = [part for part in parts if part not in reached]
-    it.result = result(it.verdicts, parts)
+    comparison.result = result(comparison.verdicts, parts)
     return parts
 
 
-def _in_doubt(it: Compared, lines: List[Difference], moved: bool, found: "maker_notes.Compared", parts: List[str]) -> List[str]:
+def _in_doubt(comparison: Compared, lines: List[Difference], moved: bool, found: "maker_notes.Compared", parts: List[str]) -> List[str]:
     """A MakerNote of which no value differs, though that may mean nothing. Returns the parts that stay open."""
     has_moved = "has moved, " * moved
-    it.changes = [
-        change._replace(note=f"{has_moved}differs in bytes, {found.doubt}") if change in lines else change for change in it.changes
+    comparison.changes = [
+        change._replace(note=f"{has_moved}differs in bytes, {found.doubt}") if change in lines else change for change in comparison.changes
     ]
     if not lines and (moved or found.is_new):
         parts = [*parts, f"a MakerNote that {'has moved' if moved else 'may be damaged'} ({found.doubt})"]
-        it.result = result(it.verdicts, parts)
+        comparison.result = result(comparison.verdicts, parts)
     return parts
 
 
-def _read_otherwise(it: Compared, lines: List[Difference], moved: bool) -> None:
+def _read_otherwise(comparison: Compared, lines: List[Difference], moved: bool) -> None:
     """One change for all values of MakerNotes that ExifTool reads otherwise."""
-    count = len(it.maker_note or [])
+    count = len(comparison.maker_note or [])
     note = f"{'has moved, and ' if moved else ''}now reads otherwise: {count} value{'s' * (count > 1)}"
     change = lines[0] if lines else Difference(*MAKER_NOTE, (), ())
-    at = it.changes.index(change) if lines else len(it.changes)
-    it.changes[at : at + bool(lines)] = [change._replace(note=note)]
-    if not any(verdict.result in (DIFFERENT, DIFFERENT_REPAIRED) for verdict in it.verdicts):
-        it.result = DIFFERENT
-    it.note += f"; MakerNote {note} (ExifTool)"
+    at = comparison.changes.index(change) if lines else len(comparison.changes)
+    comparison.changes[at : at + bool(lines)] = [change._replace(note=note)]
+    if not any(verdict.result in (DIFFERENT, DIFFERENT_REPAIRED) for verdict in comparison.verdicts):
+        comparison.result = DIFFERENT
+    comparison.note += f"; MakerNote {note} (ExifTool)"
 
 
 _OF_EXIF = ("main", "exif", "interop", "gps", "thumb")
@@ -302,49 +305,49 @@ def _extracted(blocks: Iterable[Block]) -> str:
     return "".join(f"; extracted by {PROGRAMS[it]}" for it in PROGRAMS if it in used)
 
 
-def _add_details(it: Compared, blocks: List[Sequence[Block]], pairs: Sides, parts: List[str], choice: Choice) -> None:
+def _add_details(comparison: Compared, blocks: List[Sequence[Block]], pairs: Sides, parts: List[str], choice: Choice) -> None:
     """Adds the fields that differ, and the causes of refusals."""
     left = _Left(choice)
     only_notes = True
-    out = [one.kind for one in it.verdicts if one.result == LEFT_OUT]
+    out = [one.kind for one in comparison.verdicts if one.result == LEFT_OUT]
     first, second = ({(block.kind, block.name): block for block in side if block.kind not in out} for side in blocks)
     for key in dict.fromkeys([*first, *second]):
         one, other = first.get(key), second.get(key)
         if all(block is None or block.status == ACCEPTED or block.repair for block in (one, other)):
-            it.note += _repairs_of(it, key[1], one, other)
+            comparison.note += _repairs_of(comparison, key[1], one, other)
             if one and other and one.digest == other.digest and (one.digest or one.octets == other.octets):
                 continue
             fields = pairs.fields(BEFORE, one), pairs.fields(AFTER, other)
             block = "" if key[1] == NAMES[key[0]] else key[1]
             is_equal = bool(one and other and one.meaning and one.meaning == other.meaning)
             kept, lost = _known(differences(*fields, block), one, other)
-            it.note += lost
+            comparison.note += lost
             found = left.without(key[0], kept, is_equal)
             is_of_note = bool(found and one and other) and all(change[:2] == MAKER_NOTE for change in found)
             only_notes = only_notes and (is_of_note or key[0] != EXIF or (is_equal and not found))
-            it.changes += found if one and other else [change._replace(part=key[1]) for change in found]
+            comparison.changes += found if one and other else [change._replace(part=key[1]) for change in found]
         if not any(block and block.repair for block in (one, other)):
-            it.note += _report_of(key[1], one, other)
-    left.settle(it, parts)
-    if it.result == DIFFERENT and only_notes and [one.kind for one in it.verdicts if one.result == DIFFERENT] == [EXIF]:
-        it.result = ONLY_MAKER_NOTE
-    elif it.result == DIFFERENT and it.changes and all(change.is_equal_number for change in it.changes):
-        it.result = ONLY_NUMBERS
+            comparison.note += _report_of(key[1], one, other)
+    left.settle(comparison, parts)
+    if comparison.result == DIFFERENT and only_notes and [one.kind for one in comparison.verdicts if one.result == DIFFERENT] == [EXIF]:
+        comparison.result = ONLY_MAKER_NOTE
+    elif comparison.result == DIFFERENT and comparison.changes and all(change.is_equal_number for change in comparison.changes):
+        comparison.result = ONLY_NUMBERS
 
 
-def _known(found: List[Difference], one: Optional[Block], other: Optional[Block]) -> Tuple[List[Difference], str]:
+def _known(differences: List[Difference], one: Optional[Block], other: Optional[Block]) -> Tuple[List[Difference], str]:
     """The differences without those fields that one block has, and that the repair of the other one may have lost; and a note about these."""
     lost = [steps.lost_fields(block.steps) if block else frozenset() for block in (one, other)]
-    unknown = [it for it in found if (not it.before and _is_of(it, lost[0])) or (not it.after and _is_of(it, lost[1]))]
+    unknown = [it for it in differences if (not it.before and _is_of(it, lost[0])) or (not it.after and _is_of(it, lost[1]))]
     if not unknown:
-        return found, ""
+        return differences, ""
     groups = " and ".join(dict.fromkeys(group_of(it.where) for it in unknown))
     many = f"{len(unknown):,} field{'s' * (len(unknown) > 1)} of {groups} that one picture has"
-    return [it for it in found if it not in unknown], f"; {many}: the repair of the other one may have lost them"
+    return [it for it in differences if it not in unknown], f"; {many}: the repair of the other one may have lost them"
 
 
-def _is_of(it: Difference, lost: FrozenSet[str]) -> bool:
-    return it.where in lost or f"{it.where} {it.key}" in lost
+def _is_of(difference: Difference, lost: FrozenSet[str]) -> bool:
+    return difference.where in lost or f"{difference.where} {difference.key}" in lost
 
 
 class _Left:
@@ -357,60 +360,60 @@ class _Left:
         self.by_numbers: Set[str] = set()  # kinds of which equal numbers count as equal
         self.rest: Set[str] = set()  # kinds with a difference that counts, or that no field shows
 
-    def without(self, kind: str, found: List[Difference], is_equal: bool) -> List[Difference]:
+    def without(self, kind: str, differences: List[Difference], is_equal: bool) -> List[Difference]:
         """The differences of a block that count. If there is none at all, and the blocks aren't equal, something else differs."""
-        kept = [it for it in found if self.choice.counts(it.where, it.key, it.block)]
-        if len(kept) < len(found):
+        kept = [it for it in differences if self.choice.counts(it.where, it.key, it.block)]
+        if len(kept) < len(differences):
             self.by_fields.add(kind)
-            self.names.update({it.name: None for it in found if not self.choice.counts(it.where, it.key, it.block)})
+            self.names.update({it.name: None for it in differences if not self.choice.counts(it.where, it.key, it.block)})
         counted = [it for it in kept if not (self.choice.equal_numbers and it.is_equal_number)]
         if len(counted) < len(kept):
             self.by_numbers.add(kind)
-        if counted or not (found or is_equal):
+        if counted or not (differences or is_equal):
             self.rest.add(kind)
         return counted
 
-    def settle(self, it: Compared, parts: List[str]) -> None:
+    def settle(self, comparison: Compared, parts: List[str]) -> None:
         """The result without what is left out."""
-        it.left_out += self.names
+        comparison.left_out += self.names
         words = {**dict.fromkeys(self.by_numbers, SAME_NUMBERS), **dict.fromkeys(self.by_fields, SAME_BUT)}
-        for at, verdict in enumerate(it.verdicts):
+        for at, verdict in enumerate(comparison.verdicts):
             if verdict.kind in words and verdict.kind not in self.rest and verdict.result in (DIFFERENT, DIFFERENT_REPAIRED):
-                it.verdicts[at] = Verdict(verdict.kind, words[verdict.kind] if verdict.result == DIFFERENT else SAME_REPAIRED)
+                comparison.verdicts[at] = Verdict(verdict.kind, words[verdict.kind] if verdict.result == DIFFERENT else SAME_REPAIRED)
         if words:
-            it.result = result(it.verdicts, parts)
+            comparison.result = result(comparison.verdicts, parts)
 
 
-def _leave_out_kinds(it: Compared, one: Picture, other: Picture, parts: List[str], choice: Choice) -> List[str]:
+def _leave_out_kinds(comparison: Compared, picture: Picture, other: Picture, parts: List[str], choice: Choice) -> List[str]:
     """Leaves out whole kinds of blocks, and what only MakerNotes lead to. Returns the parts that stay open."""
     if not choice:
         return parts
-    for at, verdict in enumerate(it.verdicts):
+    for at, verdict in enumerate(comparison.verdicts):
         if verdict.kind not in choice.kinds and verdict.result not in (SAME, ABSENT) and not verdict.same_bytes:
-            it.verdicts[at] = Verdict(verdict.kind, LEFT_OUT)
-            it.left_out.append(NAMES[verdict.kind])
+            comparison.verdicts[at] = Verdict(verdict.kind, LEFT_OUT)
+            comparison.left_out.append(NAMES[verdict.kind])
             choice.see_kind(verdict.kind)
     if choice.leaves_out_maker_notes:
         left = [part for part in parts if not part.endswith(REACHED)]
-        has_moved = bool(one.maker_notes and other.maker_notes) and one.maker_notes != other.maker_notes
+        has_moved = bool(picture.maker_notes and other.maker_notes) and picture.maker_notes != other.maker_notes
         if has_moved or len(left) < len(parts):
-            it.left_out.append(group_name(*MAKER_NOTE))
-            it.verdicts = [
-                Verdict(EXIF, SAME_BUT) if (verdict.kind, verdict.result) == (EXIF, SAME) else verdict for verdict in it.verdicts
+            comparison.left_out.append(group_name(*MAKER_NOTE))
+            comparison.verdicts = [
+                Verdict(EXIF, SAME_BUT) if (verdict.kind, verdict.result) == (EXIF, SAME) else verdict for verdict in comparison.verdicts
             ]
         parts = left
-    it.result = result(it.verdicts, parts)
+    comparison.result = result(comparison.verdicts, parts)
     return parts
 
 
-def _repairs_of(it: Compared, name: str, one: Optional[Block], other: Optional[Block]) -> str:
+def _repairs_of(comparison: Compared, name: str, one: Optional[Block], other: Optional[Block]) -> str:
     """Why a block is refused, and by which repairs its fields are read."""
     first, second = (block.steps if block else () for block in (one, other))
     if not first and not second:
         return ""
     if one and other and one.octets == other.octets:
         return f"; {name}: {one.refusal}"
-    it.repairs.append((name, first, second))
+    comparison.repairs.append((name, first, second))
     texts = [_repair_of(block) for block in (one, other)]
     if texts[0] == texts[1]:
         text = f"; {name}: {texts[0]}"
@@ -428,15 +431,15 @@ def _repair_of(block: Optional[Block]) -> str:
     return f"{block.status}, {block.refusal}, read after repair: {steps.words(block.steps)}"
 
 
-def _report_of(name: str, one: Optional[Block], other: Optional[Block]) -> str:
+def _report_of(name: str, block: Optional[Block], other: Optional[Block]) -> str:
     """The report on one block besides its fields: that only one side has it, or why it is refused."""
-    texts = [None if it is None else it.refusal if it.status != ACCEPTED else "accepted" for it in (one, other)]
-    if one and other and one.octets == other.octets and one.status != ACCEPTED:
-        return f"; {name}: {one.refusal}"
+    texts = [None if it is None else it.refusal if it.status != ACCEPTED else "accepted" for it in (block, other)]
+    if block and other and block.octets == other.octets and block.status != ACCEPTED:
+        return f"; {name}: {block.refusal}"
     if texts == ["accepted", "accepted"]:
         return ""
     if None in texts and "accepted" in texts:
-        return f"; no {name} {'before' if one is None else 'after'}"
+        return f"; no {name} {'before' if block is None else 'after'}"
     return f"; {name}: " + ", ".join(f"{word} {text}" for word, text in zip(("before", "after"), texts) if text)
 
 

@@ -24,21 +24,21 @@ class CodedResult(NamedTuple):
     note: str = ""
 
 
-def result_of(one: Optional[Picture], other: Optional[Picture]) -> CodedResult:
+def result_of(picture: Optional[Picture], other: Optional[Picture]) -> CodedResult:
     """Whether two files have the same coded picture. One that is damaged later on is no other picture, and isn't the same either."""
-    if one is None or other is None:
+    if picture is None or other is None:
         return CodedResult()
-    if other.damage and one.damage:
+    if other.damage and picture.damage:
         return CodedResult(DAMAGED_BOTH, f"{DAMAGED_BOTH}: {other.damage}")
     if other.damage:
-        return CodedResult(DAMAGED, other.damage + ("" if one.coded_picture else ", and whether it was so before isn't known"))
-    if one.type != other.type:  # the data of two formats can't be equal, even if the pictures are
+        return CodedResult(DAMAGED, other.damage + ("" if picture.coded_picture else ", and whether it was so before isn't known"))
+    if picture.type != other.type:  # the data of two formats can't be equal, even if the pictures are
         return CodedResult()
-    if one.damage:
-        return CodedResult(OTHER, f"before it was damaged: {one.damage}")
-    if one.coded_picture and other.coded_picture:
-        return CodedResult(SAME if one.coded_picture == other.coded_picture else OTHER)
-    return CodedResult(SAME if one.sha256 and one.sha256 == other.sha256 else UNKNOWN)
+    if picture.damage:
+        return CodedResult(OTHER, f"before it was damaged: {picture.damage}")
+    if picture.coded_picture and other.coded_picture:
+        return CodedResult(SAME if picture.coded_picture == other.coded_picture else OTHER)
+    return CodedResult(SAME if picture.sha256 and picture.sha256 == other.sha256 else UNKNOWN)
 
 
 def sentence(counts: "Counter[str]", pixels: str = "index --pixels") -> str:

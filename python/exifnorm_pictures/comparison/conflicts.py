@@ -67,11 +67,11 @@ class _How(NamedTuple):
     worse: str = ""  # a field
 
 
-def conflicts(found: Sequence[LabelText]) -> List[Conflict]:
+def conflicts(texts: Sequence[LabelText]) -> List[Conflict]:
     """The labels with texts in two standards at least."""
     result = []
     for label in LABELS:
-        ours = [it for it in found if it.label == label.word and not it.block and not it.is_extra]
+        ours = [it for it in texts if it.label == label.word and not it.block and not it.is_extra]
         if len({it.standard for it in ours}) > 1 and any(not it.is_empty for it in ours):
             result.append(_conflict(label, ours))
     return result
@@ -90,25 +90,25 @@ def _conflict(label: Label, ours: Sequence[LabelText]) -> Conflict:
     return Conflict(label.word, kind, "; ".join(details), tuple(shown), worse)
 
 
-def chosen(found: Sequence[LabelText], known: Sequence[Conflict]) -> Optional[LabelText]:
+def chosen(texts: Sequence[LabelText], known: Sequence[Conflict]) -> Optional[LabelText]:
     """The texts of a label where there is space for one field, which aren't a camera's: those that are whole, on which two standards agree, and
     the first in their order."""
     worse = {field for it in known for field in it.worse}
-    some = [it for it in found if not it.block and not it.is_empty and not it.is_own]
+    some = [it for it in texts if not it.block and not it.is_empty and not it.is_own]
     agreeing = Counter(text for text, _ in {(_plain(it.line), it.standard) for it in some if not it.is_extra})
     some.sort(key=lambda it: (it.is_extra, it.field in worse, agreeing[_plain(it.line)] < 2, STANDARDS.index(it.standard)))
     return some[0] if some else None
 
 
-def best(found: Sequence[LabelText], known: Sequence[Conflict]) -> str:
+def best(texts: Sequence[LabelText], known: Sequence[Conflict]) -> str:
     """These texts in a line."""
-    it = chosen(found, known)
+    it = chosen(texts, known)
     return it.line if it else ""
 
 
-def own_texts(found: Sequence[LabelText]) -> List[str]:
+def own_texts(texts: Sequence[LabelText]) -> List[str]:
     """The texts that a camera or a program writes by itself, each once."""
-    return list(dict.fromkeys(it.line for it in found if it.is_own))
+    return list(dict.fromkeys(it.line for it in texts if it.is_own))
 
 
 def _plain(text: str) -> str:
@@ -116,30 +116,30 @@ def _plain(text: str) -> str:
     return " ".join(unicodedata.normalize("NFC", text).split())
 
 
-def _pair(label: Label, one: LabelText, other: LabelText) -> _How:
-    first, second = ([_plain(it) for it in texts.texts if _plain(it)] for texts in (one, other))
+def _pair(label: Label, text: LabelText, other: LabelText) -> _How:
+    first, second = ([_plain(it) for it in texts.texts if _plain(it)] for texts in (text, other))
     if first == second:
         return _How(ALIKE)
     if label.word == DATE:
         return _How(ALIKE if _is_same_time(first[0], second[0]) else DIFFERENT)
-    if label.is_list and (found := _lists(first, second, one, other)):
+    if label.is_list and (found := _lists(first, second, text, other)):
         return found
     if len(first) != len(second):
-        return _How(DIFFERENT, f"{one.field} has {len(first)}, {other.field} {len(second)}" if label.is_list else "")
-    each = [_texts_differ(label, (mine, its), (one, other), at) for at, (mine, its) in enumerate(zip(first, second))]
+        return _How(DIFFERENT, f"{text.field} has {len(first)}, {other.field} {len(second)}" if label.is_list else "")
+    each = [_texts_differ(label, (mine, its), (text, other), at) for at, (mine, its) in enumerate(zip(first, second))]
     return max(each, key=lambda it: KINDS.index(it.kind))
 
 
-def _lists(first: List[str], second: List[str], one: LabelText, other: LabelText) -> Optional[_How]:
+def _lists(first: List[str], second: List[str], text: LabelText, other: LabelText) -> Optional[_How]:
     """How two lists differ as wholes; None if only their texts can tell."""
     if sorted(first) == sorted(second):
         return _How(ORDER, "another order")
-    for joined, apart, whose in ((first, second, one), (second, first, other)):
+    for joined, apart, whose in ((first, second, text), (second, first, other)):
         if len(joined) == 1 and len(apart) > 1 and sorted(_parts(joined)) == sorted(apart):
             return _How(JOINED, f"{whose.field} has the list in one text")
     mine, its = set(_parts(first)), set(_parts(second))
     if mine < its or its < mine:
-        more, fewer, whose = (second, mine, other) if mine < its else (first, its, one)
+        more, fewer, whose = (second, mine, other) if mine < its else (first, its, text)
         only = [it for it in _parts(more) if it not in fewer]
         return _How(DIFFERENT, f"only {whose.field} has: {', '.join(only[:5])}{' ..' if len(only) > 5 else ''}")
     return None
@@ -226,7 +226,7 @@ def _known(date: str) -> str:
     return found[1] if found else date
 
 
-def _is_same_time(one: str, other: str) -> bool:
+def _is_same_time(text: str, other: str) -> bool:
     """Whether two dates are the same as far as both are known: to the year, the month, the day, the minute or the second, with or without a
     time zone.
 
@@ -235,7 +235,7 @@ def _is_same_time(one: str, other: str) -> bool:
     >>> _is_same_time("2003-05-00", "2003-05-24"), _is_same_time("2003-05", "2003-06-24")
     (True, False)
     """
-    found = [_TIME.fullmatch(_known(it)) for it in (one, other)]
+    found = [_TIME.fullmatch(_known(it)) for it in (text, other)]
     if not found[0] or not found[1]:
         return False
     zones = [it[3] for it in found if it]

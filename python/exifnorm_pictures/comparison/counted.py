@@ -110,9 +110,9 @@ def _counted(row: Tuple[str, str, str, Optional[str], str, Optional[str], Option
     return _Counted(*found, _digest(rest, choice) or "no other field", of_others, of_others)
 
 
-def _with_exact_xmp(it: Field) -> Any:
+def _with_exact_xmp(field: Field) -> Any:
     """A field, one of XMP with its exact value, in which the members of a list without an order have one."""
-    return it._replace(value=exact(it)) if it.where == "xmp" else it  # type: ignore[arg-type]
+    return field._replace(value=exact(field)) if field.where == "xmp" else field  # type: ignore[arg-type]
 
 
 def _digest(fields: Sequence[Field], choice: Choice) -> str:

@@ -63,7 +63,7 @@ def bare(fields: Sequence[Field]) -> Optional[str]:
     return ", ".join(shortened(listing.exact(it)) if it.type in texts else exact([it]) or "" for it in fields) if fields else None
 
 
-def equal_form(it: Field) -> Tuple[object, ...]:
+def equal_form(field: Field) -> Tuple[object, ...]:
     """What is equal for fields that differ only in their form: numbers by value, and bytes whatever their type is.
 
     >>> equal_form(Field("exif", "829a", "RATIONAL", 1, ((10, 80000),))) == equal_form(Field("exif", "829a", "RATIONAL", 1, ((1, 8000),)))
@@ -71,11 +71,11 @@ def equal_form(it: Field) -> Tuple[object, ...]:
     >>> equal_form(Field("exif", "a300", "BYTE", 1, b"\\3")) == equal_form(Field("exif", "a300", "UNDEFINED", 1, b"\\3"))
     True
     """
-    if it.type in OCTETS:
-        return ("octets", it.elements, _octets_form(it.value))
-    if it.type not in NUMBERS or isinstance(it.value, Long):
-        return (it.type, it.elements, it.value)
-    return tuple(map(_number, it.value))
+    if field.type in OCTETS:
+        return ("octets", field.elements, _octets_form(field.value))
+    if field.type not in NUMBERS or isinstance(field.value, Long):
+        return (field.type, field.elements, field.value)
+    return tuple(map(_number, field.value))
 
 
 def _octets_form(value: Any) -> object:
@@ -111,8 +111,8 @@ def _directory(where: str, there: Sequence["set[str]"]) -> str:
     return "" if all(where in it for it in there) else group_of(where)
 
 
-def _by_name(found: Sequence[Field]) -> Dict[Tuple[str, str], List[Field]]:
+def _by_name(fields: Sequence[Field]) -> Dict[Tuple[str, str], List[Field]]:
     result: Dict[Tuple[str, str], List[Field]] = {}
-    for it in found:
+    for it in fields:
         result.setdefault((it.where, it.key), []).append(it)
     return result

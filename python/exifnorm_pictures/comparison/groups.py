@@ -317,12 +317,12 @@ _DIFFERENT = "count(DISTINCT whole), count(DISTINCT listing), count(DISTINCT pla
 _DIFFERENT_BUT_NOTES = "count(DISTINCT other_whole), count(DISTINCT other_listing), 1"
 
 
-def _there(basis: str, kinds: Tuple[str, ...], found: Iterable[Picture], look: bool, folders: Optional[Folders] = None) -> Group:
+def _there(basis: str, kinds: Tuple[str, ...], pictures: Iterable[Picture], look: bool, folders: Optional[Folders] = None) -> Group:
     """The different files of some pictures that are there; the further names of each, and those that are gone or have changed."""
     group = Group(basis, kinds, [])
     places: Dict[object, Dict[object, int]] = {}  # of each file among the members, by device and inode
     further: Dict[int, List[Picture]] = {}
-    for it in found:
+    for it in pictures:
         state, (device, inode) = _state(it) if look else ("", (it.device, it.inode))
         if not state and folders and not folders.is_marked_as(it.path, it.sidecars):
             state = "changed"
@@ -344,13 +344,13 @@ def _there(basis: str, kinds: Tuple[str, ...], found: Iterable[Picture], look: b
     return group
 
 
-def _shrunk(it: Picture, before: Sequence[Picture]) -> Picture:
+def _shrunk(picture: Picture, before: Sequence[Picture]) -> Picture:
     """Drops the marks, which were needed to look at the file, and takes what is equal in the picture before it from there: a group may have
     all pictures of an archive, and is in memory."""
-    it = it._replace(modified=None, changed=None, inode=None, device=None, sidecars="")
+    picture = picture._replace(modified=None, changed=None, inode=None, device=None, sidecars="")
     for other in before:
-        it = Picture._make(theirs if theirs == ours else ours for ours, theirs in zip(it, other))
-    return it
+        picture = Picture._make(theirs if theirs == ours else ours for ours, theirs in zip(picture, other))
+    return picture
 
 
 def _real(names: List[Picture]) -> Picture:
@@ -358,13 +358,13 @@ def _real(names: List[Picture]) -> Picture:
     return next((it for it in names if os.path.realpath(it.path) == it.path), names[0])
 
 
-def _state(it: Picture) -> Tuple[str, Tuple[int, int]]:
+def _state(picture: Picture) -> Tuple[str, Tuple[int, int]]:
     """`gone`, `changed`, or nothing for a file that is as it was; and the device and inode of the file."""
     try:
-        now = os.stat(it.path)
+        now = os.stat(picture.path)
     except (OSError, ValueError):  # a name that has a NUL
         return "gone", (0, 0)
-    if not is_marked_as(Stamp.of(now), it.marks):
+    if not is_marked_as(Stamp.of(now), picture.marks):
         return "changed", (0, 0)
     return "", (now.st_dev, now.st_ino)
 
@@ -399,11 +399,11 @@ def _take_one_of_each(group: Group) -> None:
     group.links = [it for it in group.links if it.of in here]
 
 
-def _class_of(it: Picture, kinds: Sequence[str]) -> Tuple[object, ...]:
+def _class_of(picture: Picture, kinds: Sequence[str]) -> Tuple[object, ...]:
     """What is equal for pictures of one earlier group."""
     at = [KINDS.index(kind) for kind in kinds]
-    meaning = tuple(it.octets[number] if it.meanings[number] is None else it.meanings[number] for number in at)
-    return meaning, it.not_read, it.maker_notes
+    meaning = tuple(picture.octets[number] if picture.meanings[number] is None else picture.meanings[number] for number in at)
+    return meaning, picture.not_read, picture.maker_notes
 
 
 def _by_reading(group: Group, readings: Readings) -> Iterator[Group]:
@@ -469,31 +469,31 @@ def _result(group: Group) -> str:
     return ONLY_MAKER_NOTE if group.has_other_notes else ONLY_REACHED
 
 
-def _meaning(it: Picture) -> Optional[str]:
+def _meaning(picture: Picture) -> Optional[str]:
     """The digest of what Exif means, after repair too."""
-    return it.exif_repaired if it.exif is None else it.exif
+    return picture.exif_repaired if picture.exif is None else picture.exif
 
 
-def _is_repaired(it: Picture) -> bool:
+def _is_repaired(picture: Picture) -> bool:
     """Whether the meaning of a picture is known after a repair."""
-    return it.exif is None and None not in (it.iptc, it.xmp)
+    return picture.exif is None and None not in (picture.iptc, picture.xmp)
 
 
-def _note_of(it: Picture) -> Tuple[str, str]:
+def _note_of(picture: Picture) -> Tuple[str, str]:
     """What can make a MakerNote read differently: where it is, and the bytes of the blocks."""
-    return (it.maker_notes, it.exif_octets) if it.maker_notes else ("", "")
+    return (picture.maker_notes, picture.exif_octets) if picture.maker_notes else ("", "")
 
 
-def _reason(catalogue: Catalogue, it: Picture, basis: str) -> str:
+def _reason(catalogue: Catalogue, picture: Picture, basis: str) -> str:
     """Why a picture of a group isn't simply accepted: its refusals, or its repairs."""
     query = "SELECT name, cause, repair FROM blocks WHERE picture = ? AND status != 'accepted' ORDER BY number"
     found = []
-    for name, cause, repair in catalogue.rows(query, (it.id,)):
+    for name, cause, repair in catalogue.rows(query, (picture.id,)):
         if basis in (REPAIR, MAKER_NOTE) and repair:
             found.append(f"{name} repaired in memory: {steps.words(steps.unpacked(repair))}")
         else:
             found.append(f"{name} refused: {cause}")
-    return "; ".join(found) or (it.problem or "")
+    return "; ".join(found) or (picture.problem or "")
 
 
 def totals(catalogue: Catalogue, kinds: Sequence[str] = KINDS, only: Optional[str] = None, choice: Choice = EVERYTHING) -> Tuple[int, int]:

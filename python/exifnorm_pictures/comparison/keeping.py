@@ -53,19 +53,24 @@ def keeping(group: Group, reads: bool = True) -> Dict[int, Keep]:
     return {it.id: _keep(it, keys, equal, damages, has_unknown) for it in members}
 
 
-def _keep(it: Picture, keys: Dict[int, _Key], equal: Dict[_Key, List[Picture]], damages: Dict[int, str], has_unknown: bool) -> Keep:
-    if it.id in damages:
-        return Keep(why=f"damaged: {damages[it.id]}")
-    if it.id not in keys:
+def _keep(picture: Picture, keys: Dict[int, _Key], equal: Dict[_Key, List[Picture]], damages: Dict[int, str], has_unknown: bool) -> Keep:
+    if picture.id in damages:
+        return Keep(why=f"damaged: {damages[picture.id]}")
+    if picture.id not in keys:
         return Keep(why=NOT_KNOWN)
-    same = equal[keys[it.id]]
+    same = equal[keys[picture.id]]
     if len(same) == 1:
-        if any(one is not it and one.coded_picture == it.coded_picture for some in equal.values() for one in some if it.coded_picture):
+        if any(
+            one is not picture and one.coded_picture == picture.coded_picture
+            for some in equal.values()
+            for one in some
+            if picture.coded_picture
+        ):
             return Keep(why=OTHER_BESIDE)
-        return Keep(why=NOT_KNOWN if has_unknown else OTHER if keys[it.id][0] == "picture" else OTHER_FILE)
-    if it is not same[0]:
+        return Keep(why=NOT_KNOWN if has_unknown else OTHER if keys[picture.id][0] == "picture" else OTHER_FILE)
+    if picture is not same[0]:
         return Keep(False, same_as=same[0].path)
-    has_equal_bytes = keys[it.id][0] == "file" or (len({one.sha256 for one in same}) == 1 and bool(it.sha256))
+    has_equal_bytes = keys[picture.id][0] == "file" or (len({one.sha256 for one in same}) == 1 and bool(picture.sha256))
     return Keep(True, "" if has_equal_bytes else NOT_ALL)
 
 
@@ -88,8 +93,8 @@ def _keys(members: Sequence[Picture], reads: bool) -> Dict[int, _Key]:
     return found
 
 
-def _damage_of(it: Picture) -> str:
+def _damage_of(picture: Picture) -> str:
     from ..extract import coded_picture
     from ..model.budgets import Budget
 
-    return coded_picture.of_file(it.path, Budget()).damage
+    return coded_picture.of_file(picture.path, Budget()).damage

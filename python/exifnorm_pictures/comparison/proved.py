@@ -15,13 +15,13 @@ from ..model.records import Picture
 from ..model.verdicts import DIFFERENT, NOT_WHOLLY_READ, SAME
 
 
-def answer(one: Picture, other: Picture) -> Optional[str]:
+def answer(picture: Picture, other: Picture) -> Optional[str]:
     """`SAME`, `DIFFERENT`, or `NOT_WHOLLY_READ`: the same as far as it was read. None if the library has no answer: one of the two is no JPEG,
     has a damaged head or a block that is refused, or can't be read."""
-    if not one.type == other.type == "JPEG":
+    if not picture.type == other.type == "JPEG":
         return None
     try:
-        found = exifnorm.jpeg_same(_head(one.path), _head(other.path))
+        found = exifnorm.jpeg_same(_head(picture.path), _head(other.path))
     except (exifnorm.PictureRefused, OSError, TooMuch):
         return None
     if isinstance(found, exifnorm.NotRead):

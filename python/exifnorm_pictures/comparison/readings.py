@@ -43,8 +43,8 @@ class Read(NamedTuple):
     is_in_doubt: bool
 
     @classmethod
-    def of(cls, it: "maker_notes.Reading") -> "Read":
-        return cls(it.key, bool(it.doubt))
+    def of(cls, reading: "maker_notes.Reading") -> "Read":
+        return cls(reading.key, bool(reading.doubt))
 
 
 class Readings:
@@ -72,11 +72,11 @@ class Readings:
                 self._known[it.id] = None if found is None else Read.of(found)
         return self._known
 
-    def count(self, it: Picture, asked: Picture) -> None:
+    def count(self, picture: Picture, asked: Picture) -> None:
         """Counts a picture once, of which the reading isn't known, or may mean nothing; `asked` is the one with the same MakerNote."""
-        if it.id in self._counted:
+        if picture.id in self._counted:
             return
-        self._counted.add(it.id)
+        self._counted.add(picture.id)
         if self._known.get(asked.id):
             self.unknown[IN_DOUBT] += 1
         else:

@@ -59,21 +59,21 @@ class FieldCount:
         """The number of pictures by which fields are ordered."""
         return max(self.has_value, self.went)
 
-    def add(self, it: Difference) -> None:
+    def add(self, difference: Difference) -> None:
         """Counts one more picture."""
-        if it.sign == "-":
+        if difference.sign == "-":
             self.went += 1
-            self.in_parts.update([it.part] if it.part else ())
+            self.in_parts.update([difference.part] if difference.part else ())
             return
-        self.came += it.sign == "+"
-        self.changed += it.sign == "~"
-        found = what(it)
+        self.came += difference.sign == "+"
+        self.changed += difference.sign == "~"
+        found = what(difference)
         if found.key not in self.values and len(self.values) == VALUES:
             self.uncounted += 1
         else:
             value = self.values.setdefault(found.key, ValueCount(found))
             value.count += 1
-            value.came += it.sign == "+"
+            value.came += difference.sign == "+"
             value.is_one = value.is_one and value.first.before == found.before
         if found.step and (found.step in self.steps or len(self.steps) < VALUES):
             self.steps[found.step] += 1
@@ -118,25 +118,25 @@ class Summary:
         self._fields: Dict[str, FieldCount] = {}
         self._count = 0  # of all fields that are counted
 
-    def add(self, it: Compared) -> None:
+    def add(self, comparison: Compared) -> None:
         """Counts a picture that was compared."""
-        names = self.pictures.setdefault(it.result, [])
+        names = self.pictures.setdefault(comparison.result, [])
         if len(names) < NAMES:
-            names.append((it.name, it.moved_to or b""))
-        equal = [one for one in it.changes if one.is_equal_number]
+            names.append((comparison.name, comparison.moved_to or b""))
+        equal = [one for one in comparison.changes if one.is_equal_number]
         self.equal_pictures += bool(equal)
         for one in equal:
             self._add_equal(one)
-        for part in {(one.sign, one.part) for one in it.changes if one.part and self._has_parts}:
-            self._add_part(*part, [one for one in it.changes if (one.sign, one.part) == part])
-        for one in it.changes:
+        for part in {(one.sign, one.part) for one in comparison.changes if one.part and self._has_parts}:
+            self._add_part(*part, [one for one in comparison.changes if (one.sign, one.part) == part])
+        for one in comparison.changes:
             if not one.is_equal_number and not (one.part and self._has_parts and not _is_labelled(one.name)):
                 self._add_field(self._fields, one)
 
-    def _add_equal(self, it: Difference) -> None:
-        self.equal_example = self.equal_example or " -> ".join(map(_number, (it.before[0], it.after[0])))
+    def _add_equal(self, difference: Difference) -> None:
+        self.equal_example = self.equal_example or " -> ".join(map(_number, (difference.before[0], difference.after[0])))
         if len(self.equal_numbers) < FIELDS:
-            self.equal_numbers.add(cut(it.name, LONGEST_NAME))
+            self.equal_numbers.add(cut(difference.name, LONGEST_NAME))
 
     def _add_part(self, sign: str, name: str, changes: Sequence[Difference]) -> None:
         if len(self.parts) == PARTS and (sign, name) not in self.parts:
@@ -150,13 +150,13 @@ class Summary:
             if sign == "+" and not _is_labelled(it.name):
                 self._add_field(part.fields, it)
 
-    def _add_field(self, counted: Dict[str, FieldCount], it: Difference) -> None:
-        name = cut(it.name, LONGEST_NAME)
+    def _add_field(self, counted: Dict[str, FieldCount], difference: Difference) -> None:
+        name = cut(difference.name, LONGEST_NAME)
         if name not in counted and self._count >= FIELDS and not _is_labelled(name):
             self.has_more = True
             return
         self._count += name not in counted
-        counted.setdefault(name, FieldCount(name)).add(it)
+        counted.setdefault(name, FieldCount(name)).add(difference)
 
     def fields(self) -> List[FieldCount]:
         """The fields that changed: first those with a label of `captions`, then those of the most pictures. A block that came is counted by itself;
@@ -183,5 +183,5 @@ def _is_labelled(name: str) -> bool:
     return name in _labelled()
 
 
-def _number(it: Field) -> str:
-    return exact(it) if it.type in NUMBERS else it.type.lower()
+def _number(field: Field) -> str:
+    return exact(field) if field.type in NUMBERS else field.type.lower()

@@ -86,13 +86,13 @@ def read(name: bytes, how: How, session: Session) -> Picture:
     return look(FoundFile(path, os.path.dirname(path), stamp), how, session, packs=False)
 
 
-def compare(one: Picture, other: Picture, each: bool, session: Optional[Session], choice: Choice = EVERYTHING) -> Comparison:
+def compare(picture: Picture, other: Picture, each: bool, session: Optional[Session], choice: Choice = EVERYTHING) -> Comparison:
     """Compares two pictures that were read, by the fields that count. In a session ExifTool is asked for the values of MakerNotes; `each` has a row for
     each that differs."""
-    found = compared_records(one, other, session, choice)
-    result = Comparison((one, other), found, is_identical(one.path, other.path), has_only_fields=bool(choice.only))
+    found = compared_records(picture, other, session, choice)
+    result = Comparison((picture, other), found, is_identical(picture.path, other.path), has_only_fields=bool(choice.only))
     if not choice:
-        result.proved = _proved(found, one, other)
+        result.proved = _proved(found, picture, other)
     if not result.is_identical and found.changes:
         result.rows = _rows(found.changes)
     if not result.is_identical and each:
@@ -100,24 +100,24 @@ def compare(one: Picture, other: Picture, each: bool, session: Optional[Session]
     return result
 
 
-def _proved(found: Compared, one: Picture, other: Picture) -> Optional[str]:
+def _proved(comparison: Compared, picture: Picture, other: Picture) -> Optional[str]:
     """The answer of the library's proved comparison, of which the result must not say otherwise."""
-    answer = proved.answer(one, other)
-    kinds = [it.result for it in found.verdicts if it.kind in (EXIF, IPTC)]
+    answer = proved.answer(picture, other)
+    kinds = [it.result for it in comparison.verdicts if it.kind in (EXIF, IPTC)]
     if answer == DIFFERENT and kinds and all(it in (SAME, ABSENT) for it in kinds):
         raise AssertionError("the Exif or the IPTC of the two differ by the proved comparison, and are the same by the tested one")
     return answer
 
 
-def compared_records(one: Picture, other: Picture, session: Optional[Session], choice: Choice = EVERYTHING) -> Compared:
+def compared_records(picture: Picture, other: Picture, session: Optional[Session], choice: Choice = EVERYTHING) -> Compared:
     """What `changed` finds of two pictures that were read."""
-    return compared(Pair(os.path.basename(one.path), one, other, None), Fresh(), session, choice)
+    return compared(Pair(os.path.basename(picture.path), picture, other, None), Fresh(), session, choice)
 
 
-def is_identical(one: bytes, other: bytes) -> bool:
+def is_identical(octets: bytes, other: bytes) -> bool:
     """Whether two files have the same bytes."""
     with contextlib.suppress(OSError):
-        return os.path.getsize(one) == os.path.getsize(other) and filecmp.cmp(one, other, shallow=False)
+        return os.path.getsize(octets) == os.path.getsize(other) and filecmp.cmp(octets, other, shallow=False)
     return False
 
 
@@ -131,35 +131,35 @@ def _rows(changes: Sequence[Difference]) -> List[Row]:
     return rows
 
 
-def _note_rows(found: Compared) -> List[Row]:
+def _note_rows(comparison: Compared) -> List[Row]:
     """A row for each value of a MakerNote that ExifTool reads otherwise."""
     name = group_name(*MAKER_NOTE)
-    values = [(it.name, (it.before, it.after)) for it in found.maker_note or ()]
+    values = [(it.name, (it.before, it.after)) for it in comparison.maker_note or ()]
     return [Row(f"{name} {word}", both, both) for word, both in values]
 
 
-def _place(it: Row) -> int:
-    where = it.differences[0].where if it.differences else "exif"
+def _place(row: Row) -> int:
+    where = row.differences[0].where if row.differences else "exif"
     return KINDS.index({"iptc": KINDS[1], "xmp": KINDS[2]}.get(where, KINDS[0]))
 
 
-def _row(it: Difference) -> Row:
-    both = [exact(side) for side in (it.before, it.after)]
-    values = both if it.note else ["; ".join(map(plain, side)) if side else None for side in (it.before, it.after)]
+def _row(difference: Difference) -> Row:
+    both = [exact(side) for side in (difference.before, difference.after)]
+    values = both if difference.note else ["; ".join(map(plain, side)) if side else None for side in (difference.before, difference.after)]
     if values[0] == values[1]:  # what people see is equal, and what is there isn't
         values = both
-    return Row(it.name, (values[0], values[1]), (both[0], both[1]), (it,), it.note)
+    return Row(difference.name, (values[0], values[1]), (both[0], both[1]), (difference,), difference.note)
 
 
-def with_position(rows: List[Row], one: Picture, other: Picture) -> List[Row]:
+def with_position(rows: List[Row], picture: Picture, other: Picture) -> List[Row]:
     """The rows with the four fields of a position as one, in degrees, if both positions are known."""
     ours = [
         it
         for it in rows
         if it.differences and it.differences[0].where == "gps" and it.differences[0].key in POSITION and not it.differences[0].block
     ]
-    places = [_position(it) for it in (one, other)]
-    if not ours or places[0] == places[1] or any(place is None and has for place, has in zip(places, map(_has_position, (one, other)))):
+    places = [_position(it) for it in (picture, other)]
+    if not ours or places[0] == places[1] or any(place is None and has for place, has in zip(places, map(_has_position, (picture, other)))):
         return rows
     exact = [None if place is None else "; ".join(f"{it.name} {it.exact[side]}" for it in ours) for side, place in enumerate(places)]
     every = tuple(one for it in ours for one in it.differences)
@@ -168,13 +168,13 @@ def with_position(rows: List[Row], one: Picture, other: Picture) -> List[Row]:
     return [*(it for it in rows[:at] if it not in ours), row, *(it for it in rows[at:] if it not in ours)]
 
 
-def _gps(it: Picture) -> Dict[str, Field]:
-    return {one.key: one for block in it.blocks if block.name == NAMES[KINDS[0]] for one in fields_of(block) if one.where == "gps"}
+def _gps(picture: Picture) -> Dict[str, Field]:
+    return {one.key: one for block in picture.blocks if block.name == NAMES[KINDS[0]] for one in fields_of(block) if one.where == "gps"}
 
 
-def _has_position(it: Picture) -> bool:
-    return any(key in POSITION for key in _gps(it))
+def _has_position(picture: Picture) -> bool:
+    return any(key in POSITION for key in _gps(picture))
 
 
-def _position(it: Picture) -> Optional[str]:
-    return position(_gps(it))
+def _position(picture: Picture) -> Optional[str]:
+    return position(_gps(picture))

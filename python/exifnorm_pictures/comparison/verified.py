@@ -78,18 +78,21 @@ def _at(catalogue: Catalogue, path: bytes) -> Optional[Picture]:
     return next(catalogue.rows(f"SELECT {PICTURE_COLUMNS} FROM pictures WHERE path = ?", (path,), picture_of_row), None)
 
 
-def _gone(before: Catalogue, now: Catalogue, it: Picture) -> Verified:
+def _gone(before: Catalogue, now: Catalogue, picture: Picture) -> Verified:
     """A file that isn't there: one that the catalogue doesn't know may be this one, and another may have the same picture."""
-    for column, digest, words in (("sha256", it.sha256, "the same file is"), ("coded_picture", it.coded_picture, "the same picture is")):
+    for column, digest, words in (
+        ("sha256", picture.sha256, "the same file is"),
+        ("coded_picture", picture.coded_picture, "the same picture is"),
+    ):
         places = now.rows(f"SELECT path FROM pictures WHERE {column} = ? ORDER BY path", (digest,)) if digest else iter(())
         known = None
         for (path,) in places:
             if not before.has(path):
-                return Verified(it.path, MOVED, "captioned, too" if column == "coded_picture" else "", path)
+                return Verified(picture.path, MOVED, "captioned, too" if column == "coded_picture" else "", path)
             known = known or path
         if known:
-            return Verified(it.path, MISSING, words, known)
-    return Verified(it.path, MISSING)
+            return Verified(picture.path, MISSING, words, known)
+    return Verified(picture.path, MISSING)
 
 
 def new_files(before: Catalogue, now: Catalogue) -> int:

@@ -33,58 +33,58 @@ class What(NamedTuple):
     step: str = ""  # how much later or earlier a date is
 
 
-def sides(it: Difference, exactly: bool = False) -> Tuple[Optional[str], Optional[str]]:
+def sides(difference: Difference, exactly: bool = False) -> Tuple[Optional[str], Optional[str]]:
     """Both values of a field in one line: plain, or exact if that is asked for or if both look alike. None where there is no such field.
 
     >>> sides(Difference("main", "0112", (), (Field("main", "0112", "SHORT", 1, (6,)),)))
     (None, 'turn 90° clockwise to view')
     """
-    plain = [", ".join(map(in_line, one)) if one else None for one in (it.before, it.after)]
+    plain = [", ".join(map(in_line, one)) if one else None for one in (difference.before, difference.after)]
     if exactly or plain[0] == plain[1]:
-        return exact(it.before), exact(it.after)
+        return exact(difference.before), exact(difference.after)
     return plain[0], plain[1]
 
 
-def plain_sides(it: Difference) -> Tuple[Optional[str], Optional[str]]:
+def plain_sides(difference: Difference) -> Tuple[Optional[str], Optional[str]]:
     """Both values as they are, without quotes and escapes, for tables and programs; exact if both look alike.
 
     >>> plain_sides(Difference("main", "013b", (), (Field("main", "013b", "ASCII", 5, b"Otto\\0"),)))
     (None, 'Otto')
     """
-    values = ["; ".join(map(plain, one)) if one else None for one in (it.before, it.after)]
-    return (values[0], values[1]) if values[0] != values[1] else (exact(it.before), exact(it.after))
+    values = ["; ".join(map(plain, one)) if one else None for one in (difference.before, difference.after)]
+    return (values[0], values[1]) if values[0] != values[1] else (exact(difference.before), exact(difference.after))
 
 
-def line_of(it: Difference, exactly: bool = False) -> str:
+def line_of(difference: Difference, exactly: bool = False) -> str:
     """A field that differs, in a line: `~ IFD0:Artist: "A" -> "B"`, `+` for a field that came, and `-` for one that went."""
-    if it.note:
-        return f"~ {it.name}: {it.note}"
-    name = f"{it.name} {tag_of(it)}".rstrip() if exactly else it.name
-    return f"{it.sign} {name}: {' -> '.join(one for one in sides(it, exactly) if one is not None)}"
+    if difference.note:
+        return f"~ {difference.name}: {difference.note}"
+    name = f"{difference.name} {tag_of(difference)}".rstrip() if exactly else difference.name
+    return f"{difference.sign} {name}: {' -> '.join(one for one in sides(difference, exactly) if one is not None)}"
 
 
-def tag_of(it: Difference) -> str:
+def tag_of(difference: Difference) -> str:
     """The number of a field's tag or DataSet, where it isn't its name."""
-    if it.where == "xmp" or it.key in it.name:
+    if difference.where == "xmp" or difference.key in difference.name:
         return ""
-    return it.key if ":" in it.key else f"0x{it.key}" if len(it.key) == 4 else ""
+    return difference.key if ":" in difference.key else f"0x{difference.key}" if len(difference.key) == 4 else ""
 
 
-def what(it: Difference) -> What:
+def what(difference: Difference) -> What:
     """What happened to a field that came or changed."""
-    if it.note:
-        note = it.note.partition(":")[0]  # without the number of values, which differs from picture to picture
+    if difference.note:
+        note = difference.note.partition(":")[0]  # without the number of values, which differs from picture to picture
         return _what(f": {note}")
-    if it[:2] == MAKER_NOTE or (it.where == "thumb" and it.key in ("jpeg", "strip")):
-        return _what(": other bytes" if it.before else ": added")
-    listed = _of_list(it)
+    if difference[:2] == MAKER_NOTE or (difference.where == "thumb" and difference.key in ("jpeg", "strip")):
+        return _what(": other bytes" if difference.before else ": added")
+    listed = _of_list(difference)
     if listed:
         return _what(listed)
-    before, after = sides(it)
+    before, after = sides(difference)
     if not before:
-        return What(_key(it.after), f" -> {cut(after or '')}", example=f"-> {cut(after or '', 34)}")
+        return What(_key(difference.after), f" -> {cut(after or '')}", example=f"-> {cut(after or '', 34)}")
     change, example = apart(before, after or "", WIDEST), apart(before, after or "", 30)
-    return What(_key(it.after), f" -> {cut(after or '')}", _key(it.before), f": {change}", example, step(it))
+    return What(_key(difference.after), f" -> {cut(after or '')}", _key(difference.before), f": {change}", example, step(difference))
 
 
 def _key(fields: Sequence[Field]) -> bytes:
@@ -127,9 +127,9 @@ def apart(before: str, after: str, widest: int) -> str:
 # Lists
 
 
-def _of_list(it: Difference) -> str:
+def _of_list(difference: Difference) -> str:
     """What a list has more and less, if that is little; empty for a field that is no list."""
-    before, after = _members(it.before), _members(it.after)
+    before, after = _members(difference.before), _members(difference.after)
     if before is None or after is None:
         return ""
     more, less = Counter(after) - Counter(before), Counter(before) - Counter(after)
@@ -158,14 +158,14 @@ def _members(fields: Sequence[Field]) -> Optional[List[str]]:
 _DATE = re.compile(r"(\d{4})[:-](\d\d)[:-](\d\d)[ T](\d\d):(\d\d)(?::(\d\d))?(.*)", re.S)
 
 
-def step(it: Difference) -> str:
+def step(difference: Difference) -> str:
     """How much later or earlier a date is; empty for a field that is no date.
 
     >>> one, other = (Field("main", "0132", "ASCII", 20, b"2020:01:0%d 10:00:00\\0" % day) for day in (1, 2))
     >>> step(Difference("main", "0132", (one,), (other,)))
     '1 day later'
     """
-    found = [_DATE.fullmatch(text_of(side[0]) or "") if len(side) == 1 else None for side in (it.before, it.after)]
+    found = [_DATE.fullmatch(text_of(side[0]) or "") if len(side) == 1 else None for side in (difference.before, difference.after)]
     if not found[0] or not found[1] or found[0][7] != found[1][7]:  # with another zone the difference isn't known
         return ""
     try:

@@ -51,37 +51,42 @@ class Export:
             about = (number, group.basis, group.sentence())
             self.tables.add("groups", ((*about, it.id, *_keep_row(keeps.get(it.id, Keep()))) for it in group.members))
 
-    def _picture(self, it: Picture) -> None:
-        self.tables.add("pictures", [_picture_row(it)])
+    def _picture(self, picture: Picture) -> None:
+        self.tables.add("pictures", [_picture_row(picture)])
         with self.catalogue.guarded():
-            blocks = [(block, fields_of(block)) for block in self.catalogue.blocks_of(it)]
+            blocks = [(block, fields_of(block)) for block in self.catalogue.blocks_of(picture)]
         self.maker_notes += any(block.note is not None for block, _ in blocks)
         for number, (block, fields) in enumerate(blocks):
-            self.tables.add("blocks", [_block_row(it, number, block)])
-            self.tables.add("fields", ((it.id, number, at, *_field_row(one)) for at, one in enumerate(fields)))
-        self._texts(it, blocks)
-        if it.not_read != "":
-            parts = self.catalogue.not_read_of(it)
-            self.tables.add("not_read", ((it.id, at, part.what) for at, part in enumerate(parts)))
+            self.tables.add("blocks", [_block_row(picture, number, block)])
+            self.tables.add("fields", ((picture.id, number, at, *_field_row(one)) for at, one in enumerate(fields)))
+        self._texts(picture, blocks)
+        if picture.not_read != "":
+            parts = self.catalogue.not_read_of(picture)
+            self.tables.add("not_read", ((picture.id, at, part.what) for at, part in enumerate(parts)))
 
-    def _texts(self, it: Picture, blocks: Sequence[Tuple[Block, List[Field]]]) -> None:
+    def _texts(self, picture: Picture, blocks: Sequence[Tuple[Block, List[Field]]]) -> None:
         found = texts_of(blocks)
         self.missing += bool(found.missing)
         rows = [*_text_rows(found.texts), *((word, *(None,) * 6) for word in sorted(found.missing))]
-        self.tables.add("captions", ((it.id, at, *row) for at, row in enumerate(rows)))
+        self.tables.add("captions", ((picture.id, at, *row) for at, row in enumerate(rows)))
         known = [one for one in conflicts(found.texts) if one.kind != ALIKE and one.label not in found.missing]
-        self.tables.add("conflicts", ((it.id, one.label, one.kind, one.detail or None) for one in known))
+        self.tables.add("conflicts", ((picture.id, one.label, one.kind, one.detail or None) for one in known))
 
 
-def _picture_row(it: Picture) -> Row:
-    path, is_escaped = _path(it.path)
-    names = (path, int(is_escaped), it.path if is_escaped else None, _path(it.root)[0])
-    about = (it.type or None, _state(it), it.problem, it.detail or None, it.size, _time(it.modified))
-    return (it.id, *names, *about, *(one or None for one in (*it.meanings, it.coded_picture, it.sha256, it.damage)))
+def _picture_row(picture: Picture) -> Row:
+    path, is_escaped = _path(picture.path)
+    names = (path, int(is_escaped), picture.path if is_escaped else None, _path(picture.root)[0])
+    about = (picture.type or None, _state(picture), picture.problem, picture.detail or None, picture.size, _time(picture.modified))
+    return (
+        picture.id,
+        *names,
+        *about,
+        *(one or None for one in (*picture.meanings, picture.coded_picture, picture.sha256, picture.damage)),
+    )
 
 
-def _keep_row(it: Keep) -> Row:
-    return None if it.keep is None else int(it.keep), it.note or None
+def _keep_row(keep: Keep) -> Row:
+    return None if keep.keep is None else int(keep.keep), keep.note or None
 
 
 def _path(path: bytes) -> Tuple[str, bool]:
@@ -92,8 +97,8 @@ def _path(path: bytes) -> Tuple[str, bool]:
         return shown_path(path), True
 
 
-def _state(it: Picture) -> str:
-    return "not read" if it.problem else "no metadata" if it.state == "no block" else it.state
+def _state(picture: Picture) -> str:
+    return "not read" if picture.problem else "no metadata" if picture.state == "no block" else picture.state
 
 
 def _time(nanoseconds: Optional[int]) -> Optional[str]:
@@ -106,10 +111,10 @@ def _time(nanoseconds: Optional[int]) -> Optional[str]:
         return None
 
 
-def _block_row(it: Picture, number: int, block: Block) -> Row:
+def _block_row(picture: Picture, number: int, block: Block) -> Row:
     repair = steps.words(block.steps) or None
     about = (WORDS[block.kind], block.name, block.source, block.extractor, block.status, block.cause, block.place, block.length)
-    return (it.id, number, *about, repair, block.digest, int(block.note is not None))
+    return (picture.id, number, *about, repair, block.digest, int(block.note is not None))
 
 
 def _field_row(field: Field) -> Row:
@@ -117,18 +122,27 @@ def _field_row(field: Field) -> Row:
     return _short_row(field) if isinstance(field.value, bytes) and len(field.value) <= CACHED else _row(field)
 
 
-def _row(it: Field) -> Row:
-    value = typed(it)
+def _row(field: Field) -> Row:
+    value = typed(field)
     number = float(value) if isinstance(value, (int, float)) else None
-    return (group_name(it.where, it.key), it.where, exact_key(it.where, it.key), it.type, it.elements, plain(it), exact(it), number)
+    return (
+        group_name(field.where, field.key),
+        field.where,
+        exact_key(field.where, field.key),
+        field.type,
+        field.elements,
+        plain(field),
+        exact(field),
+        number,
+    )
 
 
 _short_row = functools.lru_cache(maxsize=4096)(_row)
 
 
-def _text_rows(found: Sequence[LabelText]) -> Iterator[Row]:
+def _text_rows(texts: Sequence[LabelText]) -> Iterator[Row]:
     """A row for each text, several of a list."""
-    for it in found:
+    for it in texts:
         for text in it.texts:
             if text:
                 yield it.label, it.standard, it.field, it.block or None, text, it.guess or None, int(it.is_own)

@@ -164,20 +164,20 @@ def of_block(found: Iterable[Field]) -> Iterator[LabelText]:
     return _of_properties(fields) if fields and fields[0].where == "xmp" else _of_octets_fields(fields)
 
 
-def word_of(it: Field) -> Optional[str]:
+def word_of(field: Field) -> Optional[str]:
     """The label of a field that has a part in one."""
-    if it.where == "xmp":
-        return _XMP.get(it.key)
-    return _IPTC.get(it.key) if it.where == "iptc" else _EXIF.get(it.key) if it.where in ("main", "exif") else None
+    if field.where == "xmp":
+        return _XMP.get(field.key)
+    return _IPTC.get(field.key) if field.where == "iptc" else _EXIF.get(field.key) if field.where in ("main", "exif") else None
 
 
-def not_kept(found: Iterable[Field]) -> Set[str]:
+def not_kept(fields: Iterable[Field]) -> Set[str]:
     """The labels of which a text is too long to be kept."""
-    return {word for it in found for word in [word_of(it)] if word and (isinstance(it.value, Long) or _has_long(it))}
+    return {word for it in fields for word in [word_of(it)] if word and (isinstance(it.value, Long) or _has_long(it))}
 
 
-def _has_long(it: Field) -> bool:
-    return it.where == "xmp" and any(isinstance(one, Long) for one in it.value)
+def _has_long(field: Field) -> bool:
+    return field.where == "xmp" and any(isinstance(one, Long) for one in field.value)
 
 
 # Exif and IPTC
@@ -186,12 +186,12 @@ def _has_long(it: Field) -> bool:
 _Values = Dict[str, List[bytes]]
 
 
-def _of_octets_fields(found: Sequence[Field]) -> Iterator[LabelText]:
+def _of_octets_fields(fields: Sequence[Field]) -> Iterator[LabelText]:
     """The texts of a block of Exif or IPTC, by its fields."""
     exif: _Values = {}
     record: _Values = {}
     utf8: Set[str] = set()
-    for it in found:
+    for it in fields:
         if isinstance(it.value, bytes) and it.where == "iptc":
             record.setdefault(it.key, []).append(it.value)
         elif isinstance(it.value, bytes):
@@ -208,15 +208,15 @@ def _of_octets_fields(found: Sequence[Field]) -> Iterator[LabelText]:
     yield from _extra(exif)
 
 
-def with_own(found: Sequence[LabelText], make: str = "", model: str = "") -> List[LabelText]:
+def with_own(texts: Sequence[LabelText], make: str = "", model: str = "") -> List[LabelText]:
     """The texts of a picture, of which captions and comments are marked that a camera with this make and model, or a program, writes by
     itself; also where another program has copied them to IPTC or XMP."""
-    return [it._replace(is_own=it.label in _CAN_BE_OWN and is_own(it.line, make, model)) for it in found]
+    return [it._replace(is_own=it.label in _CAN_BE_OWN and is_own(it.line, make, model)) for it in texts]
 
 
-def camera_of(found: Iterable[Field]) -> Tuple[str, str]:
+def camera_of(fields: Iterable[Field]) -> Tuple[str, str]:
     """The make and the model in a block of Exif."""
-    values = {it.key: it.value for it in found if it.where == "main" and it.key in _CAMERA and isinstance(it.value, bytes)}
+    values = {it.key: it.value for it in fields if it.where == "main" and it.key in _CAMERA and isinstance(it.value, bytes)}
     make, model = (decoded(values.get(key, b""))[0] for key in _CAMERA)
     return make, model
 
@@ -273,9 +273,9 @@ def _text(values: Optional[Sequence[bytes]]) -> str:
 # XMP
 
 
-def _of_properties(found: Sequence[Field]) -> Iterator[LabelText]:
+def _of_properties(fields: Sequence[Field]) -> Iterator[LabelText]:
     """The texts of a packet, by its properties."""
-    by_key = {it.key: tuple(text.strip() for value in it.value for text in texts(value)) for it in found}  # type: ignore[arg-type]
+    by_key = {it.key: tuple(text.strip() for value in it.value for text in texts(value)) for it in fields}  # type: ignore[arg-type]
     for label in LABELS:
         if label.xmp in by_key:
             some = by_key[label.xmp]

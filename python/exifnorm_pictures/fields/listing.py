@@ -58,21 +58,21 @@ def is_rest(where: str, key: str) -> bool:
     return not where or (where, key) == ("iptc", "more")
 
 
-def is_comment(it: Field) -> bool:
+def is_comment(field: Field) -> bool:
     """Whether a field has eight bytes for a character set, and then its text (CIPA DC-008 4.6.6)."""
-    return it.key == "9286" or (it.where == "gps" and it.key in ("001b", "001c"))
+    return field.key == "9286" or (field.where == "gps" and field.key in ("001b", "001c"))
 
 
-def is_wide_text(it: Field) -> bool:
+def is_wide_text(field: Field) -> bool:
     """Whether a field is a text of Windows."""
-    return it.where == "main" and it.key in WIDE_TEXTS
+    return field.where == "main" and field.key in WIDE_TEXTS
 
 
-def is_text(it: Field) -> bool:
+def is_text(field: Field) -> bool:
     """Whether a field of bytes is a text by its type or its standard, whatever bytes it has."""
-    if it.where == "iptc":
-        return it.key[:2] in ("1:", "2:") and it.key not in _OTHER_DATASETS
-    return it.type in ("ASCII", "UTF8") or is_comment(it) or is_wide_text(it)
+    if field.where == "iptc":
+        return field.key[:2] in ("1:", "2:") and field.key not in _OTHER_DATASETS
+    return field.type in ("ASCII", "UTF8") or is_comment(field) or is_wide_text(field)
 
 
 # Long values
@@ -83,29 +83,29 @@ def digest_of(octets: bytes) -> str:
     return hashlib.sha256(octets).hexdigest()[:DIGITS]
 
 
-def kept_value(it: Field) -> Value:
+def kept_value(field: Field) -> Value:
     """The value of a field, or if it is too long to be kept, its digest and its beginning.
 
     >>> kept_value(Field("exif", "927c", "UNDEFINED", 40, bytes(40)))
     Long(digest='2c34ce1df23b838c5abf2a7f6437cca3', begins=b'\\x00\\x00\\x00\\x00\\x00\\x00\\x00\\x00')
     """
-    value = it.value
+    value = field.value
     if isinstance(value, bytes):
-        if it.where == "thumb" and it.type == "octets":
+        if field.where == "thumb" and field.type == "octets":
             return Long(digest_of(value), b"")
-        return Long(digest_of(value), value[:8]) if len(value) > LONGEST_BYTES and _is_long(it, value) else value
+        return Long(digest_of(value), value[:8]) if len(value) > LONGEST_BYTES and _is_long(field, value) else value
     if isinstance(value, Long):
         return value
-    if it.where == "xmp":
+    if field.where == "xmp":
         return tuple([_kept_property(one) for one in value])  # type: ignore[arg-type]
-    if it.elements <= 6:  # the longest fraction has 22 characters
+    if field.elements <= 6:  # the longest fraction has 22 characters
         return value
-    text = numbers_text(it.type, value)  # type: ignore[arg-type]
+    text = numbers_text(field.type, value)  # type: ignore[arg-type]
     return value if len(text) <= LONGEST_NUMBERS else Long(digest_of(text.encode()), text[:60])
 
 
-def _is_long(it: Field, octets: bytes) -> bool:
-    if is_text(it):
+def _is_long(field: Field, octets: bytes) -> bool:
+    if is_text(field):
         return len(octets) > LONGEST_TEXT
     return len(octets) > 4 * LONGEST_OTHER_TEXT or len(plain_text(octets) or " " * 999) > LONGEST_OTHER_TEXT
 
@@ -125,31 +125,31 @@ def _kept_property(value: XmpValue) -> XmpValue:
 # Exact values
 
 
-def exact(it: Field) -> str:
+def exact(field: Field) -> str:
     """The value of a field as it is printed exactly; of one that is too long to be kept, its beginning and its digest.
 
     >>> exact(Field("main", "013b", "ASCII", 5, b"Otto\\0")), exact(Field("exif", "829a", "RATIONAL", 1, ((10, 1250),)))
     ('"Otto"', '10/1250')
     """
-    value = kept_value(it)
+    value = kept_value(field)
     if isinstance(value, bytes):
-        return _exact_octets(it, value)
+        return _exact_octets(field, value)
     if isinstance(value, Long):
-        return _exact_long(it, value)
-    if it.where == "xmp":
+        return _exact_long(field, value)
+    if field.where == "xmp":
         return ", ".join(map(xmp_values.exact, value))  # type: ignore[arg-type]
-    return numbers_text(it.type, value)  # type: ignore[arg-type]
+    return numbers_text(field.type, value)  # type: ignore[arg-type]
 
 
-def _exact_long(it: Field, value: Long) -> str:
-    if not it.where:
+def _exact_long(field: Field, value: Long) -> str:
+    if not field.where:
         return f"{value.begins!s}; sha256:{value.digest}"
     begins = f"0x{value.begins.hex()}" if value.begins and isinstance(value.begins, bytes) else str(value.begins or "")
     return f"{begins}.. sha256:{value.digest}" if begins else f"sha256:{value.digest}"
 
 
-def _exact_octets(it: Field, octets: bytes) -> str:
-    marked = marked_text(it, octets)
+def _exact_octets(field: Field, octets: bytes) -> str:
+    marked = marked_text(field, octets)
     if marked is not None:
         mark, text = marked
         return mark + '"' + escaped(text).replace('"', '\\"') + '"'
@@ -165,11 +165,11 @@ def numbers_text(kind: str, values: "Tuple[int, ...] | Tuple[Ratio, ...]") -> st
     return " ".join(map(str, values))
 
 
-def marked_text(it: Field, octets: bytes) -> Optional[Tuple[str, str]]:
+def marked_text(field: Field, octets: bytes) -> Optional[Tuple[str, str]]:
     """Bytes as a text that can be printed, without the NUL at its end, and a mark for its form; None if they are none."""
-    if is_wide_text(it) and (text := _wide_text(octets)) is not None:
+    if is_wide_text(field) and (text := _wide_text(octets)) is not None:
         return "utf-16 ", text
-    if is_comment(it) and octets[:8] == b"ASCII\0\0\0" and (text := _printable(octets[8:])) is not None:
+    if is_comment(field) and octets[:8] == b"ASCII\0\0\0" and (text := _printable(octets[8:])) is not None:
         return "ascii ", text
     found = plain_text(octets)
     return None if found is None else ("", found)
@@ -206,11 +206,11 @@ def shortened(text: str) -> str:
     return _DIGEST.sub(r"sha256:\1", text) if "sha256:" in text else text
 
 
-def readable(found: Iterable[Field], kind: str) -> Iterator[str]:
+def readable(fields: Iterable[Field], kind: str) -> Iterator[str]:
     """The lines of an exact listing: a line for each directory, and one for each field below it."""
     yield f"{kind}:"
     where = None
-    for it in found:
+    for it in fields:
         if it.where != where:
             where = it.where
             yield f"  [{group_of(it.where)}]"
@@ -221,9 +221,9 @@ def readable(found: Iterable[Field], kind: str) -> Iterator[str]:
         yield f"    {it.key:<6} {name:<28} {counted_type(it):<14} {shortened(exact(it))}".rstrip()
 
 
-def counted_type(it: Field) -> str:
+def counted_type(field: Field) -> str:
     """The type of a field and the number of its elements: `short[1]`; bytes of IPTC and of a thumbnail have no type."""
-    return f"{'bytes' if it.type == 'octets' else it.type.lower()}[{it.elements}]"
+    return f"{'bytes' if field.type == 'octets' else field.type.lower()}[{field.elements}]"
 
 
 _PLACES = ["main", "exif", "interop", "gps", "thumb", "iptc", "xmp"]

@@ -70,10 +70,10 @@ def _compressed(text: bytes, count: int) -> bytes:
     return compressing.compress(text) + compressing.flush()
 
 
-def _json_of_octets(it: Field) -> str:
-    value = it.value
-    if not isinstance(value, bytes) or len(value) > LONGEST_BYTES or it.where == "thumb":  # which a short value needn't be asked
-        value = kept_value(it)
+def _json_of_octets(field: Field) -> str:
+    value = field.value
+    if not isinstance(value, bytes) or len(value) > LONGEST_BYTES or field.where == "thumb":  # which a short value needn't be asked
+        value = kept_value(field)
     if isinstance(value, bytes):
         text = plain_text(value)
         return _quoted(text) if text is not None else f'["{value.hex()}"]'
@@ -81,17 +81,17 @@ def _json_of_octets(it: Field) -> str:
     return f'["{value.digest}","{value.begins.hex()}"]'
 
 
-def _json_of_others(it: Field) -> str:
-    value: Any = it.value
-    if it.elements == 1 and it.where != "xmp" and not isinstance(value, Long):
+def _json_of_others(field: Field) -> str:
+    value: Any = field.value
+    if field.elements == 1 and field.where != "xmp" and not isinstance(value, Long):
         one = value[0]
         return f"[{one[0]},{one[1]}]" if isinstance(one, tuple) else str(one)
-    value = kept_value(it)
+    value = kept_value(field)
     if isinstance(value, Long):
         return f'["{value.digest}",{_quoted(str(value.begins))}]'
-    if it.where == "xmp":
+    if field.where == "xmp":
         return f"[{','.join(map(_json_of_property, value))}]"
-    if it.type in ("RATIONAL", "SRATIONAL"):
+    if field.type in ("RATIONAL", "SRATIONAL"):
         return f"[{','.join(['%d,%d' % one for one in value])}]"
     return str(value[0]) if len(value) == 1 else f"[{','.join(map(str, value))}]"
 

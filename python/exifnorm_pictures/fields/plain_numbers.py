@@ -20,26 +20,26 @@ INTEGERS = ("SHORT", "LONG", "WHOLE", "SSHORT", "SLONG")
 RATIOS = ("RATIONAL", "SRATIONAL")
 
 
-def fractions(it: Field) -> Optional[List[Optional[Fraction]]]:
+def fractions(field: Field) -> Optional[List[Optional[Fraction]]]:
     """The numbers of a field; None in it for a fraction with the denominator 0, and None for all if it has no numbers or too many.
 
     >>> fractions(Field("exif", "a432", "RATIONAL", 2, ((10, 80), (1, 0)))), fractions(Field("main", "0112", "SHORT", 1, (6,)))
     ([Fraction(1, 8), None], [Fraction(6, 1)])
     """
-    if it.type not in INTEGERS and it.type not in RATIOS:
+    if field.type not in INTEGERS and field.type not in RATIOS:
         return None
-    values: Any = kept_value(it)
+    values: Any = kept_value(field)
     if isinstance(values, Long) or not values:
         return None
-    if it.type in INTEGERS:
+    if field.type in INTEGERS:
         return [Fraction(one) for one in values]
     return [Fraction(*one) if one[1] else None for one in values]
 
 
-def integer(it: Field) -> Optional[int]:
+def integer(field: Field) -> Optional[int]:
     """The number of a field that is one."""
-    value: Any = it.value
-    return int(value[0]) if it.type in INTEGERS and not isinstance(value, Long) and len(value) == 1 else None
+    value: Any = field.value
+    return int(value[0]) if field.type in INTEGERS and not isinstance(value, Long) and len(value) == 1 else None
 
 
 def decimal(number: Fraction, places: int = 4) -> str:
@@ -49,9 +49,9 @@ def decimal(number: Fraction, places: int = 4) -> str:
     return "0" if text == "-0" else text
 
 
-def number(it: Field, made: Callable[[Fraction], Optional[str]]) -> Optional[str]:
+def number(field: Field, made: Callable[[Fraction], Optional[str]]) -> Optional[str]:
     """The plain form of a single number."""
-    found = fractions(it)
+    found = fractions(field)
     if found is None or len(found) != 1:
         return None
     return UNKNOWN if found[0] is None else made(found[0])
@@ -71,55 +71,55 @@ def seconds(time: Fraction) -> str:
     return f"1/{round(1 / time)} s" if 0 < time < Fraction(1, 4) else f"{decimal(time, 2)} s"
 
 
-def exposure_time(it: Field) -> Optional[str]:
+def exposure_time(field: Field) -> Optional[str]:
     """ExposureTime."""
-    return number(it, seconds)
+    return number(field, seconds)
 
 
-def aperture_number(it: Field) -> Optional[str]:
+def aperture_number(field: Field) -> Optional[str]:
     """FNumber."""
-    return number(it, lambda one: f"f/{decimal(one, 1)}")
+    return number(field, lambda one: f"f/{decimal(one, 1)}")
 
 
-def aperture_value(it: Field) -> Optional[str]:
+def aperture_value(field: Field) -> Optional[str]:
     """An aperture in the units of APEX: the f-number is the root of two to its power (CIPA DC-008, annex C)."""
-    return number(it, lambda one: f"f/{2 ** (float(one) / 2):.1f}" if -20 < one < 40 else None)
+    return number(field, lambda one: f"f/{2 ** (float(one) / 2):.1f}" if -20 < one < 40 else None)
 
 
-def shutter_speed(it: Field) -> Optional[str]:
+def shutter_speed(field: Field) -> Optional[str]:
     """An exposure time in the units of APEX: two to the power of minus this number is the time in seconds."""
-    return number(it, lambda one: seconds(Fraction(2.0 ** -float(one)).limit_denominator(1000000)) if -20 < one < 30 else None)
+    return number(field, lambda one: seconds(Fraction(2.0 ** -float(one)).limit_denominator(1000000)) if -20 < one < 30 else None)
 
 
-def exposure_value(it: Field) -> Optional[str]:
+def exposure_value(field: Field) -> Optional[str]:
     """A correction of the exposure, with its sign."""
-    return number(it, lambda one: f"{'+' if one > 0 else ''}{decimal(one, 2)} EV")
+    return number(field, lambda one: f"{'+' if one > 0 else ''}{decimal(one, 2)} EV")
 
 
-def degrees(it: Field) -> Optional[Fraction]:
+def degrees(field: Field) -> Optional[Fraction]:
     """An angle of degrees, minutes and seconds as degrees."""
-    found = fractions(it)
+    found = fractions(field)
     if found is None or len(found) != 3 or None in found:
         return None
     return sum(((one or Fraction(0)) / Fraction(60) ** place for place, one in enumerate(found)), Fraction(0))
 
 
-def angle(it: Field) -> Optional[str]:
+def angle(field: Field) -> Optional[str]:
     """A latitude or a longitude.
 
     >>> angle(Field("gps", "0002", "RATIONAL", 3, ((46, 1), (1213, 100), (0, 1))))
     '46°12\\'7.8"'
     """
-    found = degrees(it)
+    found = degrees(field)
     if found is None:
         return None
     hundredths = round(found * 360000)
     return f"{hundredths // 360000}°{hundredths // 6000 % 60:02}'{decimal(Fraction(hundredths % 6000, 100), 2)}\""
 
 
-def clock(it: Field) -> Optional[str]:
+def clock(field: Field) -> Optional[str]:
     """GPSTimeStamp."""
-    found = fractions(it)
+    found = fractions(field)
     if found is None or len(found) != 3 or None in found:
         return None
     hours, minutes, rest = (one or Fraction(0) for one in found)
@@ -127,9 +127,9 @@ def clock(it: Field) -> Optional[str]:
     return f"{int(hours):02}:{int(minutes):02}:{int(whole):02}{decimal(part, 3)[1:] if part else ''} UTC"
 
 
-def lens(it: Field) -> Optional[str]:
+def lens(field: Field) -> Optional[str]:
     """LensSpecification: the least and greatest focal length, and the f-number at each."""
-    found = fractions(it)
+    found = fractions(field)
     if found is None or len(found) != 4:
         return None
     words = ["?" if one is None else decimal(one, 1) for one in found]
@@ -141,13 +141,13 @@ def lens(it: Field) -> Optional[str]:
 _DATE = re.compile(r"(\d{4})[:-](\d\d)[:-](\d\d)(?:[ T](\d\d):(\d\d)(?::(\d\d(?:\.\d+)?))?)?([+-]\d\d:\d\d|Z)?\Z")
 
 
-def date(it: Field) -> Optional[str]:
+def date(field: Field) -> Optional[str]:
     """A date of Exif; `unknown` for one of blanks or zeros, as the standard writes it.
 
     >>> [date(Field("main", "0132", "ASCII", 20, it)) for it in (b"2008:07:31 10:38:11\\0", b"    :  :     :  :  \\0")]
     ['2008-07-31 10:38:11', 'unknown']
     """
-    text = text_of(it)
+    text = text_of(field)
     if text is None:
         return None
     if not text.strip(" :0"):
@@ -160,29 +160,33 @@ def date(it: Field) -> Optional[str]:
     return day + time + (match[7] or "")
 
 
-def iptc_date(it: Field) -> Optional[str]:
+def iptc_date(field: Field) -> Optional[str]:
     """A date of IIM, CCYYMMDD."""
-    match = re.fullmatch(r"(\d{4})(\d\d)(\d\d)", text_of(it) or "")
+    match = re.fullmatch(r"(\d{4})(\d\d)(\d\d)", text_of(field) or "")
     return None if match is None else UNKNOWN if match[1] == "0000" else "-".join(match.groups())
 
 
-def iptc_time(it: Field) -> Optional[str]:
+def iptc_time(field: Field) -> Optional[str]:
     """A time of IIM, HHMMSS±HHMM."""
-    match = re.fullmatch(r"(\d\d)(\d\d)(\d\d)([+-]\d\d)(\d\d)", text_of(it) or "")
+    match = re.fullmatch(r"(\d\d)(\d\d)(\d\d)([+-]\d\d)(\d\d)", text_of(field) or "")
     return f"{match[1]}:{match[2]}:{match[3]}{match[4]}:{match[5]}" if match else None
 
 
-def iptc_number(it: Field) -> Optional[str]:
+def iptc_number(field: Field) -> Optional[str]:
     """A binary number of IIM in two bytes."""
-    return str(int.from_bytes(it.value, "big")) if isinstance(it.value, bytes) and len(it.value) == 2 and text_of(it) is None else None
+    return (
+        str(int.from_bytes(field.value, "big"))
+        if isinstance(field.value, bytes) and len(field.value) == 2 and text_of(field) is None
+        else None
+    )
 
 
-def dotted(it: Field) -> Optional[str]:
+def dotted(field: Field) -> Optional[str]:
     """A version of four bytes, as GPSVersionID."""
-    return ".".join(map(str, it.value)) if isinstance(it.value, bytes) and len(it.value) == 4 and text_of(it) is None else None
+    return ".".join(map(str, field.value)) if isinstance(field.value, bytes) and len(field.value) == 4 and text_of(field) is None else None
 
 
-def version(it: Field) -> Optional[str]:
+def version(field: Field) -> Optional[str]:
     """A version of four digits: 0231 is 2.31, and 0220 is 2.2."""
-    text = text_of(it)
+    text = text_of(field)
     return f"{int(text[:2])}.{text[2:].rstrip('0') or '0'}" if text and re.fullmatch(r"\d{4}", text) else None

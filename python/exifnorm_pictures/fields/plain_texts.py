@@ -11,14 +11,14 @@ from .listing import Field, exact, kept_value, marked_text, shortened
 EMPTY = "(empty)"
 
 
-def text_of(it: Field) -> Optional[str]:
+def text_of(field: Field) -> Optional[str]:
     """The text of a field whose bytes can be printed as one; None if they can't.
 
     >>> text_of(Field("main", "013b", "ASCII", 5, b"Otto\\0")), text_of(Field("exif", "927c", "UNDEFINED", 2, b"\\xff\\0"))
     ('Otto', None)
     """
-    value = kept_value(it)
-    marked = marked_text(it, value) if isinstance(value, bytes) else None
+    value = kept_value(field)
+    marked = marked_text(field, value) if isinstance(value, bytes) else None
     return None if marked is None else marked[1]
 
 
@@ -75,53 +75,53 @@ def comment(octets: bytes) -> Optional[str]:
         return None
 
 
-def plain_comment(it: Field) -> Optional[str]:
+def plain_comment(field: Field) -> Optional[str]:
     """The text of a comment for people; None if it is in no known character set."""
-    text = text_of(it)
+    text = text_of(field)
     if text is not None:
         return text.partition("\0")[0].rstrip() or EMPTY
-    text = comment(it.value) if isinstance(it.value, bytes) else None
+    text = comment(field.value) if isinstance(field.value, bytes) else None
     return None if text is None else text or EMPTY
 
 
 # XMP
 
 
-def xmp_texts(it: Field) -> Optional[List[Tuple[str, str]]]:
+def xmp_texts(field: Field) -> Optional[List[Tuple[str, str]]]:
     """The texts of a simple value or of a list of such, each with its language. None for a structure, or a value that isn't kept whole."""
-    if isinstance(it.value, Long):
+    if isinstance(field.value, Long):
         return None
     try:
-        return [one for value in it.value for one in simple_texts(value)]  # type: ignore[arg-type]
+        return [one for value in field.value for one in simple_texts(value)]  # type: ignore[arg-type]
     except ValueError:
         return None
 
 
-def plain_xmp(it: Field) -> str:
+def plain_xmp(field: Field) -> str:
     """The texts of a property, separated by semicolons, each with its language unless x-default is the only one.
 
     >>> from ..model.xmp_values import Array, Literal
     >>> plain_xmp(Field("xmp", "dc:title", "Alt", 2, (Array("Alt", (Literal("Vase", "x-default"), Literal("Krug", "de"))),)))
     'Vase (x-default); Krug (de)'
     """
-    found = xmp_texts(it)
+    found = xmp_texts(field)
     if found is None:
-        return shortened(exact(it))
+        return shortened(exact(field))
     languages = {language for _, language in found if language}
     if languages <= {"x-default"}:
         return "; ".join(text for text, _ in found)
     return "; ".join(f"{text} ({language})" if language else text for text, language in found)
 
 
-def quoted_xmp(it: Field) -> str:
+def quoted_xmp(field: Field) -> str:
     """The texts of a property in one line, each in quotes and with its language unless x-default is the only one.
 
     >>> from ..model.xmp_values import Array, Literal
     >>> quoted_xmp(Field("xmp", "dc:title", "Alt", 2, (Array("Alt", (Literal("Vase", "x-default"), Literal("Krug", "de"))),)))
     '"Vase" (x-default), "Krug" (de)'
     """
-    found = xmp_texts(it)
+    found = xmp_texts(field)
     if found is None:
-        return shortened(exact(it))
+        return shortened(exact(field))
     shows_language = not {language for _, language in found if language} <= {"x-default"}
     return ", ".join(quoted(text) + (f" ({language})" if shows_language and language else "") for text, language in found) or EMPTY

@@ -56,9 +56,9 @@ _words("0106", "0 white is zero; 1 black is zero; 2 RGB; 3 palette; 4 mask; 5 CM
 _words("0213", "1 centred; 2 co-sited")
 
 
-def _flash(it: Field) -> Optional[str]:
+def _flash(field: Field) -> Optional[str]:
     """Flash, bit by bit (CIPA DC-008, 4.6.5)."""
-    bits = numbers.integer(it)
+    bits = numbers.integer(field)
     if bits is None or not 0 <= bits < 1_000_000_000:
         return None
     if bits & 0x20:
@@ -82,8 +82,8 @@ def _byte(*words: str) -> Rule:
     return lambda it: known.get(it.value) if isinstance(it.value, bytes) else None
 
 
-def _character_set(it: Field) -> Optional[str]:
-    return "UTF-8" if it.value == b"\x1b%G" else None
+def _character_set(field: Field) -> Optional[str]:
+    return "UTF-8" if field.value == b"\x1b%G" else None
 
 
 _EXIF: Dict[str, Rule] = {
@@ -128,58 +128,58 @@ _IIM: Dict[str, Rule] = {
 _RULES = {"main": _EXIF, "exif": _EXIF, "thumb": _EXIF, "gps": _GPS, "iptc": _IIM}
 
 
-def plain(it: Field) -> str:
+def plain(field: Field) -> str:
     """The value of a field as a person writes it.
 
     >>> plain(Field("exif", "829a", "RATIONAL", 1, ((10, 1250),))), plain(Field("main", "0112", "SHORT", 1, (6,)))
     ('1/125 s', 'turn 90° clockwise to view')
     """
-    if it.where == "xmp":
-        return plain_xmp(it) or EMPTY
-    return _in_words(it) or _text(it) or _without_words(it)
+    if field.where == "xmp":
+        return plain_xmp(field) or EMPTY
+    return _in_words(field) or _text(field) or _without_words(field)
 
 
-def in_line(it: Field) -> str:
+def in_line(field: Field) -> str:
     """The plain value in one line, in which a text is in quotes.
 
     >>> in_line(Field("main", "013b", "ASCII", 5, b"Otto\\0")), in_line(Field("xmp", "dc:title", "text", 1, (Literal("Vase"),)))
     ('"Otto"', '"Vase"')
     """
-    if it.where == "xmp":
-        return quoted_xmp(it)
-    words = _in_words(it)
-    text = words if is_comment(it) else None if words else _text(it)
+    if field.where == "xmp":
+        return quoted_xmp(field)
+    words = _in_words(field)
+    text = words if is_comment(field) else None if words else _text(field)
     if text is None or text == EMPTY:
-        return escaped(words or text or _without_words(it))
+        return escaped(words or text or _without_words(field))
     return quoted(text)
 
 
-def _in_words(it: Field) -> Optional[str]:
+def _in_words(field: Field) -> Optional[str]:
     """The value by the rule of its field, if there is one."""
-    rule = _RULES.get(it.where, {}).get(it.key)
-    return rule(it) if rule else None
+    rule = _RULES.get(field.where, {}).get(field.key)
+    return rule(field) if rule else None
 
 
-def _text(it: Field) -> Optional[str]:
+def _text(field: Field) -> Optional[str]:
     """A text, also one that isn't UTF-8; None for a value that is no text, or isn't kept."""
-    text = text_of(it)
+    text = text_of(field)
     if text is not None:
         return text.rstrip("\0 ") or EMPTY
-    if (it.type in ("ASCII", "UTF8") or it.where == "iptc") and isinstance(kept_value(it), bytes):
-        return guessed(it.value) or EMPTY  # type: ignore[arg-type]
+    if (field.type in ("ASCII", "UTF8") or field.where == "iptc") and isinstance(kept_value(field), bytes):
+        return guessed(field.value) or EMPTY  # type: ignore[arg-type]
     return None
 
 
-def _without_words(it: Field) -> str:
+def _without_words(field: Field) -> str:
     """Numbers as decimals, and the number of bytes that are too many to be printed."""
-    if it.type in OCTETS:
-        text = exact(it)
+    if field.type in OCTETS:
+        text = exact(field)
         digest = text.rpartition("sha256:")[2][:8]
-        return f"{it.elements:,} bytes (SHA-256 {digest}..)" if "sha256:" in text else text
-    found = fractions(it)
-    if found and it.type in numbers.RATIOS:
+        return f"{field.elements:,} bytes (SHA-256 {digest}..)" if "sha256:" in text else text
+    found = fractions(field)
+    if found and field.type in numbers.RATIOS:
         return ", ".join(numbers.UNKNOWN if one is None else decimal(one) for one in found)
-    return shortened(exact(it))
+    return shortened(exact(field))
 
 
 _HALVES = (("0001", "0002"), ("0003", "0004"))

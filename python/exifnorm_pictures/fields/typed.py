@@ -22,7 +22,7 @@ _DATASET_NUMBERS = {"1:0", "1:20", "1:22", "2:0"}
 _DATASET_OCTETS = {"1:90", "2:125", "2:202"}
 
 
-def value_of(it: Field) -> Value:
+def value_of(field: Field) -> Value:
     """The value of a field as an object of Python.
 
     A text is a str; so is a date in another form than its standard's. Of several elements, and of a list of XMP, it is a tuple.
@@ -30,26 +30,26 @@ def value_of(it: Field) -> Value:
     >>> value_of(Field("exif", "829a", "RATIONAL", 1, ((1, 60),))), value_of(Field("exif", "9003", "ASCII", 20, b"2019:03:12 11:20:45\\0"))
     (Fraction(1, 60), datetime.datetime(2019, 3, 12, 11, 20, 45))
     """
-    if isinstance(it.value, Long):
+    if isinstance(field.value, Long):
         return None
-    if it.where == "xmp":
-        return _of_xmp(it.value)  # type: ignore[arg-type]
-    if not isinstance(it.value, bytes):
-        return _one_or_all(_numbers(it))
-    found = _of_octets(it, it.value)
+    if field.where == "xmp":
+        return _of_xmp(field.value)  # type: ignore[arg-type]
+    if not isinstance(field.value, bytes):
+        return _one_or_all(_numbers(field))
+    found = _of_octets(field, field.value)
     text = found.strip("\0 ") if isinstance(found, str) else ""
-    if (it.where, it.key) in _DATES:
+    if (field.where, field.key) in _DATES:
         return _moment(text, "%Y:%m:%d %H:%M:%S") or found
-    if it.where == "iptc" and it.key in _DATASET_DATES:
+    if field.where == "iptc" and field.key in _DATASET_DATES:
         day = _moment(text, "%Y%m%d")
         return day.date() if day else found
-    if it.where == "iptc" and it.key in _DATASET_TIMES:
+    if field.where == "iptc" and field.key in _DATASET_TIMES:
         moment = _moment(text, "%H%M%S%z") or _moment(text, "%H%M%S")
         return moment.timetz() if moment else found
     return found
 
 
-def typed(it: Field) -> Any:
+def typed(field: Field) -> Any:
     """The value of a field as JSON has it; None for a structure of XMP.
 
     >>> typed(Field("main", "0112", "SHORT", 1, (6,))), typed(Field("exif", "829a", "RATIONAL", 1, ((10, 1250),)))
@@ -57,12 +57,12 @@ def typed(it: Field) -> Any:
     >>> typed(Field("gps", "0005", "BYTE", 1, b"A")), typed(Field("exif", "9101", "UNDEFINED", 4, b"\\1\\2\\3\\0"))
     (65, {'hex': '01020300'})
     """
-    value = kept_value(it)
-    if it.where == "xmp":
-        return _json_of_xmp(it)
+    value = kept_value(field)
+    if field.where == "xmp":
+        return _json_of_xmp(field)
     if isinstance(value, Long):
-        return {"sha256": value.digest, "count": it.elements}
-    found = _of_octets(it, value) if isinstance(value, bytes) else _one_or_all(_numbers(it))
+        return {"sha256": value.digest, "count": field.elements}
+    found = _of_octets(field, value) if isinstance(value, bytes) else _one_or_all(_numbers(field))
     if isinstance(found, bytes):
         return {"hex": found.hex()}
     return [_json_number(one) for one in found] if isinstance(found, tuple) else _json_number(found)
@@ -83,31 +83,31 @@ def _one_or_all(values: Sequence[Value]) -> Value:
     return values[0] if len(values) == 1 else tuple(values)
 
 
-def _numbers(it: Field) -> List[Value]:
+def _numbers(field: Field) -> List[Value]:
     """The numbers of a field; None for a fraction with the denominator 0."""
-    values: Any = it.value
-    if it.type in ("RATIONAL", "SRATIONAL"):
+    values: Any = field.value
+    if field.type in ("RATIONAL", "SRATIONAL"):
         return [Fraction(*one) if one[1] else None for one in values]
-    if it.type in ("FLOAT", "DOUBLE"):
-        size, form = (4, ">f") if it.type == "FLOAT" else (8, ">d")
+    if field.type in ("FLOAT", "DOUBLE"):
+        size, form = (4, ">f") if field.type == "FLOAT" else (8, ">d")
         return [struct.unpack(form, one.to_bytes(size, "big"))[0] for one in values]
     return list(values)
 
 
-def _of_octets(it: Field, octets: bytes) -> Value:
+def _of_octets(field: Field, octets: bytes) -> Value:
     """A text, numbers, or the bytes."""
-    if it.where == "iptc":
-        return _of_dataset(it.key, octets)
-    if it.type in ("ASCII", "UTF8") or (it.type == "UNDEFINED" and (it.where, it.key) in _VERSIONS):
+    if field.where == "iptc":
+        return _of_dataset(field.key, octets)
+    if field.type in ("ASCII", "UTF8") or (field.type == "UNDEFINED" and (field.where, field.key) in _VERSIONS):
         return _text(octets)
-    if is_comment(it):
-        marked = marked_text(it, octets)
+    if is_comment(field):
+        marked = marked_text(field, octets)
         text = marked[1] if marked else comment(octets)
         return _text(octets) if text is None else text
-    if is_wide_text(it):
+    if is_wide_text(field):
         return octets[: len(octets) & ~1].decode("utf-16-le", "replace").rstrip("\0")
-    if it.type in ("BYTE", "SBYTE"):
-        return _one_or_all(struct.unpack(f"{len(octets)}{'B' if it.type == 'BYTE' else 'b'}", octets))
+    if field.type in ("BYTE", "SBYTE"):
+        return _one_or_all(struct.unpack(f"{len(octets)}{'B' if field.type == 'BYTE' else 'b'}", octets))
     return octets
 
 
@@ -129,16 +129,16 @@ def _moment(text: str, form: str) -> Optional[datetime]:
         return None
 
 
-def raw(it: Field) -> Optional[bytes]:
+def raw(field: Field) -> Optional[bytes]:
     """The bytes of a value, most significant byte first; None for XMP, and for a value that isn't kept whole."""
-    if isinstance(it.value, bytes):
-        return it.value
-    if isinstance(it.value, Long) or it.where == "xmp":
+    if isinstance(field.value, bytes):
+        return field.value
+    if isinstance(field.value, Long) or field.where == "xmp":
         return None
-    values: Any = it.value
-    if it.type in ("RATIONAL", "SRATIONAL"):
+    values: Any = field.value
+    if field.type in ("RATIONAL", "SRATIONAL"):
         values = [number for one in values for number in one]
-    return struct.pack(f">{len(values)}{_LETTERS[it.type]}", *values)
+    return struct.pack(f">{len(values)}{_LETTERS[field.type]}", *values)
 
 
 _LETTERS = {
@@ -176,13 +176,13 @@ def _one_of_xmp(value: XmpValue) -> Value:
     return _one_of_xmp(default[0]) if default else ()
 
 
-def _json_of_xmp(it: Field) -> Any:
+def _json_of_xmp(field: Field) -> Any:
     """A text, a list of texts, or a list of texts with their languages."""
-    found = xmp_texts(it._replace(value=kept_value(it)))
+    found = xmp_texts(field._replace(value=kept_value(field)))
     if found is None:
-        long = [one for one in kept_value(it) if isinstance(one, Long)]
-        return {"sha256": long[0].digest, "count": it.elements} if long else None
+        long = [one for one in kept_value(field) if isinstance(one, Long)]
+        return {"sha256": long[0].digest, "count": field.elements} if long else None
     if any(language for _, language in found):
         return [{"text": text, "language": language or None} for text, language in found]
     texts = [text for text, _ in found]
-    return texts[0] if it.type in ("text", "URI") and len(texts) == 1 else texts
+    return texts[0] if field.type in ("text", "URI") and len(texts) == 1 else texts

@@ -64,8 +64,8 @@ def _value(value: Value) -> XmpValue:
     return Structure(tuple(named))
 
 
-def _place(it: Statement) -> Tuple[int, str]:
-    return len(it.predicate), it.predicate
+def _place(statement: Statement) -> Tuple[int, str]:
+    return len(statement.predicate), statement.predicate
 
 
 def _name(it: Tuple[str, XmpValue]) -> str:

@@ -158,10 +158,10 @@ def _beside_exif(taken: Blocks) -> List[object]:
     return [*((it.kind, it.name, it.data) for it in taken.found if it.kind != EXIF), *sorted(parts)]
 
 
-def _put(made: bytes, picture: bytes, out: bytes, check: Callable[[bytes], None]) -> None:
+def _put(octets: bytes, picture: bytes, out: bytes, check: Callable[[bytes], None]) -> None:
     """Writes the bytes of `made` to `out`, with the times and the rights of the picture, after a check of the copy."""
     try:
-        atomic.copy_new(made, out, picture, check)
+        atomic.copy_new(octets, out, picture, check)
     except OSError as error:
         raise NotWritten("the copy is there already" if isinstance(error, FileExistsError) else reason(error)) from error
 

@@ -24,7 +24,7 @@ class Change(NamedTuple):
     new: bytes
 
 
-def changes(picture: BinaryIO, kind: str, found: Sequence[FoundBlock]) -> Optional[Tuple[List[Change], Tuple[Step, ...]]]:
+def changes(picture: BinaryIO, kind: str, blocks: Sequence[FoundBlock]) -> Optional[Tuple[List[Change], Tuple[Step, ...]]]:
     """What replaces the refused Exif blocks of a file, in the order of the file, and the steps of the repairs. None if a block can't be
     repaired or isn't found in the file. Raises `TooLong`.
 
@@ -34,7 +34,7 @@ def changes(picture: BinaryIO, kind: str, found: Sequence[FoundBlock]) -> Option
     if wrap is None:
         return None
     replaced, steps = [], ()  # type: List[Change], Tuple[Step, ...]
-    for block in dict.fromkeys(it.data for it in found if it.kind == EXIF):
+    for block in dict.fromkeys(it.data for it in blocks if it.kind == EXIF):
         made = repairs.repaired(block)
         change = _change(picture, wrap, block, made.block) if made and made.steps else None
         if made is None or (made.steps and change is None):

@@ -157,14 +157,14 @@ def _refused_of_row(row: Tuple[Any, ...]) -> Refused:
     return Refused(path, kind_of(kind), name, cause, place)
 
 
-def _gather_parts(found: Gathered, about: About) -> None:
+def _gather_parts(contents: Gathered, about: About) -> None:
     query = f"SELECT what, count(*) FROM not_read JOIN pictures ON pictures.id = picture WHERE {_chosen(about)} GROUP BY what"
     for what, count in about.catalogue.rows(query, (), _part_of_row):
-        found.parts[what] += count
+        contents.parts[what] += count
     query = f"SELECT count(*) FROM pictures WHERE not_read IS NOT '' AND {_chosen(about)}"
-    found.unread = next(about.catalogue.rows(query))[0]
+    contents.unread = next(about.catalogue.rows(query))[0]
     query = f"SELECT count(DISTINCT picture) FROM blocks JOIN pictures ON pictures.id = picture WHERE note IS NOT NULL AND {_chosen(about)}"
-    found.maker_notes = next(about.catalogue.rows(query))[0]
+    contents.maker_notes = next(about.catalogue.rows(query))[0]
 
 
 def _part_of_row(row: Tuple[str, int]) -> Tuple[str, int]:
@@ -172,22 +172,22 @@ def _part_of_row(row: Tuple[str, int]) -> Tuple[str, int]:
     return row
 
 
-def _gather_changes(found: Gathered, about: About) -> None:
+def _gather_changes(contents: Gathered, about: About) -> None:
     assert about.old is not None
     equal = changed.Equal()
     found_changes = changed.changed(
         about.old,
         about.catalogue,
-        found.results,
+        contents.results,
         about.only,
         session=about.session if about.look else None,
         choice=about.choice,
-        pictures=found.coded,
+        pictures=contents.coded,
     )
     for it in found_changes:
         if it.result in changed.UNCHANGED:
             continue
-        found.fields.update({change.name for change in it.changes})
+        contents.fields.update({change.name for change in it.changes})
         to = f"to {shown_path(it.moved_to)}" if it.moved_to is not None else ""
         text = [it.result, it.note or to, [(one.name, *sides(one), one.note) for one in it.changes]]
         equal.add(json.dumps(text), it.name, it.moved_to is not None)
@@ -195,13 +195,13 @@ def _gather_changes(found: Gathered, about: About) -> None:
     def heads() -> Iterator[Tuple[int, int, int, EqualChanges]]:
         for number, (text, count, names) in enumerate(equal.all()):
             result, note, lines = json.loads(text)
-            found.all_changed += 1
+            contents.all_changed += 1
             kept = [name for name, _ in zip(names, range(MOST_NAMES))]
             yield changed.RESULTS.index(result), -count, number, EqualChanges(result, note, lines, count, kept)
 
-    found.changed = [it[3] for it in heapq.nsmallest(MOST_CHANGES, heads(), key=lambda it: it[:3])]
+    contents.changed = [it[3] for it in heapq.nsmallest(MOST_CHANGES, heads(), key=lambda it: it[:3])]
     equal.close()
-    found.left_out = list(lines(about.choice, True))
+    contents.left_out = list(lines(about.choice, True))
 
 
 def members(about: About) -> Iterator[Members]:
@@ -237,8 +237,8 @@ def members(about: About) -> Iterator[Members]:
             yield {"not_read": [it.what for it in catalogue.not_read_of(picture)], **path_members(picture.path)}
 
 
-def _conflict_members(it: Conflict) -> Members:
-    return {"label": it.label, "detail": it.detail or None, "texts": texts(it)}
+def _conflict_members(conflict: Conflict) -> Members:
+    return {"label": conflict.label, "detail": conflict.detail or None, "texts": texts(conflict)}
 
 
 def _changed_members(about: About) -> Iterator[Members]:

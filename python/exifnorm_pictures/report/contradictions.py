@@ -67,15 +67,15 @@ def checked(catalogue: Catalogue, pictures: Iterator[Picture]) -> Iterator[Check
         yield _checked(it, [block for block, _ in blocks], found)
 
 
-def _checked(it: Picture, blocks: List[Block], found: PictureTexts) -> Checked:
+def _checked(picture: Picture, blocks: List[Block], found: PictureTexts) -> Checked:
     known = [one for one in conflicts(found.texts) if one.kind != ALIKE and one.label not in found.missing]
     is_whole = not found.missing and all(one.status == ACCEPTED or one.repair for one in blocks)
-    return Checked(it.path, known, is_whole)
+    return Checked(picture.path, known, is_whole)
 
 
-def texts(it: Conflict) -> Dict[str, str]:
+def texts(conflict: Conflict) -> Dict[str, str]:
     """The texts by standard."""
     found: Dict[str, List[str]] = {}
-    for one in it.texts:
+    for one in conflict.texts:
         found.setdefault(one.standard, []).append(one.line)
     return {standard: "; ".join(found[standard]) for standard in STANDARDS if standard in found}

@@ -44,12 +44,12 @@ WORDS = {
 }
 
 
-def page(found: Gathered, title: str, session: Optional[Session] = None) -> str:
+def page(contents: Gathered, title: str, session: Optional[Session] = None) -> str:
     """The page, as HTML without script; each name and text of a picture is escaped."""
-    parts = [_head(found, title), _overview(found)]
-    if found.since:
-        parts.append(_changes(found))
-    parts += [_groups(found, session), _contradictions(found), _refusals(found), _parts(found), _problems(found), _foot()]
+    parts = [_head(contents, title), _overview(contents)]
+    if contents.since:
+        parts.append(_changes(contents))
+    parts += [_groups(contents, session), _contradictions(contents), _refusals(contents), _parts(contents), _problems(contents), _foot()]
     return "".join(parts)
 
 
@@ -64,46 +64,46 @@ def _name(path: bytes, roots: List[bytes]) -> str:
     return f'<span class="name">{_text(shown_path(path))}</span>'
 
 
-def _head(found: Gathered, title: str) -> str:
+def _head(contents: Gathered, title: str) -> str:
     now = datetime.now(timezone.utc).strftime("%Y-%m-%d %H:%M UTC")
-    folders = ", ".join(_text(shown_path(it)) for it in found.roots[:5]) + (" .." if len(found.roots) > 5 else "")
-    tool = f" &middot; ExifTool {_text(found.runs[-1][3])}" if found.runs and found.runs[-1][3] else ""
-    without_proof = unproved(found.runs)
+    folders = ", ".join(_text(shown_path(it)) for it in contents.roots[:5]) + (" .." if len(contents.roots) > 5 else "")
+    tool = f" &middot; ExifTool {_text(contents.runs[-1][3])}" if contents.runs and contents.runs[-1][3] else ""
+    without_proof = unproved(contents.runs)
     doubt = f"\n<p>Results of exifnorm {_text(', '.join(without_proof))}, which is not proved</p>" if without_proof else ""
     return f"""<!DOCTYPE html>
 <html lang="en"><head><meta charset="utf-8">
 <meta http-equiv="Content-Security-Policy" content="default-src 'none'; img-src data:; style-src 'unsafe-inline'">
 <meta name="viewport" content="width=device-width, initial-scale=1"><title>{_text(title)}</title>
 <style>{STYLE}</style></head><body><header><h1>{_text(title)}</h1>
-<p>{found.total:,} files below {folders or "no folder"} &middot; {now}{tool}</p>{doubt}</header><main>
+<p>{contents.total:,} files below {folders or "no folder"} &middot; {now}{tool}</p>{doubt}</header><main>
 """
 
 
 _TONES = {"accepted": "good", "refused": "bad", "no block": "plain", "NoPicture": "plain"}
 
 
-def _overview(found: Gathered) -> str:
+def _overview(contents: Gathered) -> str:
     cards = "".join(
         f'<li class="{_TONES.get(state, "odd")}"><b>{count:,}</b> {_text(WORDS.get(state, state))}</li>'
-        for state, count in found.states.most_common()
+        for state, count in contents.states.most_common()
     )
-    number, same = found.all_groups
+    number, same = contents.all_groups
     cards += f'<li class="plain"><b>{same:,}</b> have the same metadata as another, in {_counted(number, "group")}</li>'
-    cards += f'<li class="odd"><b>{found.unread:,}</b> not wholly read</li>' if found.unread else ""
-    contradicting = found.contradictions.real
+    cards += f'<li class="odd"><b>{contents.unread:,}</b> not wholly read</li>' if contents.unread else ""
+    contradicting = contents.contradictions.real
     cards += f'<li class="odd"><b>{contradicting:,}</b> contradict themselves</li>' if contradicting else ""
-    if found.since:
-        cards += f'<li class="odd"><b>{changed.number_changed(found.results):,}</b> changed since the older catalogue</li>'
-        undecided = changed.number_undecided(found.results)
+    if contents.since:
+        cards += f'<li class="odd"><b>{changed.number_changed(contents.results):,}</b> changed since the older catalogue</li>'
+        undecided = changed.number_undecided(contents.results)
         cards += f'<li class="odd"><b>{undecided:,}</b> not wholly compared with the older catalogue</li>' if undecided else ""
-    return f'<section><h2>At a glance</h2><ul class="cards">{cards}</ul>{_share(found)}</section>\n'
+    return f'<section><h2>At a glance</h2><ul class="cards">{cards}</ul>{_share(contents)}</section>\n'
 
 
-def _share(found: Gathered) -> str:
+def _share(contents: Gathered) -> str:
     """The states as parts of one bar."""
     at, parts = 0.0, []
-    for state, count in found.states.most_common():
-        width = 1000 * count / max(found.total, 1)
+    for state, count in contents.states.most_common():
+        width = 1000 * count / max(contents.total, 1)
         words = f"{count:,} {WORDS.get(state, state)}"
         tone = _TONES.get(state, "odd")
         parts.append(f'<rect class="{tone}" x="{at:.1f}" width="{width:.1f}" height="22"><title>{_text(words)}</title></rect>')
@@ -139,37 +139,42 @@ _RESULT_TONES = {
 }
 
 
-def _changes(found: Gathered) -> str:
-    results = [(it, found.results[it]) for it in changed.RESULTS if found.results[it]]
+def _changes(contents: Gathered) -> str:
+    results = [(it, contents.results[it]) for it in changed.RESULTS if contents.results[it]]
     parts = ["<section><h2>What changed</h2>", _bars(results, "odd", _RESULT_TONES)]
-    if found.fields:
-        parts += ["<h3>Fields that differ, by number of pictures</h3>", _bars(found.fields.most_common(20), "odd")]
-        parts.append(_more(len(found.fields), 20, "fields"))
-    for number, it in enumerate(found.changed):
+    if contents.fields:
+        parts += ["<h3>Fields that differ, by number of pictures</h3>", _bars(contents.fields.most_common(20), "odd")]
+        parts.append(_more(len(contents.fields), 20, "fields"))
+    for number, it in enumerate(contents.changed):
         parts.append(_equal(it, number < MOST_OPEN))
-    parts.append(_more(found.all_changed, MOST_CHANGES, "differences"))
-    if not found.changed:
+    parts.append(_more(contents.all_changed, MOST_CHANGES, "differences"))
+    if not contents.changed:
         parts.append("<p>Nothing has changed.</p>")
-    sentence = coded.sentence(found.coded)
+    sentence = coded.sentence(contents.coded)
     parts += [f"<p>{_text(sentence)}</p>"] * bool(sentence)
-    parts += [f"<p>{_text(it)}</p>" for it in found.left_out]
+    parts += [f"<p>{_text(it)}</p>" for it in contents.left_out]
     return "".join(parts) + "</section>\n"
 
 
-def _equal(it: EqualChanges, opened: bool) -> str:
+def _equal(changes: EqualChanges, opened: bool) -> str:
     """One difference and the pictures that it is in."""
-    tone = _RESULT_TONES.get(it.result, "odd")
-    note = f' <span class="note">{_text(it.note)}</span>' if it.note else ""
-    if it.count == 1:
-        label = f'<span class="tag {tone}">{_text(it.result)}</span> {_name(it.names[0], [])}{note}'
-        if not it.lines:
+    tone = _RESULT_TONES.get(changes.result, "odd")
+    note = f' <span class="note">{_text(changes.note)}</span>' if changes.note else ""
+    if changes.count == 1:
+        label = f'<span class="tag {tone}">{_text(changes.result)}</span> {_name(changes.names[0], [])}{note}'
+        if not changes.lines:
             return f'<p class="row">{label}</p>'
         inside = ""
     else:
-        label = f'<span class="tag {tone}">{_text(it.result)}</span> {it.count:,} pictures{note}'
-        inside = "<ul>" + "".join(f"<li>{_name(name, [])}</li>" for name in it.names) + "</ul>" + _more(it.count, MOST_NAMES, "pictures")
-    fields = _fields(it.lines) if it.lines else ""
-    return f"<details{' open' if opened and it.count == 1 else ''}><summary>{label}</summary>{fields}{inside}</details>"
+        label = f'<span class="tag {tone}">{_text(changes.result)}</span> {changes.count:,} pictures{note}'
+        inside = (
+            "<ul>"
+            + "".join(f"<li>{_name(name, [])}</li>" for name in changes.names)
+            + "</ul>"
+            + _more(changes.count, MOST_NAMES, "pictures")
+        )
+    fields = _fields(changes.lines) if changes.lines else ""
+    return f"<details{' open' if opened and changes.count == 1 else ''}><summary>{label}</summary>{fields}{inside}</details>"
 
 
 def _fields(lines: List[Tuple[str, Optional[str], Optional[str], str]]) -> str:
@@ -194,27 +199,27 @@ def _more(count: int, most: int, what: str) -> str:
     return f'<p class="note">.. and {count - most:,} more {what}, which --json lists</p>' if count > most else ""
 
 
-def _groups(found: Gathered, session: Optional[Session]) -> str:
-    small = small_pictures([path for _, _, pictures in found.groups for path in pictures], session)
+def _groups(contents: Gathered, session: Optional[Session]) -> str:
+    small = small_pictures([path for _, _, pictures in contents.groups for path in pictures], session)
     parts = ["<section><h2>Pictures with the same metadata</h2>"]
-    if not found.groups:
+    if not contents.groups:
         are_absent = "None is listed: the files are gone or have changed since they were indexed."
-        parts.append(f"<p>{are_absent if found.all_groups[0] else 'No two pictures have the same metadata.'}</p>")
-    for count, sentence, pictures in found.groups:
+        parts.append(f"<p>{are_absent if contents.all_groups[0] else 'No two pictures have the same metadata.'}</p>")
+    for count, sentence, pictures in contents.groups:
         parts.append(f'<div class="group"><h3>{count:,} pictures <span class="note">{_text(sentence)}</span></h3><ul class="small">')
         for path in pictures:
             image = f'<img src="{small[path]}" alt="">' if path in small else '<span class="empty">no small picture</span>'
-            parts.append(f"<li>{image}{_name(path, found.roots)}</li>")
+            parts.append(f"<li>{image}{_name(path, contents.roots)}</li>")
         parts.append("</ul>" + _more(count, MOST_OF_GROUP, "pictures") + "</div>")
-    parts.append(_more(found.all_groups[0], MOST_GROUPS, "groups"))
-    if found.unknown:
-        parts.append(f'<p class="note">{_text(of_unknown(found.unknown))}</p>')
+    parts.append(_more(contents.all_groups[0], MOST_GROUPS, "groups"))
+    if contents.unknown:
+        parts.append(f'<p class="note">{_text(of_unknown(contents.unknown))}</p>')
     return "".join(parts) + "</section>\n"
 
 
-def _contradictions(found: Gathered) -> str:
+def _contradictions(contents: Gathered) -> str:
     """The pictures whose Exif, IPTC and XMP have different texts for one label."""
-    known = found.contradictions
+    known = contents.contradictions
     if not known.pictures:
         return ""
     several = f"{_counted(known.pictures, 'picture')} with metadata in more than one of Exif, IPTC and XMP"
@@ -228,7 +233,7 @@ def _contradictions(found: Gathered) -> str:
     for number, (path, conflicts) in enumerate(known.first):
         rows = "".join(_conflict(it) for it in conflicts)
         head = "<tr><th>Label</th><th>Exif</th><th>IPTC</th><th>XMP</th></tr>"
-        summary = f'{_name(path, found.roots)} <span class="note">{_text(", ".join(it.label for it in conflicts))}</span>'
+        summary = f'{_name(path, contents.roots)} <span class="note">{_text(", ".join(it.label for it in conflicts))}</span>'
         opened = " open" if number < MOST_OPEN else ""
         parts.append(f'<details{opened}><summary>{summary}</summary><table class="texts">{head}{rows}</table></details>')
     parts.append(_more(known.real, MOST_CONTRADICTIONS, "pictures"))
@@ -240,35 +245,35 @@ def _contradictions(found: Gathered) -> str:
     return "".join(parts) + "</section>\n"
 
 
-def _conflict(it: Conflict) -> str:
+def _conflict(conflict: Conflict) -> str:
     """The texts of a label in a row."""
-    detail = f'<br><span class="note">{_text(it.detail)}</span>' if it.detail else ""
-    by_standard = texts(it)
+    detail = f'<br><span class="note">{_text(conflict.detail)}</span>' if conflict.detail else ""
+    by_standard = texts(conflict)
     cells = "".join(f'<td data-of="{standard}">{_caption(by_standard.get(standard))}</td>' for standard in STANDARDS)
-    return f"<tr><th>{_text(it.label)}{detail}</th>{cells}</tr>"
+    return f"<tr><th>{_text(conflict.label)}{detail}</th>{cells}</tr>"
 
 
 def _caption(text: Optional[str]) -> str:
     return '<i class="note">none</i>' if not text else _text(escaped(text if len(text) <= 300 else f"{text[:300]} .."))
 
 
-def _parts(found: Gathered) -> str:
+def _parts(contents: Gathered) -> str:
     """The parts that were not read."""
-    notes = f"<p>{_text(of_maker_notes(found.maker_notes))}</p>" if found.maker_notes else ""
-    if not found.parts:
+    notes = f"<p>{_text(of_maker_notes(contents.maker_notes))}</p>" if contents.maker_notes else ""
+    if not contents.parts:
         return f"<section><h2>What was not read</h2>{notes}</section>\n" if notes else ""
-    rows = "".join(f"<tr><td>{count:,}</td><td>{_text(what)}</td></tr>" for what, count in found.parts.most_common(MOST_REFUSED))
-    more = _more(len(found.parts), MOST_REFUSED, "parts")
+    rows = "".join(f"<tr><td>{count:,}</td><td>{_text(what)}</td></tr>" for what, count in contents.parts.most_common(MOST_REFUSED))
+    more = _more(len(contents.parts), MOST_REFUSED, "parts")
     words = "These parts were compared by a digest of their bytes at most; pictures that differ in them are not the same."
     return f"<section><h2>What was not read</h2><p>{words}</p><table>{rows}</table>{more}{notes}</section>\n"
 
 
-def _refusals(found: Gathered) -> str:
+def _refusals(contents: Gathered) -> str:
     parts = ["<section><h2>Refused blocks and what helps</h2>"]
-    if not found.causes:
+    if not contents.causes:
         return parts[0] + "<p>No block is refused.</p></section>\n"
-    parts.append(_bars(found.causes.most_common(), "bad"))
-    for name, _ in found.causes.most_common():
+    parts.append(_bars(contents.causes.most_common(), "bad"))
+    for name, _ in contents.causes.most_common():
         cause = CAUSES.get(name)
         parts.append(f"<h3>{_text(name)}</h3>")
         words = words_of(name)
@@ -278,11 +283,11 @@ def _refusals(found: Gathered) -> str:
             parts.append(f"<p><b>{_text(cause.sentence)}</b> {_marked(cause.meaning)}</p>")
             parts.append(f'<p class="remedy"><b>Remedy.</b> {_marked(cause.remedy)} <b>Cost.</b> {_marked(cause.cost)}</p>')
         rows = "".join(
-            f"<li>{_name(it.path, found.roots)} <span class='note'>{_text(it.name)}, {_text(it.refusal)}</span></li>"
-            for it in found.refused[name]
+            f"<li>{_name(it.path, contents.roots)} <span class='note'>{_text(it.name)}, {_text(it.refusal)}</span></li>"
+            for it in contents.refused[name]
         )
-        parts.append(f"<details><summary>{_counted(found.causes[name], 'block')}</summary><ul>{rows}</ul>")
-        parts.append(_more(found.causes[name], MOST_REFUSED, "blocks") + "</details>")
+        parts.append(f"<details><summary>{_counted(contents.causes[name], 'block')}</summary><ul>{rows}</ul>")
+        parts.append(_more(contents.causes[name], MOST_REFUSED, "blocks") + "</details>")
     return "".join(parts) + "</section>\n"
 
 
@@ -292,15 +297,15 @@ def _marked(text: str) -> str:
     return "".join(f"<code>{_text(it)}</code>" if index % 2 else _text(it) for index, it in enumerate(pieces))
 
 
-def _problems(found: Gathered) -> str:
-    if not found.problems:
+def _problems(contents: Gathered) -> str:
+    if not contents.problems:
         return ""
     rows = "".join(
         f"<tr><td><span class='tag {_TONES.get(it.problem or '', 'odd')}'>{_text(it.problem or '')}</span></td>"
-        f"<td>{_name(it.path, found.roots)}</td><td class='note'>{_text(it.detail or TEXTS.get(it.problem or '', ''))}</td></tr>"
-        for it in found.problems
+        f"<td>{_name(it.path, contents.roots)}</td><td class='note'>{_text(it.detail or TEXTS.get(it.problem or '', ''))}</td></tr>"
+        for it in contents.problems
     )
-    more = _more(found.all_problems, MOST_CHANGES, "files")
+    more = _more(contents.all_problems, MOST_CHANGES, "files")
     return f"<section><h2>Files without an answer</h2><table class='files'>{rows}</table>{more}</section>\n"
 
 
