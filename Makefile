@@ -10,6 +10,8 @@
 #   make page                             a web page with it, in out/page
 #   make c-source                         the library as C source for other machines, in out/c
 #   make sdist                            the Python packages as source, which compile it, in out/sdist
+#   make aarch64                          libexifnorm for aarch64 Linux, proved for it, in out/aarch64/lib
+#   make static                           the program for x86-64 and aarch64, without any library, in out/x86_64 and out/aarch64
 #   make dist                             an archive of all that install writes, its sums and its components, in out/dist
 #   make release SIGN=KEY                 all packages, the archives and their sums, in out/release; signed if a key is given
 #   make clean                            removes what was built, except the proofs in out/proved
@@ -58,7 +60,7 @@ papers = LICENSE-APACHE LICENSE-MIT CHANGELOG.md $(addprefix docs/,CATALOGUE.md 
 # all that is installed, before it is copied to its folder
 stage = out/stage
 
-.PHONY: all program library check stage install uninstall wheel wasm npm page c-source sdist dist release clean help
+.PHONY: all program library check stage install uninstall wheel wasm npm page c-source sdist aarch64 static dist release clean help
 .DELETE_ON_ERROR:
 
 all: program library
@@ -177,6 +179,45 @@ c-source: $(archive)
 
 sdist: c-source
 	@python3 packaging/sdist.py out/c/exifnorm-$(VERSION)-c $(epoch) out/sdist
+
+# The same for aarch64, with heap.c in place of what the toolchain has for x86-64 alone.
+CROSS = aarch64-linux-gnu-
+there = out/aarch64/lib
+
+aarch64: $(there)/libexifnorm.a $(there)/$(SONAME)
+	@python3 build/guard.py $^
+
+out/aarch64/libpx_c.a: FORCE
+	@python3 build/cross.py px_c aarch64
+
+$(there)/exifnorm.o: out/aarch64/libpx_c.a packaging/heap.c Makefile
+	mkdir -p $(there)
+	$(CROSS)gcc -std=c99 -O2 -fPIC -c packaging/heap.c -o $(there)/heap.o
+	$(CROSS)ld -r -o $@ --whole-archive out/aarch64/libpx_c.a $(there)/heap.o
+	$(CROSS)objcopy --wildcard --keep-global-symbol='exifnorm_*' $@
+
+$(there)/libexifnorm.a: $(there)/exifnorm.o
+	rm -f $@
+	$(CROSS)ar rcsD $@ $<
+
+$(there)/$(SONAME): $(there)/exifnorm.o packaging/exifnorm.map
+	$(CROSS)gcc -shared -o $@ $< -Wl,-soname,$(SONAME) -Wl,--version-script=packaging/exifnorm.map -Wl,-z,defs -Wl,-z,relro \
+	    -Wl,-z,now -Wl,-z,noexecstack
+
+# The program with glibc in it. os.c and heap.c are in place of the toolchain's C code. musl 1.2.3 has not all that the program calls.
+static: out/x86_64/exifnorm out/aarch64/exifnorm
+	@python3 build/guard.py $^
+
+out/x86_64/px_cli.o out/aarch64/px_cli.o: out/%/px_cli.o: FORCE
+	@python3 build/cross.py px_cli $*
+
+out/x86_64/exifnorm: static_compiler = $(CC)
+out/aarch64/exifnorm: static_compiler = $(CROSS)gcc
+out/x86_64/exifnorm: static_objcopy = objcopy
+out/aarch64/exifnorm: static_objcopy = $(CROSS)objcopy
+out/x86_64/exifnorm out/aarch64/exifnorm: out/%/exifnorm: out/%/px_cli.o packaging/os.c packaging/heap.c Makefile
+	$(static_objcopy) --redefine-sym main=rattle_main $< out/$*/program.o
+	$(static_compiler) -std=c99 -O2 -static -s -Wl,--gc-sections -o $@ out/$*/program.o packaging/os.c packaging/heap.c
 
 # Everything in one folder that can be unpacked anywhere.
 dist_name = exifnorm-$(VERSION)-$(shell uname -s | tr A-Z a-z)-$(shell uname -m)

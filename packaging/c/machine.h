@@ -151,8 +151,9 @@ UNUSED static void import_udivti3(u64 *stack, u64 quotient, u64 x, u64 x_high, u
 /* ---- allocations: each stores whether there is memory, and its address */
 
 static void store_allocation(u64 result, void *place) {
+    static const u64 nothing = 0; /* an allocation that failed has its address, and nobody uses it */
     i64_store(result, place != NULL);
-    i64_store(result + 8, address(place));
+    i64_store(result + 8, address(place ? place : &nothing));
 }
 
 static void import_rattle_alloc(u64 *stack, u64 result, u64 size, u64 alignment) {

@@ -106,12 +106,14 @@ static void print_unread(octets picture) {
 static void print_comparison(octets first, octets second) {
     struct exifnorm_fault fault = {0, 0};
     struct exifnorm_picture_fault picture = {0, 0, 0, 0};
+    struct exifnorm_jpeg_unread unread = {9, 9, 9};
     uint32_t same = 9, status = exifnorm_compare(first.bytes, first.length, second.bytes, second.length, &same, &fault);
     printf("compare %u %u %u %u\n", (unsigned)status, (unsigned)same, (unsigned)fault.cause, (unsigned)fault.place);
     same = 9;
-    status = exifnorm_jpeg_same(first.bytes, first.length, second.bytes, second.length, &same, &picture);
-    printf("pictures %u %u %u %u %lu %lu\n", (unsigned)status, (unsigned)same, (unsigned)picture.cause, (unsigned)picture.kind,
+    status = exifnorm_jpeg_same(first.bytes, first.length, second.bytes, second.length, &same, &unread, &picture);
+    printf("pictures %u %u %u %u %lu %lu", (unsigned)status, (unsigned)same, (unsigned)picture.cause, (unsigned)picture.kind,
            (unsigned long)picture.number, (unsigned long)picture.place);
+    printf(" %u %u %lu\n", (unsigned)unread.found, (unsigned)unread.joined, (unsigned long)unread.start);
 }
 
 static void print_names(void) {
