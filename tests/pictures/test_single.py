@@ -126,7 +126,8 @@ class Copies(WithPictures):
     GOOD, BAD = Blocks(type="JPEG"), {"Exif": "refused: Overlap at 34"}
 
     def mended(self, name="a.jpg", refusals=({"Exif": "refused: Overlap at 34"}, {}), remedy=None, blocks=None, out="out.jpg"):
-        """The result for a picture whose blocks are judged like this, at first and after each remedy, and the names that are used."""
+        """The result for a picture whose blocks are judged like this, at first and after each remedy, and then accepted, and the names that are
+        used."""
         self.used, refusals = [], list(refusals)
 
         def read_blocks(path, **_):
@@ -143,7 +144,7 @@ class Copies(WithPictures):
             os.chmod(self.path(name), 0o640)
         changed = {
             "blocks_of": read_blocks,
-            "_refusals": lambda _: refusals.pop(0),
+            "_refusals": lambda _: refusals.pop(0) if refusals else {},
             "_printed": lambda *_: mend.Counter("ab"),
             "_REMEDIES": {it: remedy or touch for it in mend.STEPS},
         }
@@ -158,7 +159,7 @@ class Copies(WithPictures):
         now = os.stat(self.path("out.jpg"))
         self.assertEqual((stat.S_IMODE(now.st_mode), now.st_mtime, now.st_atime), (0o640, 20, READ))
         self.assertEqual((sorted(os.listdir(self.folder)), os.listdir(self.path("room"))), (["a.jpg", "out.jpg", "room"], []))
-        self.assertEqual(self.used, ["a.jpg", "touch.jpg"])
+        self.assertEqual(self.used, ["a.jpg", "touch.jpg", "copy.jpg"])
 
     def test_a_plain_copy(self):
         self.assertEqual(self.mended(refusals=[{}]), mend.Mended("copy", {}, is_written=True))
@@ -326,11 +327,13 @@ class Folders(WithPictures):
         own = mock.patch.object(tempfile, "tempdir", self.folder)
         own.start()
         self.addCleanup(own.stop)
+        with tempdir.room() as made, open(os.path.join(made, "lock"), "rb") as file:
+            self.lock = file.read()
 
     def folder_of_a_run(self, name, lock="lock"):
-        os.mkdir(self.path(name))
+        os.mkdir(self.path(name), 0o700)
         write(self.path(name, "data"), b"1")
-        write(self.path(name, lock), b"")
+        write(self.path(name, lock), self.lock)
         return self.path(name)
 
     def test_a_run_has_one_with_a_lock(self):
@@ -369,32 +372,31 @@ class Folders(WithPictures):
 
     def test_those_of_runs_that_were_killed(self):
         """They are removed if they are this user's, and if no process has their lock."""
-        self.folder_of_a_run("exifnorm-killed")
-        self.folder_of_a_run("exifnorm-killed-2")
-        self.folder_of_a_run("exifnorm-without", "new")
-        self.folder_of_a_run("exifnor-other")
-        self.folder_of_a_run("another")
-        write(self.path("exifnorm-file"), b"")
-        os.symlink("another", self.path("exifnorm-link"))
-        os.symlink("../another/lock", os.path.join(self.folder_of_a_run("exifnorm-linked", "data2"), "lock"))
-        alive = self.folder_of_a_run("exifnorm-alive")
+        killed, alive = map(self.folder_of_a_run, ("exifnorm-killed_1", "exifnorm-alive001"))
         with open(os.path.join(alive, "lock")) as file:
             fcntl.flock(file, fcntl.LOCK_EX)
             with mock.patch.object(tempdir.os, "geteuid", lambda: os.getuid() + 1), tempdir.room():
-                self.assertTrue(os.path.exists(self.path("exifnorm-killed")), "it is another user's")
-            with tempdir.room() as name:
-                kept = [
-                    "another",
-                    "exifnor-other",
-                    "exifnorm-alive",
-                    "exifnorm-file",
-                    "exifnorm-link",
-                    "exifnorm-linked",
-                    "exifnorm-without",
-                ]
-                self.assertEqual(sorted(os.listdir(self.folder)), sorted([*kept, os.path.basename(name)]))
-        for it in ("another", "exifnor-other", "exifnorm-alive", "exifnorm-linked", "exifnorm-without"):
-            self.assertEqual(len(os.listdir(self.path(it))), 3 if it == "exifnorm-linked" else 2, it)
+                self.assertTrue(os.path.exists(killed), "it is another user's")
+            with tempdir.room():
+                self.assertFalse(os.path.exists(killed))
+            self.assertEqual(sorted(os.listdir(alive)), ["data", "lock"])
+
+    def test_no_other_folder_is_removed(self):
+        """Whatever of a folder of ours it has: the user may keep the only copies of pictures there."""
+        self.folder_of_a_run("exifnorm-mine")
+        self.folder_of_a_run("exifnor-abcdefgh")
+        self.folder_of_a_run("exifnorm-nolock01", "new")
+        write(os.path.join(self.folder_of_a_run("exifnorm-nomark01"), "lock"), b"")
+        write(os.path.join(self.folder_of_a_run("exifnorm-others01"), "lock"), b"held by another program\n")
+        os.chmod(self.folder_of_a_run("exifnorm-rights01"), 0o755)
+        write(self.path("exifnorm-file0001"), b"")
+        os.symlink("exifnorm-mine", self.path("exifnorm-link0001"))
+        os.symlink("../exifnorm-mine/lock", os.path.join(self.folder_of_a_run("exifnorm-linked01", "data2"), "lock"))
+        os.mkfifo(os.path.join(self.folder_of_a_run("exifnorm-pipe0001", "data2"), "lock"))
+        before = sorted((top, *files) for top, _, files in os.walk(self.folder))
+        with tempdir.room():
+            pass
+        self.assertEqual(sorted((top, *files) for top, _, files in os.walk(self.folder)), before)
 
     def test_a_folder_that_cannot_be_listed(self):
         with mock.patch.object(tempdir.os, "scandir", mock.Mock(side_effect=PermissionError)), tempdir.room() as name:

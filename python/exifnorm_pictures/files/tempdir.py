@@ -5,12 +5,16 @@ from __future__ import annotations
 import contextlib
 import fcntl
 import os
+import re
 import shutil
+import stat
 import tempfile
 from typing import Iterator
 
 PREFIX = "exifnorm-"
 _LOCK = "lock"
+_MARK = b"temporary files of a run of exifnorm-pictures, which the next run removes\n"  # in each lock
+_NAME = re.compile(PREFIX + "[a-z0-9_]{8}")  # as mkdtemp makes it
 
 
 @contextlib.contextmanager
@@ -22,6 +26,7 @@ def room() -> Iterator[str]:
     try:
         # locked before it has its name, so that no other run takes the folder for a dead one
         lock = os.open(os.path.join(name, "new"), os.O_RDWR | os.O_CREAT | os.O_CLOEXEC, 0o600)
+        os.write(lock, _MARK)
         fcntl.flock(lock, fcntl.LOCK_EX)
         os.rename(os.path.join(name, "new"), os.path.join(name, _LOCK))
         yield name
@@ -32,19 +37,26 @@ def room() -> Iterator[str]:
 
 
 def _sweep(base: str) -> None:
-    """Removes the folders of runs that were killed: those of this user with a lock that no process has."""
+    """Removes the folders of runs that were killed: those that `room` has made for this user, with a lock that no process has."""
     with contextlib.suppress(OSError), os.scandir(base) as entries:
         for it in entries:
-            if it.name.startswith(PREFIX) and it.is_dir(follow_symlinks=False):
+            if _NAME.fullmatch(it.name):
                 with contextlib.suppress(OSError):
-                    if it.stat(follow_symlinks=False).st_uid == os.geteuid() and _is_dead(it.path):
+                    if _is_own(it.stat(follow_symlinks=False)) and _is_dead(it.path):
                         shutil.rmtree(it.path, ignore_errors=True)
 
 
+def _is_own(status: os.stat_result) -> bool:
+    """Whether something is a folder of this user with the rights that mkdtemp gives."""
+    return stat.S_ISDIR(status.st_mode) and stat.S_IMODE(status.st_mode) == 0o700 and status.st_uid == os.geteuid()
+
+
 def _is_dead(folder: str) -> bool:
-    """Whether a folder has a lock file that no process has locked."""
-    lock = os.open(os.path.join(folder, _LOCK), os.O_RDWR | os.O_NOFOLLOW | os.O_CLOEXEC)
+    """Whether a folder has our lock file, and no process has locked it."""
+    lock = os.open(os.path.join(folder, _LOCK), os.O_RDWR | os.O_NOFOLLOW | os.O_NONBLOCK | os.O_CLOEXEC)
     try:
+        if not stat.S_ISREG(os.fstat(lock).st_mode) or os.read(lock, len(_MARK) + 1) != _MARK:
+            return False
         fcntl.flock(lock, fcntl.LOCK_EX | fcntl.LOCK_NB)
     except OSError:
         return False
