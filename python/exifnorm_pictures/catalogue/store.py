@@ -17,7 +17,7 @@ import time
 from typing import Any, Callable, Iterable, Iterator, List, NamedTuple, Optional, Sequence, Tuple, Type, TypeVar, overload
 
 from ..files import mounts, opening as files, signals
-from ..model.budgets import ROW_BYTES, STEPS
+from ..model.budgets import ROW_BYTES, ROW_NUMBER, STEPS
 from ..model.columns import Damaged
 from ..model.errors import Failure
 from ..model.found import NotRead
@@ -387,8 +387,11 @@ class Catalogue:
             self.base.execute(step.format(other=other), offsets)
 
     def greatest(self, table: str) -> int:
-        """The greatest number of a row."""
-        return int(self.base.execute(f"SELECT ifnull(max(id), 0) FROM main.{table}").fetchone()[0])
+        """The greatest number of a row. Raises `Damaged` if it is none that a catalogue has."""
+        number = int(self.base.execute(f"SELECT ifnull(max(id), 0) FROM main.{table}").fetchone()[0])
+        if number > ROW_NUMBER:
+            raise Damaged(f"{number} is no number of a row")
+        return number
 
     def _is_kept(self, run: int, picture: Picture) -> bool:
         """Whether a picture that can't be read now was known before. Its earlier results are kept."""
@@ -460,12 +463,12 @@ class Catalogue:
     def not_read_of(self, picture: Picture) -> List[NotRead]:
         """The parts of a picture that were not read."""
         query = "SELECT what, digest FROM not_read WHERE picture = ? ORDER BY number"
-        return list(self.rows(query, (picture.id,), not_read_of_row))
+        return list(self.rows(query, (picture.id,), _bounded(not_read_of_row)))
 
     def blocks_of(self, picture: Picture) -> List[Block]:
         """The blocks of a picture."""
         query = f"SELECT {BLOCK_COLUMNS} FROM blocks WHERE picture = ? ORDER BY number"
-        return list(self.rows(query, (picture.id,), block_of_row))
+        return list(self.rows(query, (picture.id,), _bounded(block_of_row)))
 
     def choose(self, paths: Iterable[bytes]) -> str:
         """A temporary table of paths; its name."""
@@ -509,6 +512,20 @@ class Catalogue:
                 other.execute("PRAGMA journal_mode = DELETE")
             finally:
                 other.close()
+
+
+def _bounded(made: Callable[[Tuple[Any, ...]], Made]) -> Callable[[Tuple[Any, ...]], Made]:
+    """The same function of rows, which raises `Damaged` once all of them have too many bytes: in a crafted file they can share them."""
+    left = ROW_BYTES
+
+    def bounded(row: Tuple[Any, ...]) -> Made:
+        nonlocal left
+        left -= sum(len(cell) for cell in row if isinstance(cell, (str, bytes)))
+        if left < 0:
+            raise Damaged("what it has of a picture is too long")
+        return made(row)
+
+    return bounded
 
 
 def unlike(catalogue: Catalogue, other: Catalogue) -> NoCatalogue:

@@ -8,7 +8,7 @@ from typing import Dict, Iterator, List, Sequence
 
 from ..extract.named import blocks_of
 from ..fields.labels import LabelText
-from ..fields.block_fields import fields_of
+from ..fields.block_fields import with_fields
 from ..files import opening
 from ..judge.reading import Reading
 from ..model import steps
@@ -58,7 +58,7 @@ def _in_catalogue(name: bytes) -> Iterator[Reading]:
             if it.problem in (Problem.NO_PICTURE, *NOT_THERE):
                 continue
             with catalogue.guarded():
-                blocks = [(block, fields_of(block)) for block in catalogue.blocks_of(it)]
+                blocks = with_fields(catalogue.blocks_of(it))
             found = texts_of(blocks)
             parts = catalogue.not_read_of(it) + [
                 NotRead(f"the {word}, which is too long for the catalogue", "") for word in sorted(found.missing)

@@ -488,9 +488,9 @@ def _reason(catalogue: Catalogue, picture: Picture, basis: str) -> str:
     """Why a picture of a group isn't simply accepted: its refusals, or its repairs."""
     query = "SELECT name, cause, repair FROM blocks WHERE picture = ? AND status != 'accepted' ORDER BY number"
     found = []
-    for name, cause, repair in catalogue.rows(query, (picture.id,)):
+    for name, cause, repair in catalogue.rows(query, (picture.id,), lambda row: (*row[:2], steps.unpacked(row[2]))):
         if basis in (REPAIR, MAKER_NOTE) and repair:
-            found.append(f"{name} repaired in memory: {steps.words(steps.unpacked(repair))}")
+            found.append(f"{name} repaired in memory: {steps.words(repair)}")
         else:
             found.append(f"{name} refused: {cause}")
     return "; ".join(found) or (picture.problem or "")

@@ -13,7 +13,7 @@ from ..comparison.groups import Fewest, groups
 from ..comparison.keeping import Keep, keeping
 from ..fields.labels import LabelText
 from ..fields.listing import Field, exact
-from ..fields.block_fields import fields_of
+from ..fields.block_fields import with_fields
 from ..fields.plain_names import exact_key, group_name
 from ..fields.plain_values import plain
 from ..fields.typed import typed
@@ -54,7 +54,7 @@ class Export:
     def _picture(self, picture: Picture) -> None:
         self.tables.add("pictures", [_picture_row(picture)])
         with self.catalogue.guarded():
-            blocks = [(block, fields_of(block)) for block in self.catalogue.blocks_of(picture)]
+            blocks = with_fields(self.catalogue.blocks_of(picture))
         self.maker_notes += any(block.note is not None for block, _ in blocks)
         for number, (block, fields) in enumerate(blocks):
             self.tables.add("blocks", [_block_row(picture, number, block)])

@@ -2,11 +2,13 @@
 
 from __future__ import annotations
 
-from typing import TYPE_CHECKING, List, Optional, Union
+from typing import TYPE_CHECKING, List, Optional, Sequence, Tuple, Union
 
+from ..model.budgets import KEPT_BYTES
+from ..model.columns import Damaged
 from ..model.records import Block
 from .listing import Field
-from .packing import unpacked
+from .packing import length, unpacked
 
 if TYPE_CHECKING:
     from .. import xmp
@@ -36,3 +38,10 @@ def fields_of(block: Block) -> List[Field]:
     if isinstance(block.made, Fields):
         return block.made.all()
     return unpacked(block.packed) if block.packed else []
+
+
+def with_fields(blocks: Sequence[Block]) -> List[Tuple[Block, List[Field]]]:
+    """The blocks of a picture of a catalogue, each with its fields. Raises `Damaged`, also if they are more than `index` keeps."""
+    if sum(length(it.packed) for it in blocks if it.packed) > KEPT_BYTES:
+        raise Damaged("the fields of a picture are too long")
+    return [(it, fields_of(it)) for it in blocks]

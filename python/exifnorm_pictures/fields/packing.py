@@ -57,6 +57,25 @@ def left_out(octets: bytes, count: int = 0) -> bytes:
     return packed([Field("", "", "", count, Long(digest_of(octets), "too many to be kept"))]).octets
 
 
+def is_short(octets: bytes) -> bool:
+    """Whether packed fields are so few bytes that they aren't compressed, such as the result of `left_out`."""
+    return octets[:1] == b"[" and len(octets) <= _SHORTEST
+
+
+def length(octets: bytes) -> int:
+    """How many bytes packed fields have as JSON, for a limit of those of a picture, in which short ones count as nothing. Raises `Damaged`.
+
+    >>> length(packed([Field("main", "010f", "ASCII", 4, b"abc\\0")] * 1000).octets)
+    32001
+    """
+    if octets[:1] == b"[":
+        return 0 if is_short(octets) else len(octets)
+    try:
+        return len(zlib.decompressobj().decompress(octets, FIELD_BYTES))
+    except zlib.error as error:
+        raise Damaged(f"fields that can't be read: {error}") from error
+
+
 def _compressed(text: bytes, count: int) -> bytes:
     """So many fields, as JSON, as few bytes."""
     if len(text) > FIELD_BYTES:  # more than can be unpacked again

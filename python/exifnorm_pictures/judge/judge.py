@@ -10,7 +10,7 @@ import exifnorm
 from .. import xmp
 from ..extract import structure
 from ..fields.block_fields import Fields
-from ..fields.packing import left_out, packed
+from ..fields.packing import is_short, left_out, length, packed
 from ..model import steps
 from ..model.budgets import KEPT_BYTES, Budget
 from ..model.found import COMPRESSED, EXIF, FEW, IPTC, NAMES, XMP, Blocks, FoundBlock
@@ -66,6 +66,7 @@ def _says_nothing(block: FoundBlock) -> bool:
     return block.kind == EXIF and len(data) <= 64 and data[:10] in _NOTHING and not any(data[10:])
 
 
+_INFLATES = 1032  # bytes that a byte of zlib can become
 _NOTHING = (b"II*\0\x08\0\0\0\0\0", b"MM\0*\0\0\0\x08\0\0")  # a header, and a directory without entries
 
 
@@ -109,12 +110,26 @@ def judge_all(blocks: Blocks, packs: bool = False) -> List[Block]:
             known[it.kind, it.data] = block
         kept += len(block.packed or b"")
         found.append(_within(block, kept))
+    found = _all_within(found) if packs else found
     return found + extended.not_named() if extended else found
 
 
 def _within(block: Block, kept: int) -> Block:
     """A block without its packed fields, if so many bytes are kept of a picture: its pages may share one long text."""
     return block if kept <= KEPT_BYTES or block.packed is None else block._replace(packed=left_out(block.packed))
+
+
+def _all_within(blocks: List[Block]) -> List[Block]:
+    """The blocks without the packed fields of those from which on all of them, unpacked, are more than are kept of a picture."""
+    if sum(len(it.packed or b"") for it in blocks) * _INFLATES <= KEPT_BYTES:  # as of nearly each picture
+        return blocks
+    found: List[Block] = []
+    kept = 0
+    for it in blocks:
+        is_long = it.packed is not None and not is_short(it.packed)
+        kept += length(it.packed or b"") if is_long and kept <= KEPT_BYTES else 0
+        found.append(_within(it, kept) if is_long else it)
+    return found
 
 
 class _Extended:

@@ -61,13 +61,14 @@ LANGUAGE = 100  # characters of a language of XMP, which each of its texts repea
 CACHED = 1000  # characters of a text that a cache keeps: it counts its texts, and a stranger's can have millions each
 FIELDS = 100_000  # of a block that are kept to be shown; the block is compared by its digest in any case; need 150
 FIELD_BYTES = 8 << 20  # of the fields of a block as JSON, here and in a catalogue of others; need 8.6 kB
-KEPT_BYTES = 8 << 20  # of the fields of a picture in a catalogue, all blocks together; need 3.8 kB
+KEPT_BYTES = 8 << 20  # of the fields of a picture in a catalogue, all blocks together, as JSON and as packed; need 8.6 kB
 WHOLE_FILE = 16 << 20  # bytes of a file of which no block was read, for a digest of all of it; with --whole any number
 MENDED_BYTES = 1 << 30  # of a picture with a refused block that `mend` copies for each remedy, which may write its holes; need 100 MB
 OUTPUT = 64 << 20  # bytes that another program may write about a picture
 
 # A catalogue may be a stranger's, too.
-ROW_BYTES = 64 << 20  # of a value or a row
+ROW_BYTES = 64 << 20  # of a value or a row, and of all rows of a table for one picture, which a file can let share their bytes
+ROW_NUMBER = 1 << 53  # of a picture or a run, beyond which adding them could leave 64 bits
 STEPS = 1_000_000  # of SQLite until Python heeds a signal: some milliseconds
 
 _OFTEN = 15  # after so many counts the time is looked at, which takes longer than all else here

@@ -326,4 +326,6 @@ def picture_of_row(row: Tuple[Any, ...]) -> Picture:
 def block_of_row(row: Tuple[Any, ...]) -> Block:
     """A block of a row of the columns of BLOCKS."""
     BLOCKS.check(row)
-    return Block(kind_of(row[0]), *row[1:])
+    block = Block(kind_of(row[0]), *row[1:])
+    unpacked(block.repair)
+    return block

@@ -5,6 +5,8 @@ from __future__ import annotations
 import json
 from typing import Dict, FrozenSet, List, NamedTuple, Optional, Sequence, Tuple
 
+from .columns import Damaged
+
 
 class Step(NamedTuple):
     """One step: the fault, what was done, and what is lost by it (nothing: the block says the same as before)."""
@@ -48,5 +50,17 @@ def packed(steps: Sequence[Step]) -> str:
 
 
 def unpacked(text: Optional[str]) -> Tuple[Step, ...]:
-    """The steps from the result of `packed`."""
-    return tuple(Step(*it) for it in json.loads(text)) if text else ()
+    """The steps from the result of `packed`. Raises `Damaged`, since a catalogue may be damaged or a stranger's.
+
+    >>> unpacked(packed([Step("Doubled", "left out")]))
+    (Step(cause='Doubled', what='left out', loses='', where=''),)
+    """
+    if not text:
+        return ()
+    try:
+        found = json.loads(text)
+        if not isinstance(found, list) or not all(isinstance(it, list) and all(isinstance(one, str) for one in it) for it in found):
+            raise Damaged("the steps of a repair are something else")
+        return tuple(Step(*it) for it in found)
+    except (ValueError, TypeError, RecursionError) as error:
+        raise Damaged(f"the steps of a repair can't be read: {error}") from error

@@ -13,7 +13,7 @@ from ..catalogue.store import Catalogue
 from ..catalogue.texts import PictureTexts, texts_of
 from ..comparison.conflicts import ALIKE, Conflict, conflicts
 from ..fields.labels import COMMENT, STANDARDS, WORDS
-from ..fields.block_fields import fields_of
+from ..fields.block_fields import with_fields
 from ..model.records import Block, Picture
 from ..model.verdicts import ACCEPTED
 
@@ -62,7 +62,7 @@ def checked(catalogue: Catalogue, pictures: Iterator[Picture]) -> Iterator[Check
         if it.problem or sum(octets != "" for octets in it.octets) < 2:
             continue
         with catalogue.guarded():
-            blocks = [(block, fields_of(block)) for block in catalogue.blocks_of(it)]
+            blocks = with_fields(catalogue.blocks_of(it))
         found = texts_of(blocks, _COMPARED)
         yield _checked(it, [block for block, _ in blocks], found)
 

@@ -1,0 +1,156 @@
+"""Catalogues of strangers: each cell with values that nothing here writes, and rows that are more than they seem."""
+
+import re
+import shutil
+import sqlite3
+
+import pytest
+from made_blocks import with_exif
+from made_files import app1, app1_xmp, exif, jpeg, title
+from studio import SMALL_JPEG, put
+from test_repairs import REFUSED
+
+from exifnorm_pictures.catalogue.store import Catalogue
+from exifnorm_pictures.cli import main
+from exifnorm_pictures.fields import block_fields, packing
+from exifnorm_pictures.judge import judge
+from exifnorm_pictures.model.columns import Damaged
+from exifnorm_pictures.model.found import Blocks
+
+VALUES = {
+    "NULL": None,
+    "greatest": (1 << 63) - 1,
+    "fraction": 0.5,
+    "octets": b"\xff\xfe\0",
+    "list": '[["a"], 7]',
+    "deep": "[" * 10_000,
+    "long": "x" * 100_000,
+}
+COMMANDS = (
+    ["same", "--catalogue", "c"],
+    ["same", "--catalogue", "c", "--ignore", "Make"],
+    ["changed", "c", "good"],
+    ["report", "--catalogue", "c", "--json"],
+    ["captions", "c", "--csv"],
+    ["export", "c", "tables"],
+    ["merge", "c", "--catalogue", "into"],
+    ["mend", "--catalogue", "c", "out"],
+    ["index", "p", "--catalogue", "c", "--quiet", "--jobs", "1"],
+    ["forget", "p", "--catalogue", "c"],
+)
+
+
+@pytest.fixture(scope="module")
+def archive(tmp_path_factory):
+    """A folder with a catalogue of accepted, equal and refused pictures."""
+    folder = tmp_path_factory.mktemp("cells")
+    (folder / "p").mkdir()
+    (folder / "out").mkdir()
+    good = jpeg(app1(exif(b"Abc")), app1_xmp(title("one")))
+    refused = with_exif(SMALL_JPEG, REFUSED["unsorted"])
+    put(folder / "p", {"a.jpg": good, "b.jpg": good, "c.jpg": refused, "d.jpg": refused, "e.jpg": good[:-9]})
+    with pytest.MonkeyPatch.context() as patched:
+        patched.chdir(folder)
+        patched.setenv("PATH", str(folder))
+        main._run(["index", "p", "--catalogue", "good", "--quiet", "--jobs", "1"])
+    return folder
+
+
+def columns():
+    """Each table and column of a catalogue."""
+    with sqlite3.connect(":memory:") as base:
+        from exifnorm_pictures.catalogue import store
+
+        base.executescript(store._TABLES)
+        tables = [name for name, in base.execute("SELECT name FROM sqlite_master WHERE type = 'table'")]
+        return [(table, row[1]) for table in tables for row in base.execute(f"PRAGMA table_info({table})")]
+
+
+@pytest.mark.parametrize("table, column", columns())
+def test_each_cell(table, column, archive, capsys, monkeypatch):
+    """Each command that reads a catalogue ends with a documented status and a line, whatever value a cell has."""
+    monkeypatch.chdir(archive)
+    monkeypatch.setenv("PATH", str(archive))
+    monkeypatch.setenv("EXIFNORM_DEBUG", "")
+    for name, value in VALUES.items():
+        changed = archive / "changed"
+        shutil.copy(archive / "good", changed)
+        try:
+            with sqlite3.connect(changed, isolation_level=None) as base:
+                row = "" if table in ("runs", "maker_notes") else "WHERE rowid = 1" if table == "pictures" else "WHERE picture = 3"
+                base.execute(f"UPDATE {table} SET {column} = ? {row}", (value,))
+        except (sqlite3.IntegrityError, OverflowError):  # SQLite itself refuses it
+            continue
+        finally:
+            base.close()
+        for words in COMMANDS:
+            shutil.copy(changed, archive / "c")
+            for made in ("page", "tables", "into"):
+                (archive / made).unlink(missing_ok=True)
+            shutil.rmtree(archive / "out")
+            (archive / "out").mkdir()
+            status = main.main(words)
+            printed = capsys.readouterr()
+            context = (table, column, name, words, status, printed.err[-1000:])
+            assert status in (0, 1, 2, 4), context
+            assert "internal error" not in printed.out + printed.err and "Traceback" not in printed.err, context
+            assert status != 4 or len(printed.err.splitlines()) == 1, context
+            assert not re.search("[\0-\x08\x0b-\x1f]", printed.err), context
+
+
+@pytest.fixture
+def catalogue(archive, tmp_path, monkeypatch):
+    shutil.copy(archive / "good", tmp_path / "c")
+    monkeypatch.chdir(tmp_path)
+    return tmp_path / "c"
+
+
+LONG = packing.packed([packing.Field("main", "010e", "ASCII", 5, b"abcd\0")] * 20_000).octets  # 0.7 MB as JSON
+
+
+@pytest.mark.parametrize("words", [["export", "c", "tables"], ["captions", "c"], ["report", "--catalogue", "c", "--json"]])
+def test_fields_of_many_blocks(words, catalogue, capsys, monkeypatch):
+    """Together they are bounded, before any is unpacked."""
+    with sqlite3.connect(catalogue, isolation_level=None) as base:
+        query = "INSERT INTO blocks SELECT picture, number + 1, {} FROM blocks WHERE picture = 1 ORDER BY number DESC LIMIT 1"
+        names = ", ".join(row[1] for row in base.execute("PRAGMA table_info(blocks)") if row[1] not in ("picture", "number"))
+        for _ in range(20):
+            base.execute(query.format(names))
+        base.execute("UPDATE blocks SET fields = ? WHERE picture = 1", (LONG,))
+    base.close()
+    monkeypatch.setattr(block_fields, "fields_of", lambda _: pytest.fail("unpacked"))
+    assert main.main(words) == 4
+    assert "too long" in capsys.readouterr().err
+
+
+def test_rows_that_share_their_bytes(catalogue, monkeypatch):
+    """What a picture has in a table is bounded, however few bytes the file has."""
+    from exifnorm_pictures.catalogue import store
+
+    with Catalogue("c") as base:
+        pictures = list(base.pictures())
+        assert any(base.blocks_of(it) for it in pictures)
+        monkeypatch.setattr(store, "ROW_BYTES", 100)
+        with pytest.raises(store.NoCatalogue, match="too long"):
+            for it in pictures:
+                base.blocks_of(it)
+
+
+def test_what_index_writes_is_read(monkeypatch):
+    """Many blocks that are short as they are packed, and long as they are: some are left out, and none is refused when it is read."""
+    blocks = Blocks()
+    for number in range(6):
+        blocks.add("iim", b"".join(b"\x1c\2\x19\0\x04%04d" % (number if it == 0 else it) for it in range(300)), f"page {number}")
+    judged = judge.judge_all(blocks, packs=True)
+    one = packing.length(judged[0].packed)
+    assert len(judged[0].packed) * 4 < one
+    for limit, kept in ((3 * one, 3), (3 * one - 1, 2), (6 * one, 6)):
+        monkeypatch.setattr(judge, "KEPT_BYTES", limit)
+        monkeypatch.setattr(block_fields, "KEPT_BYTES", limit)
+        judged = judge.judge_all(blocks, packs=True)
+        fields = block_fields.with_fields(judged)
+        assert sum(len(found) == 300 for _, found in fields) == kept
+        if kept < 6:
+            monkeypatch.setattr(block_fields, "KEPT_BYTES", 2 * one - 1)
+            with pytest.raises(Damaged):
+                block_fields.with_fields(judged)
