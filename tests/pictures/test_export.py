@@ -15,6 +15,8 @@ from studio import SMALL_JPEG, TOP, needs, put, tool
 from test_captions import data_set, with_record, with_texts
 from test_groups import FILES as TWINS, with_short_note
 
+from exifnorm_pictures.export.tables import Tables
+
 SAMPLES = os.path.join(TOP, "samples", "before")
 PAGE = (Path(TOP) / "docs" / "CATALOGUE.md").read_text(encoding="utf-8")
 LONG = "Ein Gefäß aus Köln, zerbrochen und geklebt. " * 20
@@ -361,3 +363,28 @@ def test_a_refused_block_has_its_cause_and_its_repair(exported):
     base = exported(".")
     found = asked(base, "SELECT status, cause, repair IS NOT NULL FROM blocks JOIN pictures ON id = picture ORDER BY path")
     assert [it[:2] for it in found] == [("refused", "Overlap"), ("refused", "Unsorted")] and found[1][2] == 1
+
+
+def test_no_text_has_nul(exported, folder):
+    """SQLite's functions and its shell would end a text there."""
+    put(folder / "p", {"a.jpg": jpeg(with_texts(artist=b"a\0b\0c"), with_record(data_set(120, b"V\0\x1b=x")))})
+    base = exported("p")
+    for table in ("fields", "captions", "conflicts", "blocks"):
+        for row in base.execute(f"SELECT * FROM {table}"):
+            assert not any(isinstance(cell, str) and "\0" in cell for cell in row), (table, row)
+    assert asked(base, "SELECT count(*) FROM captions WHERE text LIKE 'V_x00%=x'") == [(1,)]
+
+
+def test_a_temporary_file_that_is_not_read(called, folder, monkeypatch):
+    """As where the disk of TMPDIR fails: a line with the cause, and the earlier export stays."""
+    put(folder / "p", {"a.jpg": jpeg(app1(exif(b"Abc")))})
+    assert called("index", "p", "--catalogue", "c", "--quiet")[0] == 0
+    assert called("export", "c", "t")[0] == 0
+    before = (folder / "t").read_bytes()
+    fails = lambda *_: (_ for _ in ()).throw(sqlite3.DatabaseError("database disk image is malformed"))
+    for call in ("_write", "finish"):
+        with monkeypatch.context() as patched:
+            patched.setattr(Tables, call, fails)
+            status, printed, messages = called("export", "c", "t")
+        assert status == 4 and "temporary file" in messages and "internal error" not in messages, messages
+        assert (folder / "t").read_bytes() == before

@@ -8,6 +8,7 @@ from typing import Dict, Iterable, Iterator, List, Tuple
 
 from ..files import signals
 from ..model.budgets import STEPS
+from ..model.errors import Failure
 
 APPLICATION = 0x45584E54  # 'EXNT', which distinguishes an export from a catalogue and from other SQLite files
 VERSION = 2
@@ -127,6 +128,8 @@ class Tables:
     def add(self, table: str, rows: Iterable[Row]) -> None:
         """Adds rows to a table."""
         for row in rows:
+            if any(isinstance(cell, str) and "\0" in cell for cell in row):
+                row = tuple(map(_without_nul, row))
             waiting = self._rows.setdefault(table, [])
             waiting.append(row)
             self.counts[table] = self.counts.get(table, 0) + 1
@@ -176,12 +179,23 @@ def tables(file: str) -> Iterator[Tables]:
         base.executescript(SCHEMA)
         base.execute("BEGIN")
         made = Tables(base)
-        yield made
         try:
+            yield made
             made.finish()
-        except sqlite3.Error:
+        except sqlite3.Error as error:
             signals.go_on_stopping()
+            if type(error) is sqlite3.DatabaseError:  # as SQLite calls a file of which it can't read what it has written
+                raise Failure(f"the temporary file of the export can't be read: {error}") from error
             raise
+
+
+def _without_nul(cell: object) -> object:
+    r"""A value without NUL, at which many functions of SQLite and its shell end a text.
+
+    >>> _without_nul("a\0b"), _without_nul(b"\0")
+    ('a\\x00b', b'\x00')
+    """
+    return cell.replace("\0", "\\x00") if isinstance(cell, str) else cell
 
 
 def _stored(it: object) -> object:
