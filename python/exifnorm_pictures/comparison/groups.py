@@ -293,14 +293,14 @@ def _all_groups(
     for query in queries:
         key = ", ".join(query.key)
         heads = f"SELECT {key} FROM {table} WHERE {query.where} GROUP BY {key} HAVING {query.having} ORDER BY count(*) DESC, min(path)"
-        terms = " AND ".join(f"{it} = ?" for it in query.key)
         # the digests are compared again with those of the rows themselves, because an index of a damaged catalogue can have others
         own = " AND ".join(f"+({it}) = ?" for it in query.key)
-        ids = f"SELECT id FROM {table} WHERE {query.where} AND {terms}"
-        rows = f"SELECT {PICTURE_COLUMNS} FROM {table} WHERE id IN ({ids}) AND {own} ORDER BY +path"
+        ids = ""
         for row in catalogue.rows(heads):
+            ids = ids or _numbers_of_a_group(catalogue, query, table)
+            rows = f"SELECT {PICTURE_COLUMNS} FROM {table} WHERE id IN ({ids}) AND {own} ORDER BY +path"
             counts = _DIFFERENT_BUT_NOTES if query.basis == MAKER_NOTE else _DIFFERENT
-            kept = f"SELECT {counts} FROM {table} WHERE {query.where} AND {terms}"
+            kept = f"SELECT {counts} FROM {table} WHERE id IN ({ids})"
             meanings, listings, places = next(catalogue.rows(kept, row)) if table == COUNTED else (1, 1, 1)
             if meanings > listings:  # something differs that no field shows
                 continue
@@ -311,6 +311,24 @@ def _all_groups(
             group.is_partial = meanings > 1 or places > 1
             group.basis = FIELDS if group.is_partial and query.basis == MEANING else query.basis
             yield from _groups_of(catalogue, group, readings)
+
+
+_INDEXED = ((MEANING, "exif"), (MAKER_NOTE, "other_exif"), (CODED_PICTURE, "coded_picture"))  # bases, and the first column of their index
+
+
+def _numbers_of_a_group(catalogue: Catalogue, query: _Query, table: str) -> str:
+    """A query for the numbers of the pictures with a key, which SQLite answers by an index. What is equal in other groups has none in the
+    catalogue, so those pictures are listed once in a temporary table: to look for each group among all pictures would take their product.
+    """
+    if (query.basis, query.key[0]) in _INDEXED:
+        return f"SELECT id FROM {table} WHERE {query.where} AND {' AND '.join(f'{column} = ?' for column in query.key)}"
+    columns = [f"key{number}" for number in range(len(query.key))]
+    made = ", ".join(f"{expression} AS {column}" for expression, column in zip(query.key, columns))
+    with catalogue.guarded():
+        number = next(catalogue.rows("SELECT count(*) FROM sqlite_temp_master"))[0]
+        catalogue.base.execute(f"CREATE TEMP TABLE keys{number} AS SELECT id, {made} FROM {table} WHERE {query.where}")
+        catalogue.base.execute(f"CREATE INDEX temp.by_key{number} ON keys{number} ({', '.join(columns)})")
+    return f"SELECT id FROM temp.keys{number} WHERE {' AND '.join(f'{column} = ?' for column in columns)}"
 
 
 _DIFFERENT = "count(DISTINCT whole), count(DISTINCT listing), count(DISTINCT place)"
