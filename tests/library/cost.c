@@ -73,5 +73,5 @@ int main(int count, char **words) {
     printf("%zu %zu %zu %zu %zu\n", memory.peak - before, memory.taken, memory.grown, memory.asked, written);
     free(out);
     free(block.bytes);
-    return status != EXIFNORM_DONE;
+    return status != EXIFNORM_DONE && status != EXIFNORM_NOT_READ;
 }
