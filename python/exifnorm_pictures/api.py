@@ -484,7 +484,11 @@ def _read(source: Source, whole: bool, pixels: bool, session: Optional[Session] 
             raise TypeError(f"a path or a binary file is expected, not {type(source).__name__}; of bytes read_bytes reads a picture")
         return _read_bytes(source.read(), str(getattr(source, "name", "")), whole, pixels)
     path = os.fsencode(source)
-    number, size = opening.opened(path)
+    try:
+        number, size = opening.opened(path)
+    except OSError as error:
+        error.filename = os.fspath(source)  # as open() has it
+        raise
     stamp = Stamp.of(os.fstat(number))
     return _picture(File(number, size, Budget(whole)), path, os.fsdecode(path), whole, stamp, session)
 

@@ -397,3 +397,10 @@ def test_each_name_has_words():
             assert member.startswith("_") or not isinstance(one, property) or one.__doc__, (name, member)
     assert set(pictures.__all__) <= set(dir(pictures))
     assert callable(pictures.compare)
+
+
+@pytest.mark.parametrize("name", ["nothing here.jpg", b"nothing here.jpg", Path("nothing here.jpg")])
+def test_the_error_of_a_missing_file_has_the_name_as_given(name):
+    with pytest.raises(FileNotFoundError) as raised:
+        pictures.read(name)
+    assert raised.value.filename == os.fspath(name)
