@@ -5,8 +5,8 @@ strace makes system calls fail, and prlimit sets limits. The calls of the loader
 program. A run must end as it does without a fault, or with status 4 and the line for what failed. A file or stream that it writes has a
 prefix of the expected bytes, or its old content.
 
-`openat` and `ftruncate` return EINTR only once here. Rust's standard library repeats these two until they return something else, so a
-run in which they always return it would never end; no file system does that.
+`openat`, `ftruncate` and `fdatasync` return EINTR only once here. Rust's standard library repeats these until they return something else,
+so a run in which they always return it would never end; no file system does that.
 """
 
 import functools
@@ -235,7 +235,7 @@ def ways(call: Call) -> Iterator[Tuple[str, str]]:
     for error in (*ERRORS, "ENOSPC") if call.name in ("openat", "write", "ftruncate") else ERRORS:
         yield f"error={error}", ""
     yield "error=EIO", "+"
-    if call.name not in ("openat", "ftruncate"):
+    if call.name not in ("openat", "ftruncate", "fdatasync"):
         yield "error=EINTR", "+"
 
 
