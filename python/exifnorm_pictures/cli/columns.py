@@ -60,11 +60,11 @@ def wrapped(text: str, wanted: int) -> List[str]:
             line = joined
             continue
         lines += [line] if line else []
-        line = word
-        while width(line) > wanted:
-            at = _fitting(line, wanted)
-            lines.append(line[:at])
-            line = line[at:]
+        start, end = 0, _fitting(word, 0, wanted)
+        while end < len(word):
+            lines.append(word[start:end])
+            start, end = end, _fitting(word, end, wanted)
+        line = word[start:]
     return [*lines, line]
 
 
@@ -92,11 +92,11 @@ def folded(text: str, screen: int) -> List[str]:
     return lines
 
 
-def _fitting(text: str, wanted: int) -> int:
-    """How many characters fit, at least one."""
+def _fitting(text: str, start: int, wanted: int) -> int:
+    """The end of the characters from `start` on that fit, at least one."""
     taken = 0
-    for at, it in enumerate(text):
-        taken += width(it)
+    for at in range(start, len(text)):
+        taken += width(text[at])
         if taken > wanted:
-            return max(at, 1)
+            return max(at, start + 1)
     return len(text)
