@@ -399,7 +399,7 @@ def test_a_library_that_the_loader_finds_needs_no_step(monkeypatch):
 
 def test_help_lists_the_targets():
     said = run("make", "help", cwd=TOP)
-    targets = re.findall(r"^make (\w+)", said, re.M)
+    targets = re.findall(r"^make ([\w-]+)", said, re.M)
     assert {"install", "uninstall", "wheel", "dist", "release", "clean", "check"} <= set(targets)
     for it in targets:
         run("make", "-n", it, "-o", "all", cwd=TOP)
