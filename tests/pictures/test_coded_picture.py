@@ -122,7 +122,7 @@ def test_none(octets, tmp_path):
 
 @pytest.mark.parametrize("name", NONE)
 def test_damage(name, tmp_path):
-    """A picture that is damaged is told from one whose format has no digest here."""
+    """A damaged picture and one whose format has no digest here have different results."""
     write(tmp_path / "a", NONE[name])
     damage = coded_picture.of_file(bytes(tmp_path / "a"), Budget()).damage
     assert bool(damage) == (name.split()[0] == "a" and "old tables" not in name), damage

@@ -66,7 +66,7 @@ NIGHTS = ((nothing, 0, 0), (caption, 0, 1), (move, 0, 1), (another_raw, 2, 1), (
 @needs("exiftool", "exiv2")
 def test_nights_by_the_recipe(archive, called):
     index, changed = lines_of_recipes()
-    assert called("index", "pictures", "--catalogue", "archive.catalogue", "--quiet")[0] == 2  # the first run tells of each
+    assert called("index", "pictures", "--catalogue", "archive.catalogue", "--quiet")[0] == 2  # the first run reports each
     for number, (happens, status_of_index, status_of_changed) in enumerate(NIGHTS):
         happens(archive)
         assert called(*index)[0] == status_of_index, (number, happens.__name__)

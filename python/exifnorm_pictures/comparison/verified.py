@@ -1,4 +1,4 @@
-"""Files read again, against a catalogue of `index --pixels`: of each the file, its picture and its metadata are told apart."""
+"""Files read again, against a catalogue of `index --pixels`: whether the file, its picture or its metadata have changed."""
 
 from __future__ import annotations
 
