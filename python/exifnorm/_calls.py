@@ -52,9 +52,9 @@ def in_c(call: _Call) -> _Call:
     if not native:
         return call
     native.in_python, native.raise_failure = call, _raise
-    made = getattr(native, call.__name__)
-    made.__module__ = call.__module__  # where pickle and help find it
-    return cast(_Call, made)
+    function = getattr(native, call.__name__)
+    function.__module__ = call.__module__  # where pickle and help find it
+    return cast(_Call, function)
 
 
 def version() -> str:
@@ -118,12 +118,12 @@ def same(first: Block, second: Block) -> bool:
     >>> same(b"\\x1c\\x02\\x78\\x00\\x04Vase", b"\\x1c\\x02\\x78\\x00\\x03Urn")
     False
     """
-    one = first if type(first) is bytes else _copied(first)
-    other = second if type(second) is bytes else _copied(second)
-    number = library().compare(one, other)
+    left = first if type(first) is bytes else _copied(first)
+    right = second if type(second) is bytes else _copied(second)
+    number = library().compare(left, right)
     if isinstance(number, tuple):
         side = 2 if number[0] == Status.SECOND_REFUSED else 1
-        _raise(number, other if side == 2 else one, side)
+        _raise(number, right if side == 2 else left, side)
     return number == 1
 
 

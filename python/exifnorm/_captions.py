@@ -69,7 +69,7 @@ def captions(block: Block) -> List[Caption]:
     >>> captions(block)
     [Caption(label='title', data=b'Z\\xc3\\xbcrich', text='Zürich')]
     """
-    found = []
+    texts = []
     _, *lines = captions_text(block).splitlines()
     in_record = False
     for line in lines:
@@ -79,7 +79,7 @@ def captions(block: Block) -> List[Caption]:
             continue
         data = _ESCAPE.sub(lambda it: bytes([int(it[1], 16)]), escaped.encode("ascii"))
         if in_record:
-            found.append(Caption(label, data, _decoded(data, "utf-8") if declared else None))
+            texts.append(Caption(label, data, _decoded(data, "utf-8") if declared else None))
         else:
-            found.append(_of_exif(block, label, data))
-    return found
+            texts.append(_of_exif(block, label, data))
+    return texts

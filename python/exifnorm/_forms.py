@@ -24,21 +24,21 @@ def _octets(form: bytes, at: int, elements: int) -> bytes:
 
 
 def _numbers(letter: str) -> Read:
-    one = Struct(">" + letter)
+    layout = Struct(">" + letter)
 
     def read(form: bytes, at: int, elements: int) -> Tuple[int, ...]:
-        return one.unpack_from(form, at) if elements == 1 else unpack_from(f">{elements}{letter}", form, at)
+        return layout.unpack_from(form, at) if elements == 1 else unpack_from(f">{elements}{letter}", form, at)
 
     return read
 
 
 def _ratios(letter: str) -> Read:
-    one = Struct(f">2{letter}")
+    layout = Struct(f">2{letter}")
 
     def read(form: bytes, at: int, elements: int) -> Tuple[Ratio, ...]:
         if elements == 1:
-            return (Ratio(*one.unpack_from(form, at)),)
-        return tuple(starmap(Ratio, one.iter_unpack(form[at : at + 8 * elements])))
+            return (Ratio(*layout.unpack_from(form, at)),)
+        return tuple(starmap(Ratio, layout.iter_unpack(form[at : at + 8 * elements])))
 
     return read
 

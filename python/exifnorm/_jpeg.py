@@ -182,23 +182,23 @@ _EXIF = b"Exif\0\0"
 
 
 def _blocks(octets: bytes) -> List[JpegBlock]:
-    found: List[JpegBlock] = []
+    blocks: List[JpegBlock] = []
     for kind, data in _whole_blocks(octets):
         if kind == "exif":
-            found.append(JpegBlock("exif", data))
+            blocks.append(JpegBlock("exif", data))
         elif kind == "photoshop":
             rows = photoshop_resources(data)
-            found += [JpegBlock("iim", data[start : start + size]) for number, start, size in rows if number == _IPTC and size]
-    return found
+            blocks += [JpegBlock("iim", data[start : start + size]) for number, start, size in rows if number == _IPTC and size]
+    return blocks
 
 
 def _whole_blocks(octets: bytes) -> Iterator[Tuple[str, bytes]]:
     """The blocks of a JPEG in their order, of any kind of part, each as one."""
-    found: Any = library().jpeg_blocks(octets)
-    if len(found) == 3:
+    answer: Any = library().jpeg_blocks(octets)
+    if len(answer) == 3:
         _rows_of_parts(octets, len(octets))  # which raises HeadRefused with the parts before the fault
-        raise AssertionError(f"libexifnorm answered the status {found[0]}")
-    rows, joined = found
+        raise AssertionError(f"libexifnorm answered the status {answer[0]}")
+    rows, joined = answer
     for kind, is_joined, start, size in PLACE.iter_unpack(rows):
         yield KINDS[kind], (joined if is_joined else octets)[start : start + size]
 
@@ -262,15 +262,15 @@ def jpeg_unread(picture: Block) -> Optional[Unread]:
     Unread(joined=False, start=6)
     """
     octets = _bytes_of(picture)
-    found: Any = library().jpeg_unread(octets)
-    if len(found) == 3:
-        status, cause, place = found
+    answer: Any = library().jpeg_unread(octets)
+    if len(answer) == 3:
+        status, cause, place = answer
         if status == Status.NO_MEMORY:
             raise MemoryError
         if status == Status.REFUSED:
             raise HeadRefused(CAUSES[cause], place, [])
         raise AssertionError(f"libexifnorm answered the status {status}")
-    return Unread(found[0] == 1, found[1]) if found else None
+    return Unread(answer[0] == 1, answer[1]) if answer else None
 
 
 def jpeg_same(first: Block, second: Block) -> Union[bool, NotRead]:
@@ -292,10 +292,10 @@ def jpeg_same(first: Block, second: Block) -> Union[bool, NotRead]:
     >>> jpeg_same(turned, written_anew), jpeg_same(turned, upright)
     (True, False)
     """
-    found = library().jpeg_same(_bytes_of(first), _bytes_of(second))
-    if isinstance(found, int):
-        return found == 1
-    status, _, joined, _, start = found
+    answer = library().jpeg_same(_bytes_of(first), _bytes_of(second))
+    if isinstance(answer, int):
+        return answer == 1
+    status, _, joined, _, start = answer
     if status in (Status.NOT_READ, Status.SECOND_NOT_READ):
         return NotRead(2 if status == Status.SECOND_NOT_READ else 1, Unread(joined == 1, start))
-    _raise_for_pair(found)
+    _raise_for_pair(answer)

@@ -257,11 +257,11 @@ class ByCtypes:
             room = self._rooms[kind].pop()
         except IndexError:
             room = Room(kind, _FEW)
-        found = room.rows_of(call, octets, max(min(most, _FEW), 0))
+        rows = room.rows_of(call, octets, max(min(most, _FEW), 0))
         self._rooms[kind].append(room)
-        if isinstance(found, tuple) and found[0] == _TOO_LITTLE_ROOM and _FEW < found[2] <= most:
-            found = Room(kind, found[2]).rows_of(call, octets, found[2])
-        return found
+        if isinstance(rows, tuple) and rows[0] == _TOO_LITTLE_ROOM and _FEW < rows[2] <= most:
+            rows = Room(kind, rows[2]).rows_of(call, octets, rows[2])
+        return rows
 
     @staticmethod
     def _text(call: Callable[..., int], block: bytes, capacity: int) -> Text:
@@ -294,15 +294,15 @@ class Library:
 
     def __init__(self, place: str) -> None:
         self._library = _opened(place)
-        self.by_ctypes = it = ByCtypes(self._library)
-        blocks: Any = it.check, it.normalise, it.compare, it.show, it.captions
-        jpegs: Any = it.jpeg_parts, it.photoshop_resources, it.jpeg_same, it.jpeg_blocks
+        self.by_ctypes = calls = ByCtypes(self._library)
+        blocks: Any = calls.check, calls.normalise, calls.compare, calls.show, calls.captions
+        jpegs: Any = calls.jpeg_parts, calls.photoshop_resources, calls.jpeg_same, calls.jpeg_blocks
         if _native:
-            made = _native.functions(*(_address(getattr(self._library, name)) for name in _OF_EXTENSION))
-            blocks, jpegs = made[:5], made[5:]
+            functions = _native.functions(*(_address(getattr(self._library, name)) for name in _OF_EXTENSION))
+            blocks, jpegs = functions[:5], functions[5:]
         self.check, self.normalise, self.compare, self.show, self.captions = blocks
         self.jpeg_parts, self.photoshop_resources, self.jpeg_same, self.jpeg_blocks = jpegs
-        self.jpeg_unread = it.jpeg_unread  # for which the time of a call matters less
+        self.jpeg_unread = calls.jpeg_unread  # for which the time of a call matters less
 
     def cause_name(self, cause: int) -> str:
         """The name of a cause."""

@@ -65,8 +65,8 @@ def __getattr__(name: str) -> object:
         raise AttributeError(f"module {__name__!r} has no attribute {name!r}")
     from . import api, many
 
-    found: object = getattr(many if name == "read_all" else api, name)
-    return found
+    value: object = getattr(many if name == "read_all" else api, name)
+    return value
 
 
 def __dir__() -> List[str]:

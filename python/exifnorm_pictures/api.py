@@ -326,8 +326,8 @@ class Picture:
     @property
     def fields(self) -> Iterator[Field]:
         """All fields of all blocks, in the order of the file."""
-        for it in self.blocks:
-            yield from it.fields
+        for block in self.blocks:
+            yield from block.fields
 
     @property
     def refusals(self) -> Tuple[Refusal, ...]:
@@ -358,8 +358,8 @@ class Picture:
     def _whole_record(self) -> Record:
         """The same with the digests of the coded picture and of the file, if the file is still the one that was read."""
         if self._digests is None and self._is_unchanged():
-            found = _digests_of_file(self._path)
-            self._digests = found if self._is_unchanged() else None
+            digests = _digests_of_file(self._path)
+            self._digests = digests if self._is_unchanged() else None
         if self._digests is None:
             return self._record()
         (coded, beside, damage), sha256 = self._digests
@@ -382,19 +382,19 @@ class Picture:
         """All fields with a name, of all blocks: with its group or without, in capital or small letters."""
         if self._names is None:
             names: Dict[str, List[Field]] = {}
-            for it in self.fields:
-                folded = it.name.casefold()
-                for one in (folded, folded.partition(":")[2]):
-                    names.setdefault(one, []).append(it)
+            for field in self.fields:
+                folded = field.name.casefold()
+                for spelling in (folded, folded.partition(":")[2]):
+                    names.setdefault(spelling, []).append(field)
             self._names = names
         return tuple(self._names.get(name.casefold(), ()))
 
     def get(self, name: str, default: Value = None) -> Value:
         """The value of the first field with a name; of a DataSet that is repeated a tuple of all its values."""
-        found = self.find(name)
-        if not found:
+        fields = self.find(name)
+        if not fields:
             return default
-        same = [it for it in found if it.name == found[0].name and it.block == found[0].block]
+        same = [it for it in fields if it.name == fields[0].name and it.block == fields[0].block]
         return same[0].value if len(same) == 1 else tuple(it.value for it in same)
 
     def __getitem__(self, name: str) -> Value:
@@ -408,15 +408,15 @@ class Picture:
     @property
     def captions(self) -> Tuple[Caption, ...]:
         """The texts by label, such as "title" and "keywords", with the field of each."""
-        found = [Caption(it.label, it.texts, it.field, it.standard, it.guess, it.block) for it in self._reading.texts if not it.is_empty]
-        return tuple(sorted(found, key=lambda it: labels.WORDS.index(it.label)))
+        captions = [Caption(it.label, it.texts, it.field, it.standard, it.guess, it.block) for it in self._reading.texts if not it.is_empty]
+        return tuple(sorted(captions, key=lambda it: labels.WORDS.index(it.label)))
 
     def texts(self, label: str) -> Tuple[str, ...]:
         """The texts of a label: of several fields those that `captions --csv` prints, the first that is whole and not a camera's."""
         if label not in labels.WORDS:
             raise ValueError(f"{label!r} is no label; the labels are {', '.join(labels.WORDS)}")
-        found = [it for it in self._reading.texts if it.label == label]
-        best = chosen(found, conflicts(self._reading.texts) if len(found) > 1 else [])
+        of_label = [it for it in self._reading.texts if it.label == label]
+        best = chosen(of_label, conflicts(self._reading.texts) if len(of_label) > 1 else [])
         return best.texts if best else ()
 
     @property
@@ -497,12 +497,12 @@ def _read_bytes(data: bytes, name: str, whole: bool, pixels: bool) -> Picture:
     if not isinstance(data, (bytes, bytearray, memoryview)):
         raise TypeError(f"the bytes of a picture are expected, not {type(data).__name__}: open files in binary mode")
     octets = bytes(data)
-    found = _picture(Memory(octets, Budget(whole)), b"", name or "(bytes)", whole, None)
+    picture = _picture(Memory(octets, Budget(whole)), b"", name or "(bytes)", whole, None)
     if pixels:
         with contextlib.closing(Memory(octets)) as stream:
             coded = coded_picture.of_stream(stream, Budget())
-            found._digests = _Digests(coded, hashlib.sha256(octets).hexdigest())
-    return found
+            picture._digests = _Digests(coded, hashlib.sha256(octets).hexdigest())
+    return picture
 
 
 def _digests_of_file(path: bytes) -> Optional[_Digests]:
@@ -596,17 +596,17 @@ def compare(before: Union[Picture, Source], after: Union[Picture, Source], *, as
     """
     from .comparison import changed, coded, two_pictures  # which not every program needs
 
-    one, other = (it if isinstance(it, Picture) else _read(it, False, True) for it in (before, after))
-    records = one._whole_record(), other._whole_record()
+    first, second = (it if isinstance(it, Picture) else _read(it, False, True) for it in (before, after))
+    records = first._whole_record(), second._whole_record()
     if records[0].sha256 and records[0].sha256 == records[1].sha256:
         return Comparison(True, SAME, "the two files are identical, byte for byte", (), coded.SAME)
     with Session() as session:
-        found = two_pictures.compared_records(*records, session if ask_exiftool and one._path and other._path else None)
-    differences = tuple(_difference(it) for it in found.changes)
-    return Comparison(changed.decided(found.result), found.result, found.note, differences, found.picture)
+        compared = two_pictures.compared_records(*records, session if ask_exiftool and first._path and second._path else None)
+    differences = tuple(_difference(it) for it in compared.changes)
+    return Comparison(changed.decided(compared.result), compared.result, compared.note, differences, compared.picture)
 
 
-def _difference(it: differing.Difference) -> Difference:
-    block = it.block or NAMES[{"iptc": "iim", "xmp": "xmp"}.get(it.where, "exif")]
-    before, after = (tuple(Field(one, block) for one in side) or None for side in (it.before, it.after))
-    return Difference(it.name, before, after, it.is_equal_number, it.note)
+def _difference(change: differing.Difference) -> Difference:
+    block = change.block or NAMES[{"iptc": "iim", "xmp": "xmp"}.get(change.where, "exif")]
+    before, after = (tuple(Field(one, block) for one in side) or None for side in (change.before, change.after))
+    return Difference(change.name, before, after, change.is_equal_number, change.note)

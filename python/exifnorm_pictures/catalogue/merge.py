@@ -21,8 +21,8 @@ def merge(name: str, others: Sequence[str]) -> int:
     _check(name, others)  # before it is made: a mistyped name would leave a catalogue of no pictures
     rights.make(name, others)
     with Catalogue(name, make=True) as all_:
-        for it in others:
-            _add(all_, it)
+        for source in others:
+            _add(all_, source)
         return int(next(all_.rows("SELECT count(*) FROM pictures"))[0])
 
 
@@ -33,13 +33,13 @@ def _check(name: str, others: Sequence[str]) -> None:
         if os.path.exists(name) and os.path.getsize(name):
             all_ = open_.enter_context(Catalogue(name))
             first = None if all_.is_empty() else all_
-        for it in others:
-            if os.path.exists(it) and os.path.exists(name) and os.path.samefile(it, name):
-                raise NoCatalogue(f"{it} is the catalogue to be written")
-            with Catalogue(it) as other:
+        for source in others:
+            if os.path.exists(source) and os.path.exists(name) and os.path.samefile(source, name):
+                raise NoCatalogue(f"{source} is the catalogue to be written")
+            with Catalogue(source) as other:
                 if first and other.has_sidecars() != first.has_sidecars():
                     raise unlike(first, other)
-            first = first or open_.enter_context(Catalogue(it))
+            first = first or open_.enter_context(Catalogue(source))
 
 
 def _add(all_: Catalogue, name: str) -> None:

@@ -186,8 +186,8 @@ def connect(name: str, uri: bool = True) -> sqlite3.Connection:
     if sys.version_info >= (3, 11):
         base.setlimit(sqlite3.SQLITE_LIMIT_LENGTH, ROW_BYTES)
     base.set_progress_handler(_pause, STEPS)
-    for it in ("trusted_schema = OFF", "cell_size_check = ON", "foreign_keys = ON"):
-        base.execute(f"PRAGMA {it}")
+    for pragma in ("trusted_schema = OFF", "cell_size_check = ON", "foreign_keys = ON"):
+        base.execute(f"PRAGMA {pragma}")
     return base
 
 
@@ -418,14 +418,14 @@ class Catalogue:
         ...
 
     @overload
-    def rows(self, query: str, values: Sequence[object], made: Callable[..., Made]) -> Iterator[Made]:
+    def rows(self, query: str, values: Sequence[object], factory: Callable[..., Made]) -> Iterator[Made]:
         ...
 
-    def rows(self, query: str, values: Sequence[object] = (), made: Callable[..., Any] = tuple) -> Iterator[Any]:
-        """The result of `made` for each row of a query."""
+    def rows(self, query: str, values: Sequence[object] = (), factory: Callable[..., Any] = tuple) -> Iterator[Any]:
+        """The result of `factory` for each row of a query."""
         with self.guarded():  # an error of the caller isn't raised in here
             for row in self.base.execute(query, values):
-                yield made(row)
+                yield factory(row)
 
     def runs(self) -> List[Run]:
         """Each run, the first one first."""
@@ -499,9 +499,9 @@ class Catalogue:
         with self.transaction():
             self.base.executemany("UPDATE pictures SET device = ? WHERE id = ?", devices)
 
-    def maker_notes(self, picture: Picture, made: Callable[[bytes], Made]) -> Optional[Made]:
-        """The result of `made` for what ExifTool read of a picture's MakerNotes, if it was asked."""
-        return next(self.rows("SELECT readings FROM maker_notes WHERE picture = ?", (picture.id,), lambda row: made(row[0])), None)
+    def maker_notes(self, picture: Picture, unpack: Callable[[bytes], Made]) -> Optional[Made]:
+        """The result of `unpack` for what ExifTool read of a picture's MakerNotes, if it was asked."""
+        return next(self.rows("SELECT readings FROM maker_notes WHERE picture = ?", (picture.id,), lambda row: unpack(row[0])), None)
 
     def copy_to(self, name: str) -> None:
         """Copies the whole catalogue to another file."""
@@ -514,7 +514,7 @@ class Catalogue:
                 other.close()
 
 
-def _bounded(made: Callable[[Tuple[Any, ...]], Made]) -> Callable[[Tuple[Any, ...]], Made]:
+def _bounded(factory: Callable[[Tuple[Any, ...]], Made]) -> Callable[[Tuple[Any, ...]], Made]:
     """The same function of rows, which raises `Damaged` once all of them have too many bytes: in a crafted file they can share them."""
     left = ROW_BYTES
 
@@ -523,7 +523,7 @@ def _bounded(made: Callable[[Tuple[Any, ...]], Made]) -> Callable[[Tuple[Any, ..
         left -= sum(len(cell) for cell in row if isinstance(cell, (str, bytes)))
         if left < 0:
             raise Damaged("what it has of a picture is too long")
-        return made(row)
+        return factory(row)
 
     return bounded
 
@@ -536,8 +536,8 @@ def unlike(catalogue: Catalogue, other: Catalogue) -> NoCatalogue:
 
 def make_rows(base: sqlite3.Connection) -> None:
     """Makes tables in a new file that `put_rows` fills and a catalogue takes over. A file that is cut short is of no use to anybody."""
-    for it in ("PRAGMA journal_mode = OFF", "PRAGMA synchronous = OFF", *_ROWS):
-        base.execute(it)
+    for statement in ("PRAGMA journal_mode = OFF", "PRAGMA synchronous = OFF", *_ROWS):
+        base.execute(statement)
 
 
 def put_rows(base: sqlite3.Connection, run: int, first: int, entries: Iterable[Picture]) -> None:

@@ -19,13 +19,13 @@ class PictureTexts(NamedTuple):
 
 def texts_of(blocks: Sequence[Tuple[Block, List[Field]]], wanted: Sequence[str] = WORDS) -> PictureTexts:
     """The texts of a picture by its blocks, each with its fields."""
-    found: List[LabelText] = []
+    texts: List[LabelText] = []
     missing: Set[str] = set()
     camera = ("", "")
     for block, fields in blocks:
         camera = camera if any(camera) else camera_of(fields)
         part = "" if block.name == NAMES[block.kind] else block.name
         left = not_kept(fields)
-        found += [it._replace(block=part) for it in of_block(fields) if it.label not in left]
+        texts += [it._replace(block=part) for it in of_block(fields) if it.label not in left]
         missing |= left & set(wanted)
-    return PictureTexts(with_own(sorted(found, key=lambda it: STANDARDS.index(it.standard)), *camera), missing)
+    return PictureTexts(with_own(sorted(texts, key=lambda it: STANDARDS.index(it.standard)), *camera), missing)

@@ -29,14 +29,14 @@ def run(arguments: argparse.Namespace) -> int:
     worst = SUCCESS
     table = Table(["picture", *WORDS, "camera's text", "contradicts itself", "not read"]) if arguments.csv else None
     has_heads = is_list(arguments, arguments.pictures) or is_of_many(os.fsencode(arguments.pictures[0]))
-    for it in pictures(arguments):
-        worst = max(worst, status_of(it))
+    for reading in pictures(arguments):
+        worst = max(worst, status_of(reading))
         if table:
-            table.row(*_row(it))
+            table.row(*_row(reading))
         elif arguments.json:
-            print_object("captions", "picture", _members(it))
+            print_object("captions", "picture", _members(reading))
         else:
-            for line in [f"== {shown_path(it.name)}"] * has_heads + list(_lines(it)):
+            for line in [f"== {shown_path(reading.name)}"] * has_heads + list(_lines(reading)):
                 print_line(line)
     return worst
 

@@ -53,11 +53,11 @@ def run(arguments: argparse.Namespace) -> int:
         before, after = (open_.enter_context(_side(it, arguments)) for it in (arguments.before, arguments.after))
         choice = choice_of(arguments)
         refuse_unknown(choice, itertools.chain(listings_of(before), listings_of(after)))
-        found = changes.changed(
+        comparisons = changes.changed(
             before, after, counts, only, arguments.all, None if arguments.no_exiftool else arguments.session, choice, pictures
         )
-        found = _then_noted(found, choice, before, after)
-        listed = (it for it in found if it.result not in changes.UNCHANGED or arguments.all)
+        comparisons = _then_noted(comparisons, choice, before, after)
+        listed = (it for it in comparisons if it.result not in changes.UNCHANGED or arguments.all)
         if arguments.csv:
             changed_tables.print_table(listed, choice)
             for text in notes.of_pictures():
@@ -67,7 +67,7 @@ def run(arguments: argparse.Namespace) -> int:
         elif arguments.each or arguments.all or arguments.exact:
             _print_each(arguments, listed, counts, choice, notes)
         else:
-            _print_summary(found, counts, choice, notes)
+            _print_summary(comparisons, counts, choice, notes)
         if names:
             say_unknown(names, _knows(before, after))
     return status_of(counts)
@@ -76,9 +76,9 @@ def run(arguments: argparse.Namespace) -> int:
 Found = Iterable[changes.Compared]
 
 
-def _then_noted(found: Found, choice: Choice, before: Catalogue, after: Catalogue) -> Iterator[changes.Compared]:
+def _then_noted(comparisons: Found, choice: Choice, before: Catalogue, after: Catalogue) -> Iterator[changes.Compared]:
     """The pictures; when all are compared, it is noted which words fit no field of them."""
-    yield from found
+    yield from comparisons
     listings = itertools.chain(listings_of(before), listings_of(after))
     note_absent(choice, listings, max(before.with_maker_note(), after.with_maker_note()) if choice.asks_for_private else 0)
 
@@ -97,21 +97,21 @@ class _Notes:
         return list(filter(None, [coded.sentence(self.counts, self.pixels)])) if self.is_asked else []
 
 
-def _print_each(arguments: argparse.Namespace, found: Found, counts: "Counter[str]", choice: Choice, notes: _Notes) -> None:
+def _print_each(arguments: argparse.Namespace, comparisons: Found, counts: "Counter[str]", choice: Choice, notes: _Notes) -> None:
     """Each picture with its fields."""
     with contextlib.closing(changes.Equal()) as equal:
-        for it in found:
-            equal.add(json.dumps(_parts_of(it, arguments.exact)), it.name, it.moved_to is not None)
+        for comparison in comparisons:
+            equal.add(json.dumps(_parts_of(comparison, arguments.exact)), comparison.name, comparison.moved_to is not None)
         _print_equal(equal)
     print_line(", ".join(f"{counts[it]} {it}" for it in changes.RESULTS if counts[it]) or "no picture")
     for text in [*notes.of_pictures(), *lines_of_choice(choice, True)]:
         print_line(text)
 
 
-def _print_summary(found: Found, counts: "Counter[str]", choice: Choice, notes: _Notes) -> None:
+def _print_summary(comparisons: Found, counts: "Counter[str]", choice: Choice, notes: _Notes) -> None:
     counted = Summary(choice)
-    for it in found:
-        counted.add(it)
+    for comparison in comparisons:
+        counted.add(comparison)
     screen = shutil.get_terminal_size().columns if sys.stdout.isatty() else None
     for text in lines(counted, counts, [*notes.of_pictures(), *lines_of_choice(choice, True)], screen):
         print_line(text)
@@ -137,11 +137,11 @@ def _knows(*sides: Catalogue) -> Callable[[bytes], bool]:
 
 def _refuse_missing(*names: str) -> None:
     """Raises `NoCatalogue` if nothing has one of these names."""
-    for it in names:
+    for name in names:
         try:
-            os.stat(it)
+            os.stat(name)
         except FileNotFoundError:
-            raise NoCatalogue(f"there is no folder or catalogue {it}") from None
+            raise NoCatalogue(f"there is no folder or catalogue {name}") from None
         except OSError:  # it may be there
             pass
 
@@ -158,10 +158,10 @@ def _go_on_with_sidecars(arguments: argparse.Namespace) -> None:
     asked = arguments.sidecars
     for name in (arguments.before, arguments.after):
         if not os.path.isdir(name):
-            with Catalogue(name) as it:
-                if asked and not it.has_sidecars() and not it.is_empty():
-                    raise NotRead(f"{it.name} was made without --sidecars: leave it out, or make a new catalogue")
-                arguments.sidecars = arguments.sidecars or it.has_sidecars()
+            with Catalogue(name) as catalogue:
+                if asked and not catalogue.has_sidecars() and not catalogue.is_empty():
+                    raise NotRead(f"{catalogue.name} was made without --sidecars: leave it out, or make a new catalogue")
+                arguments.sidecars = arguments.sidecars or catalogue.has_sidecars()
 
 
 def _side(name: str, arguments: argparse.Namespace) -> Catalogue:
@@ -169,17 +169,19 @@ def _side(name: str, arguments: argparse.Namespace) -> Catalogue:
     if not os.path.isdir(name):
         return Catalogue(name)
     room = tempfile.mkdtemp(dir=arguments.session.room)
-    made = Catalogue(os.path.join(room, "catalogue"), make=True)
+    catalogue = Catalogue(os.path.join(room, "catalogue"), make=True)
     try:
         closed: List[str] = []
         quiet = arguments.quiet or not sys.stderr.isatty()
-        index(IndexOptions([os.fsencode(name)], quiet=quiet, how=how_of(arguments, room, closed_folder), print_line=closed.append), made)
+        index(
+            IndexOptions([os.fsencode(name)], quiet=quiet, how=how_of(arguments, room, closed_folder), print_line=closed.append), catalogue
+        )
         if closed:  # its pictures would seem to be missing
             raise NoCatalogue("; ".join(closed))
     except BaseException:
-        made.close()
+        catalogue.close()
         raise
-    return made
+    return catalogue
 
 
 def _parts_of(comparison: changes.Compared, exact: bool) -> List[object]:
@@ -196,8 +198,8 @@ def _parts_of(comparison: changes.Compared, exact: bool) -> List[object]:
 def _readings(comparison: changes.Compared, exact: bool) -> Iterator[str]:
     """Each value of a MakerNote that ExifTool reads otherwise."""
     name = group_name(*MAKER_NOTE)
-    for one in comparison.maker_note or () if exact else ():
-        yield f"~ {name} {one.name}: {NONE if one.before is None else one.before} -> {NONE if one.after is None else one.after}"
+    for value in comparison.maker_note or () if exact else ():
+        yield f"~ {name} {value.name}: {NONE if value.before is None else value.before} -> {NONE if value.after is None else value.after}"
 
 
 def _print_equal(equal: changes.Equal) -> None:

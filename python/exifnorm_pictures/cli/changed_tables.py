@@ -25,26 +25,28 @@ _MAKER_NOTE = group_name(*MAKER_NOTE)
 _HEADS = ("picture", "result", "moved to", "field", "before", "after", "exact before", "exact after", "note", "coded picture")
 
 
-def print_table(found: Found, choice: Choice) -> None:
+def print_table(comparisons: Found, choice: Choice) -> None:
     """A row for each field that differs, and one for each other picture."""
     table = Table(_HEADS)
-    for it in found:
-        about = (it.name, it.result, it.moved_to)
-        for one in it.changes:
-            values = (None,) * 4 if one.note else (*plain_sides(one), exact(one.before), exact(one.after))
-            table.row(*about, one.name, *values, one.note or it.note, it.picture)
-        for value in it.maker_note or ():
-            table.row(*about, f"{_MAKER_NOTE} {value.name}", value.before, value.after, None, None, "as ExifTool reads it", it.picture)
-        if not it.changes:
-            table.row(*about, *(None,) * 5, it.note, it.picture)
+    for comparison in comparisons:
+        about = (comparison.name, comparison.result, comparison.moved_to)
+        for change in comparison.changes:
+            values = (None,) * 4 if change.note else (*plain_sides(change), exact(change.before), exact(change.after))
+            table.row(*about, change.name, *values, change.note or comparison.note, comparison.picture)
+        for value in comparison.maker_note or ():
+            table.row(
+                *about, f"{_MAKER_NOTE} {value.name}", value.before, value.after, None, None, "as ExifTool reads it", comparison.picture
+            )
+        if not comparison.changes:
+            table.row(*about, *(None,) * 5, comparison.note, comparison.picture)
     for text in lines(choice, True):
         table.row(*(None,) * 8, text, None)
 
 
-def print_objects(found: Found, counts: "Counter[str]", choice: Choice, pictures: "Counter[str]") -> None:
+def print_objects(comparisons: Found, counts: "Counter[str]", choice: Choice, pictures: "Counter[str]") -> None:
     """An object for each picture, and one for all."""
-    for it in found:
-        print_object("changed", "picture", _members(it))
+    for comparison in comparisons:
+        print_object("changed", "picture", _members(comparison))
     print_object(
         "changed",
         "summary",
@@ -60,16 +62,16 @@ def print_objects(found: Found, counts: "Counter[str]", choice: Choice, pictures
 
 def _members(comparison: Compared) -> Members:
     """A picture that was compared."""
-    found: Members = {**path_members(comparison.name), "result": comparison.result, "note": comparison.note or None}
-    found["coded_picture"] = comparison.picture
-    found["moved_to"] = None if comparison.moved_to is None else path_members(comparison.moved_to)
-    found["kinds"] = {WORDS[one.kind]: one.result for one in comparison.verdicts}
-    found["maker_note"] = None
+    members: Members = {**path_members(comparison.name), "result": comparison.result, "note": comparison.note or None}
+    members["coded_picture"] = comparison.picture
+    members["moved_to"] = None if comparison.moved_to is None else path_members(comparison.moved_to)
+    members["kinds"] = {WORDS[one.kind]: one.result for one in comparison.verdicts}
+    members["maker_note"] = None
     if comparison.maker_note is not None:
         values = [{"name": one.name, "before": one.before, "after": one.after} for one in comparison.maker_note]
-        found["maker_note"] = {"reads": "otherwise" if values else "the same", "values": values}
-    found["repairs"] = [_repair_members(*one) for one in comparison.repairs]
-    return {**found, "fields": [_field_members(one) for one in comparison.changes], "left_out": comparison.left_out}
+        members["maker_note"] = {"reads": "otherwise" if values else "the same", "values": values}
+    members["repairs"] = [_repair_members(*one) for one in comparison.repairs]
+    return {**members, "fields": [_field_members(one) for one in comparison.changes], "left_out": comparison.left_out}
 
 
 def _repair_members(name: str, before: Sequence[Step], after: Sequence[Step]) -> Members:

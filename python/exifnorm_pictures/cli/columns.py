@@ -28,18 +28,18 @@ def columns(rows: Sequence[Sequence[str]], screen: int) -> Iterator[str]:
     names = min(LONGEST_NAME, max(width(it[0]) for it in rows if len(it) > 1))
     column = max(NARROWEST, min(WIDEST, (screen - names - 4) // 2))
     first = min(column, max([width(it[1]) for it in rows if len(it) > 2], default=0))
-    for it in rows:
-        if len(it) == 1:
-            yield it[0]
+    for row in rows:
+        if len(row) == 1:
+            yield row[0]
             continue
         cells = [
-            wrapped(it[0], names),
-            wrapped(it[1], first if len(it) > 2 else 2 * column),
-            wrapped(it[2], column) if len(it) > 2 else [""],
+            wrapped(row[0], names),
+            wrapped(row[1], first if len(row) > 2 else 2 * column),
+            wrapped(row[2], column) if len(row) > 2 else [""],
         ]
         for at in range(max(map(len, cells))):
-            name, one, other = (cell[at] if at < len(cell) else "" for cell in cells)
-            yield f"{_padded(name, names)}  {_padded(one, first)}  {other}".rstrip()
+            name, before, after = (cell[at] if at < len(cell) else "" for cell in cells)
+            yield f"{_padded(name, names)}  {_padded(before, first)}  {after}".rstrip()
 
 
 def _padded(text: str, wanted: int) -> str:

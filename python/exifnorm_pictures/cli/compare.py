@@ -34,20 +34,20 @@ def run(arguments: argparse.Namespace) -> int:
     """Compares two pictures."""
     refuse_folders(arguments.before, arguments.after)
     how = How(1, whole=arguments.whole, pixels=True, seconds=arguments.limit, debug=arguments.session.debug)
-    one, other = (read(os.fsencode(it), how, arguments.session) for it in (arguments.before, arguments.after))
-    choice = _choice(arguments, one, other)
-    found = compare(one, other, arguments.exact, None if arguments.no_exiftool else arguments.session, choice)
-    rows = found.rows if arguments.exact else with_position(found.rows, one, other)
+    old, new = (read(os.fsencode(it), how, arguments.session) for it in (arguments.before, arguments.after))
+    choice = _choice(arguments, old, new)
+    comparison = compare(old, new, arguments.exact, None if arguments.no_exiftool else arguments.session, choice)
+    rows = comparison.rows if arguments.exact else with_position(comparison.rows, old, new)
     names = [os.fsencode(it) for it in (arguments.before, arguments.after)]
-    choice.add_left_out(found.left_out)
+    choice.add_left_out(comparison.left_out)
     if arguments.json:
-        print_object("compare", "comparison", _members(found, rows, names, choice))
+        print_object("compare", "comparison", _members(comparison, rows, names, choice))
     elif arguments.csv:
-        _print_table(found, rows, names, list(lines(choice)))
+        _print_table(comparison, rows, names, list(lines(choice)))
     else:
-        for line in _lines(found, rows, names, arguments.exact, list(lines(choice))):
+        for line in _lines(comparison, rows, names, arguments.exact, list(lines(choice))):
             print_line(line)
-    return _status(found)
+    return _status(comparison)
 
 
 def _choice(arguments: argparse.Namespace, *records: Picture) -> Choice:
@@ -168,10 +168,10 @@ def _table(heads: Sequence[str], rows: Sequence[Row], exact: bool) -> Iterator[s
     """The fields and their values in two columns."""
     table: List[Sequence[str]] = [("", *heads)]
     for equal in (False, True):
-        some = [it for it in rows if it.is_equal_number == equal]
-        if equal and some:
+        shown = [it for it in rows if it.is_equal_number == equal]
+        if equal and shown:
             table.append(("Equal, but written otherwise:",))
-        table += [_cells(it, exact or equal) for it in some]
+        table += [_cells(it, exact or equal) for it in shown]
     return columns(table, shutil.get_terminal_size((100, 24)).columns)
 
 
@@ -188,8 +188,8 @@ def _cells(row: Row, exact: bool) -> Sequence[str]:
 def _print_table(comparison: Comparison, rows: Sequence[Row], names: Sequence[bytes], notes: Sequence[str]) -> None:
     """A row for each field that differs, and at the end one for each reason why the answer isn't whole."""
     table = Table(["field", "before", "after", "exact before", "exact after", "note"])
-    for it in rows:
-        table.row(it.name, *it.plain, *it.exact, it.note or ("equal number" if it.is_equal_number else None))
+    for row in rows:
+        table.row(row.name, *row.plain, *row.exact, row.note or ("equal number" if row.is_equal_number else None))
     problems = [f"{shown_path(name)}: {it.problem}: {it.detail}" for name, it in zip(names, comparison.records) if it.problem]
     note = "" if problems or not comparison.found.note else f" ({comparison.found.note})"
     for note in notes:
@@ -203,10 +203,10 @@ def _print_table(comparison: Comparison, rows: Sequence[Row], names: Sequence[by
 
 def _members(comparison: Comparison, rows: Sequence[Row], names: Sequence[bytes], choice: Choice) -> Members:
     pictures = []
-    for name, it in zip(names, comparison.records):
-        unread = [part.what for part in it.unread]
-        about = {"type": it.type or None, "not_read": unread, "damage": it.damage or None}
-        pictures.append({**picture_object(name, it.problem, it.detail), **about})
+    for name, picture in zip(names, comparison.records):
+        unread = [part.what for part in picture.unread]
+        about = {"type": picture.type or None, "not_read": unread, "damage": picture.damage or None}
+        pictures.append({**picture_object(name, picture.problem, picture.detail), **about})
     whole: Members = {"pictures": pictures, "result": comparison.result, "identical_files": comparison.is_identical}
     whole["coded_picture"] = coded.SAME if comparison.is_identical else comparison.found.picture
     kinds = {WORDS[it.kind]: it.result for it in comparison.found.verdicts}

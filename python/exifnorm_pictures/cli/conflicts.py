@@ -49,18 +49,18 @@ def run(arguments: argparse.Namespace) -> int:
     """Lists contradictions inside pictures."""
     counts, chosen = _Counts(), _chosen(arguments)
     table = Table(["picture", "label", "kind", "detail", *STANDARDS]) if arguments.csv else None
-    for it in pictures(arguments):
-        every = [one for one in conflicts(it.texts) if one.kind != ALIKE]
-        found = [one for one in every if one.label in chosen]
+    for reading in pictures(arguments):
+        every = [one for one in conflicts(reading.texts) if one.kind != ALIKE]
+        counted = [one for one in every if one.label in chosen]
         counts.left_out.update(one.label for one in every if one.is_real and one.label not in chosen)
-        _count(counts, it, found)
+        _count(counts, reading, counted)
         if table:
-            _print_rows(table, it, [one for one in found if one.is_real or arguments.all])
+            _print_rows(table, reading, [one for one in counted if one.is_real or arguments.all])
         elif arguments.json:
-            if found or it.is_damaged:
-                print_object("conflicts", "picture", _members(it, found))
+            if counted or reading.is_damaged:
+                print_object("conflicts", "picture", _members(reading, counted))
         else:
-            _print(it, [one for one in found if one.is_real or arguments.all])
+            _print(reading, [one for one in counted if one.is_real or arguments.all])
     if arguments.json:
         print_object("conflicts", "summary", _summary_members(counts))
     elif not table:
@@ -73,29 +73,29 @@ def _chosen(arguments: argparse.Namespace) -> Set[str]:
     """The labels that count. Raises `UnknownField`."""
     known = [it.word for it in LABELS]
     given = {}
-    for it in (*arguments.ignore, *arguments.only):
-        given[it] = label_of(it) or ""
-        if given[it] not in known:
-            raise UnknownField(f"{escaped(it)} is no label of texts that are compared, which are: {', '.join(known)}")
+    for word in (*arguments.ignore, *arguments.only):
+        given[word] = label_of(word) or ""
+        if given[word] not in known:
+            raise UnknownField(f"{escaped(word)} is no label of texts that are compared, which are: {', '.join(known)}")
     only = {given[it] for it in arguments.only} or set(known)
     return only - {given[it] for it in arguments.ignore}
 
 
-def _count(counts: _Counts, reading: Reading, found: Sequence[Conflict]) -> None:
+def _count(counts: _Counts, reading: Reading, counted: Sequence[Conflict]) -> None:
     counts.pictures += not reading.problem
     counts.unread += reading.is_damaged
     counts.twice += bool(conflicts(reading.texts))
-    real = [one.label for one in found if one.is_real]
+    real = [one.label for one in counted if one.is_real]
     counts.real += bool(real)
-    counts.minor += bool(found) and not real
+    counts.minor += bool(counted) and not real
     counts.labels.update(real)
-    counts.kinds.update({one.kind for one in found if not one.is_real})
+    counts.kinds.update({one.kind for one in counted if not one.is_real})
 
 
 def _print_rows(table: Table, reading: Reading, conflicts: Sequence[Conflict]) -> None:
     """A row for each label; one for what was not read, since a picture without a row would seem to have no contradiction."""
-    for one in conflicts:
-        table.row(reading.name, one.label, one.kind, one.detail, *_texts(one))
+    for conflict in conflicts:
+        table.row(reading.name, conflict.label, conflict.kind, conflict.detail, *_texts(conflict))
     if reading.problem:
         table.row(reading.name, None, "not read", f"{reading.problem}: {reading.detail}", *(None for _ in STANDARDS))
     for what in (*refused(reading), *damage(reading.not_read)):
@@ -105,29 +105,34 @@ def _print_rows(table: Table, reading: Reading, conflicts: Sequence[Conflict]) -
 def _texts(conflict: Conflict) -> List[Cell]:
     """The texts of each standard."""
     texts: Dict[str, List[str]] = {}
-    for one in conflict.texts:
-        texts.setdefault(one.standard, []).append(one.line)
+    for text in conflict.texts:
+        texts.setdefault(text.standard, []).append(text.line)
     return ["; ".join(texts.get(standard, [])) for standard in STANDARDS]
 
 
 def _members(reading: Reading, conflicts: Sequence[Conflict]) -> Members:
     rows = [
-        {"label": one.label, "kind": one.kind, "detail": one.detail, "texts": [text_members(text) for text in one.texts]}
-        for one in conflicts
+        {
+            "label": conflict.label,
+            "kind": conflict.kind,
+            "detail": conflict.detail,
+            "texts": [text_members(text) for text in conflict.texts],
+        }
+        for conflict in conflicts
     ]
     return {**members(reading), "conflicts": rows}
 
 
-def _summary_members(it: _Counts) -> Members:
+def _summary_members(counts: _Counts) -> Members:
     return {
-        "pictures": it.pictures,
-        "in_several_standards": it.twice,
-        "contradicting": it.real,
-        "differing_in_form": it.minor,
-        "not_wholly_read": it.unread,
-        "labels": dict(it.labels),
-        "kinds": dict(it.kinds),
-        "left_out": dict(it.left_out),
+        "pictures": counts.pictures,
+        "in_several_standards": counts.twice,
+        "contradicting": counts.real,
+        "differing_in_form": counts.minor,
+        "not_wholly_read": counts.unread,
+        "labels": dict(counts.labels),
+        "kinds": dict(counts.kinds),
+        "left_out": dict(counts.left_out),
     }
 
 
@@ -137,9 +142,9 @@ def _summary_members(it: _Counts) -> Members:
 def _print(reading: Reading, conflicts: Sequence[Conflict]) -> None:
     if conflicts:
         print(shown_path(reading.name))
-    for one in conflicts:
-        print_line(f"  {one.label}" + (f": {one.detail}" if one.detail else ""))
-        names = [(origins(ours), escaped(ours[0].line)) for ours in together(one.texts)]
+    for conflict in conflicts:
+        print_line(f"  {conflict.label}" + (f": {conflict.detail}" if conflict.detail else ""))
+        names = [(origins(ours), escaped(ours[0].line)) for ours in together(conflict.texts)]
         width = max(len(name) for name, _ in names)
         for name, text in names:
             print_line(f"    {name:<{width}}  {text if len(text) <= LONGEST else f'{text[: LONGEST - 10]}.. ({len(text):,} characters)'}")

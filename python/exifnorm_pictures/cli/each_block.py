@@ -30,8 +30,8 @@ def status_of(reading: Reading) -> int:
 def each_picture(arguments: argparse.Namespace) -> Iterator[Reading]:
     """The pictures that are named. What is printed of one is written before the next name of standard input is read."""
     yield from (
-        Reading.of(it, blocks_of(it, arguments.session, arguments.whole, arguments.block))
-        for it in each_name(arguments, arguments.pictures)
+        Reading.of(name, blocks_of(name, arguments.session, arguments.whole, arguments.block))
+        for name in each_name(arguments, arguments.pictures)
     )
 
 
@@ -39,9 +39,9 @@ def each_block(arguments: argparse.Namespace, describe: Describe, refused_too: b
     """Prints something about each block of each picture. Returns the greatest status."""
     worst = SUCCESS
     has_heads = is_list(arguments, arguments.pictures)
-    for it in each_picture(arguments):
-        worst = max(worst, status_of(it))
-        _print(arguments, it, [f"== {shown_path(it.name)}"] if has_heads else [], describe, refused_too)
+    for reading in each_picture(arguments):
+        worst = max(worst, status_of(reading))
+        _print(arguments, reading, [f"== {shown_path(reading.name)}"] if has_heads else [], describe, refused_too)
     return worst
 
 

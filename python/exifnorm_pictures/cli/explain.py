@@ -25,15 +25,15 @@ def run(arguments: argparse.Namespace) -> int:
     """Explains refusals, and tries whether `mend` helps."""
     tried = functools.lru_cache(maxsize=1)(functools.partial(_tried, arguments.session))
 
-    def describe(name: bytes, found: FoundBlock, it: Block) -> Described:
-        line = f"{it.name}: {'ok' if it.status == ACCEPTED else it.line}"
-        if it.status == ACCEPTED:
-            return [line], block_members(it)
+    def describe(name: bytes, at: FoundBlock, block: Block) -> Described:
+        line = f"{block.name}: {'ok' if block.status == ACCEPTED else block.line}"
+        if block.status == ACCEPTED:
+            return [line], block_members(block)
         mended = None if arguments.block else tried(name)
-        explained = explain.explain_packet(it) if it.kind == XMP else explain.explain(it.kind, found.data)
+        explained = explain.explain_packet(block) if block.kind == XMP else explain.explain(block.kind, at.data)
         explained.is_without_remedy = mended is not None and mended.step == mend.NONE
-        members = {**with_kind(explained.members()), "repair": [one._asdict() for one in it.steps], "mend": _members(mended)}
-        return [line, *explained.lines()[1:], *_repair(it), *_lines(mended)], members
+        members = {**with_kind(explained.members()), "repair": [one._asdict() for one in block.steps], "mend": _members(mended)}
+        return [line, *explained.lines()[1:], *_repair(block), *_lines(mended)], members
 
     return each_block(arguments, describe, refused_too=True)
 
@@ -58,11 +58,11 @@ def _members(tried: Optional[mend.Mended]) -> Optional[Members]:
     return None if tried is None else {"step": tried.step, "lost": tried.lost, "gained": tried.gained}
 
 
-def _repair(it: Block) -> List[str]:
+def _repair(block: Block) -> List[str]:
     """The repair in memory of a refused Exif block, and what it loses."""
-    if not it.repair:
-        return ["  Repair in memory: none is known"] if it.status == REFUSED and it.kind == EXIF else []
-    fields = len(fields_of(it))
-    lines = [f"  Repair in memory: {steps.words(it.steps)}; then {fields} fields are read, see show"]
-    lost = steps.loses(it.steps)
+    if not block.repair:
+        return ["  Repair in memory: none is known"] if block.status == REFUSED and block.kind == EXIF else []
+    fields = len(fields_of(block))
+    lines = [f"  Repair in memory: {steps.words(block.steps)}; then {fields} fields are read, see show"]
+    lost = steps.loses(block.steps)
     return lines + [f"  That repair loses {' and '.join(lost)}: by it, nothing is called the same"] * bool(lost)

@@ -28,14 +28,14 @@ def run(arguments: argparse.Namespace) -> int:
     _refuse_table(arguments.file)
     chosen = chosen_paths(arguments)
     with Catalogue(arguments.catalogue) as catalogue:
-        made = os.path.join(arguments.session.room, "export")
-        with tables(made) as written:
+        file = os.path.join(arguments.session.room, "export")
+        with tables(file) as written:
             _add_about(written, catalogue)
             work = Export(
                 catalogue, written, None if chosen is None else catalogue.choose(chosen), None if arguments.no_look else arguments.session
             )
             work.all(arguments.quiet or not sys.stderr.isatty())
-        _put(made, arguments)
+        _put(file, arguments)
         say_unknown(chosen or (), catalogue.has)
     counts = {name: written.counts.get(name, 0) for name in ("pictures", "fields", "captions", "conflicts", "groups")}
     if arguments.json:

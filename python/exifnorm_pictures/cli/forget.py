@@ -18,8 +18,8 @@ def run(arguments: argparse.Namespace) -> int:
     with Catalogue(arguments.catalogue):  # it is one; a missing one isn't made
         pass
     with Catalogue(arguments.catalogue, make=True) as catalogue:
-        for it in names:
-            count = catalogue.forget(os.path.abspath(it))
+        for name in names:
+            count = catalogue.forget(os.path.abspath(name))
             plural = "s" * (count != 1)
-            output(arguments, [f"{shown_path(it)}: {count} picture{plural} forgotten"], {**path_members(it), "forgotten": count})
+            output(arguments, [f"{shown_path(name)}: {count} picture{plural} forgotten"], {**path_members(name), "forgotten": count})
     return SUCCESS

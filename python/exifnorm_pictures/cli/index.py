@@ -73,8 +73,8 @@ def run(arguments: argparse.Namespace) -> int:
         steps = [] if arguments.quiet or arguments.json else list(_next_steps(catalogue, arguments.catalogue, excluded.known))
     if excluded.count:
         counts["excluded"] = excluded.count
-    for it in excluded.unused():
-        signals.say(f"exifnorm-pictures: note: --exclude {it} fits no file and no folder")
+    for pattern in excluded.unused():
+        signals.say(f"exifnorm-pictures: note: --exclude {pattern} fits no file and no folder")
     if arguments.json:
         objects.print_object("index", "summary", {"counts": dict(counts)})
     else:
@@ -141,9 +141,9 @@ def keep_old(catalogue: Catalogue, name: str, room: str) -> None:
     """Copies a catalogue to a new file or over an earlier copy. Raises `NotReplaced` for any other file."""
     copy = os.path.join(room, "old")
     catalogue.copy_to(copy)
-    with open(copy, "rb") as made:
+    with open(copy, "rb") as source:
         try:
-            atomic.replace(os.fsencode(name), lambda file: shutil.copyfileobj(made, file), head_is_ours, (catalogue.name,))
+            atomic.replace(os.fsencode(name), lambda file: shutil.copyfileobj(source, file), head_is_ours, (catalogue.name,))
         except atomic.NotReplaced as error:
             raise atomic.NotReplaced(atomic.not_written(name, error)) from None
     os.unlink(copy)

@@ -54,26 +54,26 @@ def _in_catalogue(name: bytes) -> Iterator[Reading]:
     from ..catalogue.texts import texts_of
 
     with Catalogue(os.fsdecode(name)) as catalogue:
-        for it in catalogue.pictures():
-            if it.problem in (Problem.NO_PICTURE, *NOT_THERE):
+        for picture in catalogue.pictures():
+            if picture.problem in (Problem.NO_PICTURE, *NOT_THERE):
                 continue
             with catalogue.guarded():
-                blocks = with_fields(catalogue.blocks_of(it))
-            found = texts_of(blocks)
-            parts = catalogue.not_read_of(it) + [
-                NotRead(f"the {word}, which is too long for the catalogue", "") for word in sorted(found.missing)
+                blocks = with_fields(catalogue.blocks_of(picture))
+            texts = texts_of(blocks)
+            parts = catalogue.not_read_of(picture) + [
+                NotRead(f"the {word}, which is too long for the catalogue", "") for word in sorted(texts.missing)
             ]
-            read = Blocks(problem=it.problem, detail=it.detail, type=it.type, not_read=parts)
-            yield Reading(it.path, read, [block for block, _ in blocks], found.texts)
+            read = Blocks(problem=picture.problem, detail=picture.detail, type=picture.type, not_read=parts)
+            yield Reading(picture.path, read, [block for block, _ in blocks], texts.texts)
 
 
 def _in_folder(arguments: argparse.Namespace, folder: bytes) -> Iterator[Reading]:
     closed: List[Unlisted] = []
     top = os.path.abspath(folder)
     for file in below([folder], closed.append):
-        it = _reading(arguments, os.path.join(folder, os.path.relpath(file.path, top)))
-        if it.problem not in (Problem.NO_PICTURE, Problem.NOT_A_FILE):
-            yield it
+        reading = _reading(arguments, os.path.join(folder, os.path.relpath(file.path, top)))
+        if reading.problem not in (Problem.NO_PICTURE, Problem.NOT_A_FILE):
+            yield reading
     yield from (Reading(it.path, Blocks(problem=Problem.UNREADABLE, detail=it.reason), []) for it in closed)
 
 
@@ -84,9 +84,9 @@ def _reading(arguments: argparse.Namespace, name: bytes) -> Reading:
 def refused(reading: Reading) -> List[str]:
     """The blocks that aren't accepted, in a line each."""
     return [
-        f"{one.name}: {one.line}" + (f"; read after repair in memory: {steps.words(one.steps)}" if one.repair else "")
-        for one in reading.blocks
-        if one.status != ACCEPTED
+        f"{block.name}: {block.line}" + (f"; read after repair in memory: {steps.words(block.steps)}" if block.repair else "")
+        for block in reading.blocks
+        if block.status != ACCEPTED
     ]
 
 
@@ -106,16 +106,16 @@ def members(reading: Reading) -> Members:
 def origins(texts: Sequence[LabelText]) -> str:
     """Where a text is: its fields, each with its block if that isn't the first one, and with a guess about its character set."""
     words = []
-    for it in texts:
-        guess = f", {it.guess}" if it.guess and len(texts) == 1 else ""  # another field with the same text confirms it
-        words.append(it.field + (f" of {it.block}" if it.block else "") + guess)
+    for text in texts:
+        guess = f", {text.guess}" if text.guess and len(texts) == 1 else ""  # another field with the same text confirms it
+        words.append(text.field + (f" of {text.block}" if text.block else "") + guess)
     return ", ".join(words)
 
 
 def together(texts: Sequence[LabelText]) -> List[List[LabelText]]:
     """Fields with equal texts together, without those that are empty."""
     by_text: Dict[str, List[LabelText]] = {}
-    for it in texts:
-        if not it.is_empty:
-            by_text.setdefault(" ".join(it.line.split()), []).append(it)
+    for text in texts:
+        if not text.is_empty:
+            by_text.setdefault(" ".join(text.line.split()), []).append(text)
     return list(by_text.values())

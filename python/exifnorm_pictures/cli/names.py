@@ -85,10 +85,10 @@ def _is_catalogue(name: str) -> bool:
 
 def refuse_folders(*names: str) -> None:
     """Raises `WrongCommand` if one of the names that `compare` gets is a folder or a catalogue."""
-    for it in names:
-        if os.path.isdir(it) or _is_catalogue(it):
-            what = "a folder" if os.path.isdir(it) else "a catalogue"
-            raise WrongCommand(f"{shown_path(it)} is {what}: compare takes two pictures; changed compares folders and catalogues")
+    for name in names:
+        if os.path.isdir(name) or _is_catalogue(name):
+            what = "a folder" if os.path.isdir(name) else "a catalogue"
+            raise WrongCommand(f"{shown_path(name)} is {what}: compare takes two pictures; changed compares folders and catalogues")
 
 
 def refuse_pictures(*names: str) -> None:

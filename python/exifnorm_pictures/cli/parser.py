@@ -128,24 +128,26 @@ def parsers() -> "Tuple[_Parser, Dict[str, _Parser]]":
     commands = whole.add_subparsers(dest="command", metavar="COMMAND", required=True)
     each: Dict[str, _Parser] = {}
     for name, words, build in _COMMANDS:
-        one = each[name] = commands.add_parser(
+        parser = each[name] = commands.add_parser(
             name,
             help=words,
             description=words[0].upper() + words[1:] + ".",
             epilog=_STATUSES,
             formatter_class=argparse.RawDescriptionHelpFormatter,
         )
-        build(one)
-        forms = one.add_mutually_exclusive_group()
+        build(parser)
+        forms = parser.add_mutually_exclusive_group()
         if name in _TABLES:
             forms.add_argument("--csv", action="store_true", help=f"a table for spreadsheets: {_TABLES[name]}")
             words = "the same table as a new spreadsheet file, in which 1998.10 stays as it is (needs python3-xlsxwriter)"
             forms.add_argument("--xlsx", type=_name, metavar="FILE", help=words)
         forms.add_argument("--json", action="store_true", help="print one JSON object for each line")
-        one.add_argument("--debug", action="store_true", help="print the traceback of an internal error, as EXIFNORM_DEBUG=1 does")
+        parser.add_argument("--debug", action="store_true", help="print the traceback of an internal error, as EXIFNORM_DEBUG=1 does")
         if name not in ("merge", "compare"):
-            one.add_argument("--files-from", metavar="LIST", help="read names from the file LIST, - for standard input: one for each line")
-            one.add_argument("-0", "--null", action="store_true", help="the names in LIST end with NUL, as from find -print0")
+            parser.add_argument(
+                "--files-from", metavar="LIST", help="read names from the file LIST, - for standard input: one for each line"
+            )
+            parser.add_argument("-0", "--null", action="store_true", help="the names in LIST end with NUL, as from find -print0")
     return whole, each
 
 

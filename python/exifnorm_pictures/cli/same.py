@@ -46,18 +46,18 @@ def run(arguments: argparse.Namespace) -> int:
         listed: "Counter[str]" = Counter()
         grouped: "Counter[str]" = Counter()
         partial = unknown_pictures = 0
-        for it in _groups(catalogue, arguments, kinds, only, choice, fewest, unknown):
-            what = "pictures" if it.are_pictures else "files"
-            listed[what], grouped[what], partial = listed[what] + 1, grouped[what] + it.count, partial + it.is_partial
-            results[it.result] += 1
+        for group in _groups(catalogue, arguments, kinds, only, choice, fewest, unknown):
+            what = "pictures" if group.are_pictures else "files"
+            listed[what], grouped[what], partial = listed[what] + 1, grouped[what] + group.count, partial + group.is_partial
+            results[group.result] += 1
             count = sum(listed.values())
-            keeps = keeping(it, bool(arguments.json or table)) if has_keep and not choice else {}
+            keeps = keeping(group, bool(arguments.json or table)) if has_keep and not choice else {}
             if arguments.json:
-                _print_group(count, it, keeps)
+                _print_group(count, group, keeps)
             elif table:
-                _print_rows(table, count, it, keeps)
+                _print_rows(table, count, group, keeps)
             else:
-                _print_lines(it, count, keeps)
+                _print_lines(group, count, keeps)
                 unknown_pictures += any(one.why == NOT_KNOWN for one in keeps.values())
         if not table:
             left = 0 if arguments.kind == PIXELS else groups.left_out(catalogue, kinds, only)
@@ -152,8 +152,8 @@ def _print_totals(listed: "Counter[str]", grouped: "Counter[str]", left: int, fe
 
 
 def _of_absent(count: int) -> str:
-    one = count == 1
-    return f"{count:,} more {'is' if one else 'are'} not listed, because {'its' if one else 'their'} files are gone or have changed since they were indexed"
+    is_one = count == 1
+    return f"{count:,} more {'is' if is_one else 'are'} not listed, because {'its' if is_one else 'their'} files are gone or have changed since they were indexed"
 
 
 def _print_without_digest(count: int) -> None:
@@ -202,9 +202,9 @@ _HEADS = ("group", "pictures", "what is the same", "rests on", "picture", "keep"
 def _print_rows(table: Table, number: int, group: groups.Group, keeps: Keeps) -> None:
     """A row for each picture, and one without a word on keeping for each file that doesn't count."""
     about = (number, group.count, group.sentence(), group.basis)
-    for one in group.members:
-        keep = keeps.get(one.id, Keep())
-        table.row(*about, one.path, None if keep.keep is None else int(keep.keep), _note(group, one, keep))
+    for picture in group.members:
+        keep = keeps.get(picture.id, Keep())
+        table.row(*about, picture.path, None if keep.keep is None else int(keep.keep), _note(group, picture, keep))
     for path, note in _not_counted(group):
         table.row(*about, path, None, note)
 
@@ -241,8 +241,8 @@ def _print_group(number: int, group: groups.Group, keeps: Keeps) -> None:
         "changed": [path_members(one) for one in group.changed],
     }
     print(line_of("same", "group", known)[:-1], end=', "pictures": [')
-    for at, one in enumerate(group.members):
-        print(", " * (at > 0) + json.dumps(_picture_members(group, one, keeps.get(one.id, Keep()))), end="")
+    for at, picture in enumerate(group.members):
+        print(", " * (at > 0) + json.dumps(_picture_members(group, picture, keeps.get(picture.id, Keep()))), end="")
     print("]}")
 
 

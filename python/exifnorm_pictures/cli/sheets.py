@@ -41,20 +41,20 @@ class Sheet:
     def heads(self, heads: Sequence[str]) -> None:
         """Writes the first row, which stays in sight."""
         self._sheet.freeze_panes(1, 1)
-        for at, it in enumerate(heads):
-            self._sheet.set_column(at, at, WIDEST if it == "picture" else max(WIDTH, len(it) + 2), self._text)
-            self._sheet.write_string(0, at, it, self._head)
+        for at, head in enumerate(heads):
+            self._sheet.set_column(at, at, WIDEST if head == "picture" else max(WIDTH, len(head) + 2), self._text)
+            self._sheet.write_string(0, at, head, self._head)
         self.rows = 1
 
     def row(self, cells: Sequence[Cell]) -> None:
         """Writes a row. Raises `NoSpreadsheet` if a sheet has no more."""
         if self.rows == ROWS:
             raise NoSpreadsheet(f"a sheet of a spreadsheet has no more than {ROWS:,} rows: use --csv")
-        for at, it in enumerate(cells):
-            if isinstance(it, int):
-                self._sheet.write_number(self.rows, at, it)
-            elif it:
-                self._sheet.write_string(self.rows, at, _fitting(_shown(it)), self._text)
+        for at, cell in enumerate(cells):
+            if isinstance(cell, int):
+                self._sheet.write_number(self.rows, at, cell)
+            elif cell:
+                self._sheet.write_string(self.rows, at, _fitting(_shown(cell)), self._text)
         self.rows += 1
 
     def close(self) -> None:
@@ -62,8 +62,8 @@ class Sheet:
         self._book.close()
 
 
-def _shown(it: Union[str, bytes]) -> str:
-    text = shown_path(it) if isinstance(it, bytes) else it
+def _shown(cell: Union[str, bytes]) -> str:
+    text = shown_path(cell) if isinstance(cell, bytes) else cell
     return "".join(one if one in "\n\t" or one.isprintable() else escaped(one) for one in text)
 
 
@@ -96,15 +96,15 @@ def written(name: Optional[str], session: Session) -> Iterator[None]:
         return
     if os.path.lexists(name):
         raise NoSpreadsheet(atomic.not_written(escaped(name), "it is there already, and may have somebody's work in it"))
-    made = os.path.join(session.room, "table.xlsx")
-    _open = Sheet(made)
+    table = os.path.join(session.room, "table.xlsx")
+    _open = Sheet(table)
     try:
         yield
         _open.close()
         rows = _open.rows
     finally:
         _open = None
-    with open(made, "rb") as whole:
+    with open(table, "rb") as whole:
         try:
             atomic.replace(os.fsencode(name), lambda file: shutil.copyfileobj(whole, file), lambda _: False)
         except atomic.NotReplaced as error:

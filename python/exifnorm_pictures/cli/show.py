@@ -29,12 +29,12 @@ def run(arguments: argparse.Namespace) -> int:
         return each_block(arguments, lambda _, __, it: _described(it, arguments.exact))
     worst = SUCCESS
     table = Table(["picture", "block", "field", "key", "type", "count", "value", "exact value", "note"]) if arguments.csv else None
-    for it in each_picture(arguments):
-        worst = max(worst, status_of(it))
+    for reading in each_picture(arguments):
+        worst = max(worst, status_of(reading))
         if table:
-            _print_rows(table, it)
+            _print_rows(table, reading)
         else:
-            print_object("show", "picture", _members(it))
+            print_object("show", "picture", _members(reading))
     return worst
 
 
@@ -78,9 +78,9 @@ def _print_rows(table: Table, reading: Reading) -> None:
             table.row(
                 reading.name, block.name, *_NO_FIELD, block.line + (f"; repaired in memory: {steps.words(block.steps)}" if note else "")
             )
-        for one in fields_of(block):
-            name = (group_name(one.where, one.key), exact_key(one.where, one.key))
-            values = (*name, one.type, one.elements, plain(one), exact(one))
+        for field in fields_of(block):
+            name = (group_name(field.where, field.key), exact_key(field.where, field.key))
+            values = (*name, field.type, field.elements, plain(field), exact(field))
             table.row(reading.name, block.name, *values, note)
     for text in _notes(reading):
         table.row(reading.name, None, *_NO_FIELD, text)

@@ -60,8 +60,8 @@ def _table(rows: Sequence[Line], screen: Optional[int]) -> Iterator[str]:
         return
     second = min(_widest_count(screen), max(width(it.number) for it in rows))
     first = min(max(width(it.text) for it in rows), max(NARROWEST, screen - second - 4))
-    for it in rows:
-        for text, number in zip_longest(wrapped(it.text, first), wrapped(it.number, second), fillvalue=""):
+    for row in rows:
+        for text, number in zip_longest(wrapped(row.text, first), wrapped(row.number, second), fillvalue=""):
             yield f"  {text}{' ' * (first - width(text))}  {number}".rstrip()
 
 
@@ -105,10 +105,10 @@ def _parts(summary: Summary) -> List[Line]:
     return rows
 
 
-def _part(it: PartCount) -> str:
-    count = len(it.names)
+def _part(part: PartCount) -> str:
+    count = len(part.names)
     many = f"{count:,}{' or more' * (count == FIELDS)} different field{'s' * (count != 1)}"
-    return f"{it.name} {'removed' if it.sign == '-' else 'added'} ({many})"
+    return f"{part.name} {'removed' if part.sign == '-' else 'added'} ({many})"
 
 
 def _at_most(count: int) -> str:
@@ -119,44 +119,46 @@ def _fields(summary: Summary, room: int, screen: Optional[int]) -> List[Line]:
     """The lines of the fields; of those for which there is no room, a line for each group."""
     every = summary.fields()
     rows: List[Line] = []
-    for at, it in enumerate(every):
-        mine = _field(it)
+    for at, field in enumerate(every):
+        mine = _field(field)
         if _height([*rows, *mine, *_further(every[at + 1 :])], screen) > room:
             return rows + _further(every[at:])
         rows += mine
     return rows
 
 
-def _field(it: FieldCount) -> List[Line]:
+def _field(field: FieldCount) -> List[Line]:
     """The lines of a field: its new values if they are few, and in how many pictures it is gone."""
     rows: List[Line] = []
-    if len(it.steps) == 1 and sum(it.steps.values()) == it.has_value > 1:
-        rows.append(Line(f"{it.name}: {next(iter(it.steps))}", it.has_value))
-    elif len(it.values) <= SHOWN_VALUES and not it.uncounted:
-        for value in sorted(it.values.values(), key=lambda one: -one.count):
+    if len(field.steps) == 1 and sum(field.steps.values()) == field.has_value > 1:
+        rows.append(Line(f"{field.name}: {next(iter(field.steps))}", field.has_value))
+    elif len(field.values) <= SHOWN_VALUES and not field.uncounted:
+        for value in sorted(field.values.values(), key=lambda one: -one.count):
             text = (value.is_one and value.first.change) or value.first.text
-            rows.append(Line(f"{it.name}{text}", value.count, _had_none(value.came, value.count)))
+            rows.append(Line(f"{field.name}{text}", value.count, _had_none(value.came, value.count)))
     else:
-        first = next(iter(it.values.values())).first
-        many = f"more than {len(it.values)}" if it.uncounted else f"{len(it.values)}"
-        rows.append(Line(f"{it.name}: {many} different values ({first.example} ..)", it.has_value, _had_none(it.came, it.has_value)))
-    rows += [Line(f"{it.name} removed", it.went, _with_parts(it))] * bool(it.went)
-    return [row._replace(is_labelled=it.is_labelled) for row in rows]
+        first = next(iter(field.values.values())).first
+        many = f"more than {len(field.values)}" if field.uncounted else f"{len(field.values)}"
+        rows.append(
+            Line(f"{field.name}: {many} different values ({first.example} ..)", field.has_value, _had_none(field.came, field.has_value))
+        )
+    rows += [Line(f"{field.name} removed", field.went, _with_parts(field))] * bool(field.went)
+    return [row._replace(is_labelled=field.is_labelled) for row in rows]
 
 
-def _with_parts(it: FieldCount) -> str:
+def _with_parts(field: FieldCount) -> str:
     """In how many pictures a field went with a whole block."""
-    count = sum(it.in_parts.values())
-    what = f"all of {next(iter(it.in_parts))}" if len(it.in_parts) == 1 else "a whole block or directory"
-    return "" if not count else f", with {what}" if count == it.went else f", {count:,} of them with {what}"
+    count = sum(field.in_parts.values())
+    what = f"all of {next(iter(field.in_parts))}" if len(field.in_parts) == 1 else "a whole block or directory"
+    return "" if not count else f", with {what}" if count == field.went else f", {count:,} of them with {what}"
 
 
 def _had_none(came: int, count: int) -> str:
     return "" if not came else ", which had none" if came == count else f", {came:,} had none"
 
 
-def _group(it: FieldCount) -> str:
-    return it.name.partition(":")[0]
+def _group(field: FieldCount) -> str:
+    return field.name.partition(":")[0]
 
 
 def _further(left: Sequence[FieldCount]) -> List[Line]:
@@ -170,10 +172,13 @@ def _further(left: Sequence[FieldCount]) -> List[Line]:
 
 def _group_line(group: str, fields: Sequence[FieldCount]) -> Line:
     words = []
-    for word, some in (("changed or added", [it for it in fields if it.has_value]), ("removed", [it for it in fields if not it.has_value])):
-        if some:
-            names = ", ".join(it.name.partition(":")[2] or it.name for it in some[:2])
-            words.append(f"{len(some):,} {word} ({cut(names)}{' ..' if len(some) > 2 else ''})")
+    for word, of_kind in (
+        ("changed or added", [it for it in fields if it.has_value]),
+        ("removed", [it for it in fields if not it.has_value]),
+    ):
+        if of_kind:
+            names = ", ".join(it.name.partition(":")[2] or it.name for it in of_kind[:2])
+            words.append(f"{len(of_kind):,} {word} ({cut(names)}{' ..' if len(of_kind) > 2 else ''})")
     most = max(it.most for it in fields)
     return Line(f"{group}, further fields: {', '.join(words)}", most, _at_most(most) if len(fields) > 1 else "")
 

@@ -40,10 +40,10 @@ def run(arguments: argparse.Namespace) -> int:
         given = bool(arguments.folders or arguments.files_from)
         folders = _folders(named(arguments, arguments.folders) if given else [], before)
         now = open_.enter_context(_read_again(folders, arguments, before))
-        for it in verified.verified(before, now, folders):
-            counts[it.state] += 1
-            if it.state != verified.AS_IT_WAS or it.note:
-                _add(arguments, listed.setdefault(it.state, []), it)
+        for file in verified.verified(before, now, folders):
+            counts[file.state] += 1
+            if file.state != verified.AS_IT_WAS or file.note:
+                _add(arguments, listed.setdefault(file.state, []), file)
         new = verified.new_files(before, now) - counts[verified.MOVED]
         size, files = next(now.rows("SELECT ifnull(sum(size), 0), count(*) FROM pictures WHERE sha256 != ''"))
         if arguments.evidence:
@@ -63,16 +63,16 @@ def run(arguments: argparse.Namespace) -> int:
 def _folders(names: Sequence[bytes], catalogue: Catalogue) -> List[bytes]:
     """The folders to read. Raises `NotThere`."""
     folders = [os.path.abspath(it) for it in names] or catalogue.roots()
-    for it in folders:
-        if not os.path.lexists(it):
-            raise NotThere(f"{shown_path(it)} isn't there, so nothing is verified: is its file system mounted?")
+    for folder in folders:
+        if not os.path.lexists(folder):
+            raise NotThere(f"{shown_path(folder)} isn't there, so nothing is verified: is its file system mounted?")
     return folders
 
 
 def _read_again(folders: Sequence[bytes], arguments: argparse.Namespace, before: Catalogue) -> Catalogue:
     """A new catalogue of the files that are there now, with their digests."""
     room = arguments.session.room
-    made = Catalogue(os.path.join(room, "catalogue"), make=True)
+    catalogue = Catalogue(os.path.join(room, "catalogue"), make=True)
     try:
         closed: List[str] = []
         how = How(
@@ -84,13 +84,13 @@ def _read_again(folders: Sequence[bytes], arguments: argparse.Namespace, before:
             debug=arguments.session.debug,
             lines=closed_folder,
         )
-        index(IndexOptions(folders, quiet=arguments.quiet or not sys.stderr.isatty(), how=how, print_line=closed.append), made)
+        index(IndexOptions(folders, quiet=arguments.quiet or not sys.stderr.isatty(), how=how, print_line=closed.append), catalogue)
         if closed:
             raise NoCatalogue("; ".join(closed))
     except BaseException:
-        made.close()
+        catalogue.close()
         raise
-    return made
+    return catalogue
 
 
 # What is printed

@@ -147,11 +147,13 @@ def changed(
     with contextlib.closing(Pairs(before, after, only)) as pairs:
         there = 0
         came = (Compared(name, MISSING_BEFORE) for name in pairs.came())
-        for it in heapq.merge((compared(pair, pairs, session, choice) for pair in pairs.differing(every)), came, key=lambda one: one.name):
-            there += it.result != MISSING_BEFORE
-            counts[it.result] += 1
-            choice.add_left_out(it.left_out)
-            yield it
+        for comparison in heapq.merge(
+            (compared(pair, pairs, session, choice) for pair in pairs.differing(every)), came, key=lambda one: one.name
+        ):
+            there += comparison.result != MISSING_BEFORE
+            counts[comparison.result] += 1
+            choice.add_left_out(comparison.left_out)
+            yield comparison
         if pictures is not None:
             pictures.update(pairs.coded())
         if not every and pairs.count() > there:
@@ -160,50 +162,54 @@ def changed(
 
 def compared(pair: Pair, pairs: Sides, session: Optional[Session], choice: Choice = EVERYTHING) -> Compared:
     """Compares one picture before and after. Its coded picture counts, unless only some fields do."""
-    it = _compared(pair, pairs, session, choice)
-    found = coded.result_of(pair.old, pair.new)
-    it.picture = found.result
+    comparison = _compared(pair, pairs, session, choice)
+    coded_picture = coded.result_of(pair.old, pair.new)
+    comparison.picture = coded_picture.result
     if choice.only or pair.place is not None:
-        return it
-    if found.result == coded.DAMAGED:
-        it.result = DAMAGED
-    elif found.result == coded.OTHER and it.result in (*UNCHANGED, *OPEN):
-        it.result = OTHER_PICTURE_ALONE if it.result in (SAME, REFUSED_SAME, UNREADABLE_SAME) else OTHER_PICTURE
-    elif found.result == coded.OTHER:
-        it.note += "; the picture is another one, too"
-    it.note = "; ".join(filter(None, [found.note, it.note]))
-    return it
+        return comparison
+    if coded_picture.result == coded.DAMAGED:
+        comparison.result = DAMAGED
+    elif coded_picture.result == coded.OTHER and comparison.result in (*UNCHANGED, *OPEN):
+        comparison.result = OTHER_PICTURE_ALONE if comparison.result in (SAME, REFUSED_SAME, UNREADABLE_SAME) else OTHER_PICTURE
+    elif coded_picture.result == coded.OTHER:
+        comparison.note += "; the picture is another one, too"
+    comparison.note = "; ".join(filter(None, [coded_picture.note, comparison.note]))
+    return comparison
 
 
 def _compared(pair: Pair, pairs: Sides, session: Optional[Session], choice: Choice) -> Compared:
-    name, one, other, place = pair
-    if one is None or other is None:
+    name, old, new, place = pair
+    if old is None or new is None:
         return Compared(name, MISSING_AFTER) if place is None else Compared(name, MOVED, moved_to=place)
-    if one.problem or other.problem:
-        it = _unread(name, one, other)
-        return Compared(name, SAME_FILE, it.note) if it.result in OPEN and place is None and is_same_file(one, other) else it
-    found = verdicts(one.sides(), other.sides())
+    if old.problem or new.problem:
+        comparison = _unread(name, old, new)
+        return (
+            Compared(name, SAME_FILE, comparison.note)
+            if comparison.result in OPEN and place is None and is_same_file(old, new)
+            else comparison
+        )
+    by_kind = verdicts(old.sides(), new.sides())
     parts: List[str] = []
-    if one.not_read is None or one.not_read != other.not_read:
-        parts = left_open(pairs.not_read(BEFORE, one), pairs.not_read(AFTER, other))
-    it = Compared(name, result(found, parts), "", [], found)
-    if it.result in OPEN and place is None and is_same_file(one, other):
-        return Compared(name, SAME_FILE, _sentence(tuple(found), tuple(parts)), [], found)
-    parts = _leave_out_kinds(it, one, other, parts, choice)
-    found = it.verdicts
-    looked_at = any(one.result in (DIFFERENT, REFUSED, UNREADABLE, SAME_REPAIRED, DIFFERENT_REPAIRED) for one in found)
-    if looked_at or not one.extractor == other.extractor == OWN:
-        blocks = [pairs.blocks(BEFORE, one), pairs.blocks(AFTER, other)]
-        it.note += _extracted(block for side in blocks for block in side)
+    if old.not_read is None or old.not_read != new.not_read:
+        parts = left_open(pairs.not_read(BEFORE, old), pairs.not_read(AFTER, new))
+    comparison = Compared(name, result(by_kind, parts), "", [], by_kind)
+    if comparison.result in OPEN and place is None and is_same_file(old, new):
+        return Compared(name, SAME_FILE, _sentence(tuple(by_kind), tuple(parts)), [], by_kind)
+    parts = _leave_out_kinds(comparison, old, new, parts, choice)
+    by_kind = comparison.verdicts
+    looked_at = any(one.result in (DIFFERENT, REFUSED, UNREADABLE, SAME_REPAIRED, DIFFERENT_REPAIRED) for one in by_kind)
+    if looked_at or not old.extractor == new.extractor == OWN:
+        blocks = [pairs.blocks(BEFORE, old), pairs.blocks(AFTER, new)]
+        comparison.note += _extracted(block for side in blocks for block in side)
         if looked_at:
-            _add_details(it, blocks, pairs, parts, choice)
+            _add_details(comparison, blocks, pairs, parts, choice)
     if not choice.leaves_out_maker_notes:
-        parts = _judge_maker_notes(it, one, other, pairs, parts, session)
-    it.note = _sentence(tuple(it.verdicts), tuple(parts)) + it.note
+        parts = _judge_maker_notes(comparison, old, new, pairs, parts, session)
+    comparison.note = _sentence(tuple(comparison.verdicts), tuple(parts)) + comparison.note
     if place is not None:
-        it.result = MOVED if it.result in UNCHANGED else MOVED_EDITED
-        it.moved_to, it.note = place, f"the coded picture is the same; {it.note}"
-    return it
+        comparison.result = MOVED if comparison.result in UNCHANGED else MOVED_EDITED
+        comparison.moved_to, comparison.note = place, f"the coded picture is the same; {comparison.note}"
+    return comparison
 
 
 def _unread(name: bytes, picture: Picture, other: Picture) -> Compared:
@@ -222,21 +228,21 @@ def _unread(name: bytes, picture: Picture, other: Picture) -> Compared:
 
 
 def _judge_maker_notes(
-    comparison: Compared, one: Picture, other: Picture, pairs: Sides, parts: List[str], session: Optional[Session]
+    comparison: Compared, old: Picture, new: Picture, pairs: Sides, parts: List[str], session: Optional[Session]
 ) -> List[str]:
     """Asks ExifTool where the bytes or the place of a MakerNote differ, or the bytes that only it can reach. Returns the parts that stay open."""
     lines = [change for change in comparison.changes if change[:2] == MAKER_NOTE and change.before and change.after]
-    both = bool(one.maker_notes and other.maker_notes)
-    moved = both and one.maker_notes != other.maker_notes
+    both = bool(old.maker_notes and new.maker_notes)
+    moved = both and old.maker_notes != new.maker_notes
     reached = [part for part in parts if part.endswith(REACHED)] if both else []
-    rewritten = both and one.exif_octets != other.exif_octets  # then what the MakerNote leads to may be gone or have changed
+    rewritten = both and old.exif_octets != new.exif_octets  # then what the MakerNote leads to may be gone or have changed
     if not (lines or moved or reached or rewritten) or comparison.result == REFUSED_SAME:
         return parts
     from ..judge import maker_notes  # which is seldom needed
 
-    found = maker_notes.compared(session, pairs, one, other) if session else None
-    if found is None:
-        gone = [word for word, picture in (("earlier", one), ("later", other)) if session and not maker_notes.is_there(picture)]
+    notes = maker_notes.compared(session, pairs, old, new) if session else None
+    if notes is None:
+        gone = [word for word, picture in (("earlier", old), ("later", new)) if session and not maker_notes.is_there(picture)]
         if gone:
             note = f"differs in bytes, the {' and the '.join(gone)} picture {'is' if len(gone) == 1 else 'are'} gone or changed"
             comparison.changes = [change._replace(note=note) if change in lines else change for change in comparison.changes]
@@ -246,10 +252,10 @@ def _judge_maker_notes(
             parts = [*parts, f"{what}, for which ExifTool and both files are needed"]
             comparison.result = result(comparison.verdicts, parts)
         return parts
-    if found.doubt and not found.differences:
-        return _in_doubt(comparison, lines, moved, found, parts)
-    comparison.maker_note = found.differences
-    if found.differences:
+    if notes.doubt and not notes.differences:
+        return _in_doubt(comparison, lines, moved, notes, parts)
+    comparison.maker_note = notes.differences
+    if notes.differences:
         _read_otherwise(comparison, lines, moved)
         return parts
     if not moved:  # an edit in place: ExifTool may overlook it, since it corrects some MakerNotes before it reads them
@@ -269,14 +275,14 @@ def _judge_maker_notes(
     return parts
 
 
-def _in_doubt(comparison: Compared, lines: List[Difference], moved: bool, found: "maker_notes.Compared", parts: List[str]) -> List[str]:
+def _in_doubt(comparison: Compared, lines: List[Difference], moved: bool, notes: "maker_notes.Compared", parts: List[str]) -> List[str]:
     """A MakerNote of which no value differs, though that may mean nothing. Returns the parts that stay open."""
     has_moved = "has moved, " * moved
     comparison.changes = [
-        change._replace(note=f"{has_moved}differs in bytes, {found.doubt}") if change in lines else change for change in comparison.changes
+        change._replace(note=f"{has_moved}differs in bytes, {notes.doubt}") if change in lines else change for change in comparison.changes
     ]
-    if not lines and (moved or found.is_new):
-        parts = [*parts, f"a MakerNote that {'has moved' if moved else 'may be damaged'} ({found.doubt})"]
+    if not lines and (moved or notes.is_new):
+        parts = [*parts, f"a MakerNote that {'has moved' if moved else 'may be damaged'} ({notes.doubt})"]
         comparison.result = result(comparison.verdicts, parts)
     return parts
 
@@ -312,22 +318,22 @@ def _add_details(comparison: Compared, blocks: List[Sequence[Block]], pairs: Sid
     out = [one.kind for one in comparison.verdicts if one.result == LEFT_OUT]
     first, second = ({(block.kind, block.name): block for block in side if block.kind not in out} for side in blocks)
     for key in dict.fromkeys([*first, *second]):
-        one, other = first.get(key), second.get(key)
-        if all(block is None or block.status == ACCEPTED or block.repair for block in (one, other)):
-            comparison.note += _repairs_of(comparison, key[1], one, other)
-            if one and other and one.digest == other.digest and (one.digest or one.octets == other.octets):
+        old, new = first.get(key), second.get(key)
+        if all(block is None or block.status == ACCEPTED or block.repair for block in (old, new)):
+            comparison.note += _repairs_of(comparison, key[1], old, new)
+            if old and new and old.digest == new.digest and (old.digest or old.octets == new.octets):
                 continue
-            fields = pairs.fields(BEFORE, one), pairs.fields(AFTER, other)
+            fields = pairs.fields(BEFORE, old), pairs.fields(AFTER, new)
             block = "" if key[1] == NAMES[key[0]] else key[1]
-            is_equal = bool(one and other and one.meaning and one.meaning == other.meaning)
-            kept, lost = _known(differences(*fields, block), one, other)
+            is_equal = bool(old and new and old.meaning and old.meaning == new.meaning)
+            kept, lost = _known(differences(*fields, block), old, new)
             comparison.note += lost
-            found = left.without(key[0], kept, is_equal)
-            is_of_note = bool(found and one and other) and all(change[:2] == MAKER_NOTE for change in found)
-            only_notes = only_notes and (is_of_note or key[0] != EXIF or (is_equal and not found))
-            comparison.changes += found if one and other else [change._replace(part=key[1]) for change in found]
-        if not any(block and block.repair for block in (one, other)):
-            comparison.note += _report_of(key[1], one, other)
+            changes = left.without(key[0], kept, is_equal)
+            is_of_note = bool(changes and old and new) and all(change[:2] == MAKER_NOTE for change in changes)
+            only_notes = only_notes and (is_of_note or key[0] != EXIF or (is_equal and not changes))
+            comparison.changes += changes if old and new else [change._replace(part=key[1]) for change in changes]
+        if not any(block and block.repair for block in (old, new)):
+            comparison.note += _report_of(key[1], old, new)
     left.settle(comparison, parts)
     if comparison.result == DIFFERENT and only_notes and [one.kind for one in comparison.verdicts if one.result == DIFFERENT] == [EXIF]:
         comparison.result = ONLY_MAKER_NOTE
@@ -335,9 +341,9 @@ def _add_details(comparison: Compared, blocks: List[Sequence[Block]], pairs: Sid
         comparison.result = ONLY_NUMBERS
 
 
-def _known(differences: List[Difference], one: Optional[Block], other: Optional[Block]) -> Tuple[List[Difference], str]:
+def _known(differences: List[Difference], old: Optional[Block], new: Optional[Block]) -> Tuple[List[Difference], str]:
     """The differences without those fields that one block has, and that the repair of the other one may have lost; and a note about these."""
-    lost = [steps.lost_fields(block.steps) if block else frozenset() for block in (one, other)]
+    lost = [steps.lost_fields(block.steps) if block else frozenset() for block in (old, new)]
     unknown = [it for it in differences if (not it.before and _is_of(it, lost[0])) or (not it.after and _is_of(it, lost[1]))]
     if not unknown:
         return differences, ""
@@ -406,15 +412,15 @@ def _leave_out_kinds(comparison: Compared, picture: Picture, other: Picture, par
     return parts
 
 
-def _repairs_of(comparison: Compared, name: str, one: Optional[Block], other: Optional[Block]) -> str:
+def _repairs_of(comparison: Compared, name: str, old: Optional[Block], new: Optional[Block]) -> str:
     """Why a block is refused, and by which repairs its fields are read."""
-    first, second = (block.steps if block else () for block in (one, other))
+    first, second = (block.steps if block else () for block in (old, new))
     if not first and not second:
         return ""
-    if one and other and one.octets == other.octets:
-        return f"; {name}: {one.refusal}"
+    if old and new and old.octets == new.octets:
+        return f"; {name}: {old.refusal}"
     comparison.repairs.append((name, first, second))
-    texts = [_repair_of(block) for block in (one, other)]
+    texts = [_repair_of(block) for block in (old, new)]
     if texts[0] == texts[1]:
         text = f"; {name}: {texts[0]}"
     else:
@@ -490,9 +496,9 @@ class Equal:
             self._write()
 
     def _number(self, key: bytes) -> Optional[int]:
-        found = self._known.get(key)
-        if found is not None:
-            return found
+        number = self._known.get(key)
+        if number is not None:
+            return number
         row = self.base.execute("SELECT id FROM heads WHERE key = ?", (key,)).fetchone()
         return None if row is None else int(row[0])
 

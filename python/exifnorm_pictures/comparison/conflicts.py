@@ -94,16 +94,16 @@ def chosen(texts: Sequence[LabelText], known: Sequence[Conflict]) -> Optional[La
     """The texts of a label where there is space for one field, which aren't a camera's: those that are whole, on which two standards agree, and
     the first in their order."""
     worse = {field for it in known for field in it.worse}
-    some = [it for it in texts if not it.block and not it.is_empty and not it.is_own]
-    agreeing = Counter(text for text, _ in {(_plain(it.line), it.standard) for it in some if not it.is_extra})
-    some.sort(key=lambda it: (it.is_extra, it.field in worse, agreeing[_plain(it.line)] < 2, STANDARDS.index(it.standard)))
-    return some[0] if some else None
+    candidates = [it for it in texts if not it.block and not it.is_empty and not it.is_own]
+    agreeing = Counter(text for text, _ in {(_plain(it.line), it.standard) for it in candidates if not it.is_extra})
+    candidates.sort(key=lambda it: (it.is_extra, it.field in worse, agreeing[_plain(it.line)] < 2, STANDARDS.index(it.standard)))
+    return candidates[0] if candidates else None
 
 
 def best(texts: Sequence[LabelText], known: Sequence[Conflict]) -> str:
     """These texts in a line."""
-    it = chosen(texts, known)
-    return it.line if it else ""
+    text = chosen(texts, known)
+    return text.line if text else ""
 
 
 def own_texts(texts: Sequence[LabelText]) -> List[str]:
@@ -122,8 +122,8 @@ def _pair(label: Label, text: LabelText, other: LabelText) -> _How:
         return _How(ALIKE)
     if label.word == DATE:
         return _How(ALIKE if _is_same_time(first[0], second[0]) else DIFFERENT)
-    if label.is_list and (found := _lists(first, second, text, other)):
-        return found
+    if label.is_list and (how := _lists(first, second, text, other)):
+        return how
     if len(first) != len(second):
         return _How(DIFFERENT, f"{text.field} has {len(first)}, {other.field} {len(second)}" if label.is_list else "")
     each = [_texts_differ(label, (mine, its), (text, other), at) for at, (mine, its) in enumerate(zip(first, second))]
@@ -158,9 +158,9 @@ def _texts_differ(label: Label, pair: Tuple[str, str], whose: Tuple[LabelText, L
     return _How(DIFFERENT)
 
 
-def _explained(label: Label, text: str, against: str, it: LabelText, at: int) -> Iterator[_How]:
+def _explained(label: Label, text: str, against: str, label_text: LabelText, at: int) -> Iterator[_How]:
     """Why a text isn't the other one, although that was meant."""
-    octets = it.octets[at] if len(it.octets) > at else b""
+    octets = label_text.octets[at] if len(label_text.octets) > at else b""
     for name, word in _CHARACTER_SETS.items() if not octets.isascii() else ():
         try:
             again = _plain(octets.rstrip(b"\0").decode(name))
@@ -168,16 +168,17 @@ def _explained(label: Label, text: str, against: str, it: LabelText, at: int) ->
             continue
         if again == against:
             yield _How(
-                CHARACTERS, f"{it.field} is in {word}, which {'is not what it declares' if 'declared' in it.guess else 'nothing declares'}"
+                CHARACTERS,
+                f"{label_text.field} is in {word}, which {'is not what it declares' if 'declared' in label_text.guess else 'nothing declares'}",
             )
-        if it.standard == IPTC and _is_cut(label, again, against, len(octets)):
-            yield _How(CUT, f"{it.field} is cut after {len(octets):,} bytes")
+        if label_text.standard == IPTC and _is_cut(label, again, against, len(octets)):
+            yield _How(CUT, f"{label_text.field} is cut after {len(octets):,} bytes")
     if _without_detour(text) == against:
-        yield _How(CHARACTERS, f"{it.field} was read in a wrong character set before it was written")
+        yield _How(CHARACTERS, f"{label_text.field} was read in a wrong character set before it was written")
     if _without_accents(text, against):
-        yield _How(CHARACTERS, f"{it.field} has ? for letters that it couldn't write")
-    if it.standard == IPTC and _is_cut(label, text, against, len(octets)):
-        yield _How(CUT, f"{it.field} is cut after {len(octets):,} bytes")
+        yield _How(CHARACTERS, f"{label_text.field} has ? for letters that it couldn't write")
+    if label_text.standard == IPTC and _is_cut(label, text, against, len(octets)):
+        yield _How(CUT, f"{label_text.field} is cut after {len(octets):,} bytes")
 
 
 def _is_cut(label: Label, text: str, against: str, octets: int) -> bool:
@@ -222,8 +223,8 @@ def _known(date: str) -> str:
     >>> _known("1911-00-00"), _known("1911-05-00 00:00:00"), _known("1911-05-24")
     ('1911', '1911-05', '1911-05-24')
     """
-    found = _UP_TO_UNKNOWN.match(date)
-    return found[1] if found else date
+    match = _UP_TO_UNKNOWN.match(date)
+    return match[1] if match else date
 
 
 def _is_same_time(text: str, other: str) -> bool:
@@ -235,15 +236,15 @@ def _is_same_time(text: str, other: str) -> bool:
     >>> _is_same_time("2003-05-00", "2003-05-24"), _is_same_time("2003-05", "2003-06-24")
     (True, False)
     """
-    found = [_TIME.fullmatch(_known(it)) for it in (text, other)]
-    if not found[0] or not found[1]:
+    matches = [_TIME.fullmatch(_known(it)) for it in (text, other)]
+    if not matches[0] or not matches[1]:
         return False
-    zones = [it[3] for it in found if it]
-    if all(zones) and all(it and it[2] for it in found):
+    zones = [it[3] for it in matches if it]
+    if all(zones) and all(it and it[2] for it in matches):
         try:
-            both = [datetime.fromisoformat(f"{it[1]} {it[2]}{'+00:00' if it[3] == 'Z' else it[3]}") for it in found if it]
+            both = [datetime.fromisoformat(f"{it[1]} {it[2]}{'+00:00' if it[3] == 'Z' else it[3]}") for it in matches if it]
         except ValueError:  # as of a month 13
             return False
         return both[0] == both[1]
-    first, second = (f"{it[1]} {it[2] or ''}".rstrip() for it in found if it)
+    first, second = (f"{it[1]} {it[2] or ''}".rstrip() for it in matches if it)
     return first.startswith(second) or second.startswith(first)

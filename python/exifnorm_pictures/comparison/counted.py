@@ -63,13 +63,13 @@ _JOINED = "main.pictures LEFT JOIN temp.remaining USING (id)"
 def _columns(choice: Choice) -> str:
     """The columns of a picture, with the digests of the fields that count."""
     has_blocks = "remaining.id IS NOT NULL"
-    made = {it: f"CASE WHEN {has_blocks} THEN remaining.{it} ELSE pictures.{it} END" for it in WORDS.values()}
-    made["exif_repaired"] = f"CASE WHEN {has_blocks} THEN repaired ELSE exif_repaired END"
-    made["other_exif"] = f"CASE WHEN {has_blocks} AND other_exif != '' THEN remaining.other ELSE other_exif END"
-    made.update({f"{it}_octets": f"CASE WHEN remaining.{it} = '' THEN '' ELSE {it}_octets END" for it in WORDS.values()})
+    columns = {it: f"CASE WHEN {has_blocks} THEN remaining.{it} ELSE pictures.{it} END" for it in WORDS.values()}
+    columns["exif_repaired"] = f"CASE WHEN {has_blocks} THEN repaired ELSE exif_repaired END"
+    columns["other_exif"] = f"CASE WHEN {has_blocks} AND other_exif != '' THEN remaining.other ELSE other_exif END"
+    columns.update({f"{it}_octets": f"CASE WHEN remaining.{it} = '' THEN '' ELSE {it}_octets END" for it in WORDS.values()})
     if choice.leaves_out_maker_notes:
-        made.update(maker_notes="''", not_read="other_not_read")
-    return ", ".join(f"{made.get(it, f'pictures.{it}')} AS {it}" for it in PICTURES.names)
+        columns.update(maker_notes="''", not_read="other_not_read")
+    return ", ".join(f"{columns.get(it, f'pictures.{it}')} AS {it}" for it in PICTURES.names)
 
 
 def _write(catalogue: Catalogue, rows: List[Tuple[object, ...]]) -> None:
@@ -86,8 +86,8 @@ def _rows(catalogue: Catalogue, choice: Choice) -> Iterator[Tuple[object, ...]]:
         yield (picture, *_row([it for _, it in ours], choice))
 
 
-def _number(it: Tuple[int, _Counted]) -> int:
-    return it[0]
+def _number(numbered: Tuple[int, _Counted]) -> int:
+    return numbered[0]
 
 
 def _counted(row: Tuple[str, str, str, Optional[str], str, Optional[str], Optional[bytes]], choice: Choice) -> _Counted:
@@ -101,13 +101,13 @@ def _counted(row: Tuple[str, str, str, Optional[str], str, Optional[str], Option
     counting = choice.of(fields, block)
     counted, meaning, listing = _digest(counting, choice), digest or octets, _sum(fields)
     is_repaired = repair is not None and not steps.loses(steps.unpacked(repair))
-    found = (kind_of(word), name, counted if status == ACCEPTED else None, counted if is_repaired else None, meaning, listing)
+    known = (kind_of(word), name, counted if status == ACCEPTED else None, counted if is_repaired else None, meaning, listing)
     others = [it for it in fields if it[:2] != MAKER_NOTE]
     if len(others) == len(fields):
-        return _Counted(*found, counted, meaning, listing)
+        return _Counted(*known, counted, meaning, listing)
     of_others = _sum(others)
     rest = [it for it in counting if it[:2] != MAKER_NOTE]
-    return _Counted(*found, _digest(rest, choice) or "no other field", of_others, of_others)
+    return _Counted(*known, _digest(rest, choice) or "no other field", of_others, of_others)
 
 
 def _with_exact_xmp(field: Field) -> Any:

@@ -44,7 +44,7 @@ class Difference(NamedTuple):
     def is_equal_number(self) -> bool:
         """Whether both have equal numbers, or the same bytes with another type."""
         return bool(self.before and self.after and not self.note) and [equal_form(it) for it in self.before] == [
-            equal_form(it) for it in self.after
+            equal_form(field) for field in self.after
         ]
 
 
@@ -113,6 +113,6 @@ def _directory(where: str, there: Sequence["set[str]"]) -> str:
 
 def _by_name(fields: Sequence[Field]) -> Dict[Tuple[str, str], List[Field]]:
     result: Dict[Tuple[str, str], List[Field]] = {}
-    for it in fields:
-        result.setdefault((it.where, it.key), []).append(it)
+    for field in fields:
+        result.setdefault((field.where, field.key), []).append(field)
     return result

@@ -76,13 +76,13 @@ class Group:
     @property
     def digests(self) -> Dict[str, str]:
         """The digest of each kind that they have, as far as it is known."""
-        first, found = self.members[0], {}
+        first, digests = self.members[0], {}
         if self.is_partial or self.basis == CODED_PICTURE:  # no digest is of what they have in common
             return {}
         for kind, digest in zip(KINDS, first.meanings):
             if kind in self.kinds and digest != "" and (kind != EXIF or not self.has_other_notes):
-                found[kind] = digest or (first.exif_repaired if kind == EXIF and self.basis == REPAIR else "") or ""
-        return found
+                digests[kind] = digest or (first.exif_repaired if kind == EXIF and self.basis == REPAIR else "") or ""
+        return digests
 
     @property
     def same_bytes(self) -> bool:
@@ -133,10 +133,10 @@ class Group:
         there = [it for it in self.kinds if by_kind[it] != "" and it not in refused]
         names = {it: NAMES[it] + " but for the MakerNote" * (it == EXIF and self.has_other_notes) for it in self.kinds}
         parts = [f"{listed([names[it] for it in there])} the same" + " in the same bytes" * self.same_bytes] if there else []
-        for it in refused:
-            word = "unreadable" if WORDS[it] == "xmp" else "refused"
-            is_by_bytes = self.basis == BYTES or it != EXIF
-            parts.append(f"{names[it]} is {word}, the same bytes" if is_by_bytes else f"{names[it]} is the same after repair")
+        for kind in refused:
+            word = "unreadable" if WORDS[kind] == "xmp" else "refused"
+            is_by_bytes = self.basis == BYTES or kind != EXIF
+            parts.append(f"{names[kind]} is {word}, the same bytes" if is_by_bytes else f"{names[kind]} is the same after repair")
         none = [] if self.has_choice else [it for it in self.kinds if by_kind[it] == ""]
         text = ", ".join([*parts, *none_of(none)]) + ", but for the fields left out" * self.is_partial
         if self.not_read:
@@ -155,8 +155,8 @@ def _metadata_of(members: Sequence[Picture]) -> str:
     """What is true of the metadata of pictures that may have different ones."""
     known: Dict[str, List[str]] = {SAME: [], DIFFERENT: [], "refused or unreadable": [], ABSENT: []}
     for number, kind in enumerate(KINDS):
-        found = {it.meanings[number] for it in members}
-        word = ABSENT if found == {""} else "refused or unreadable" if None in found else SAME if len(found) == 1 else DIFFERENT
+        meanings = {it.meanings[number] for it in members}
+        word = ABSENT if meanings == {""} else "refused or unreadable" if None in meanings else SAME if len(meanings) == 1 else DIFFERENT
         known[word].append(kind)
     none = none_of(known.pop(ABSENT))
     text = ", ".join([*(clause(kinds, word, False) for word, kinds in known.items() if kinds), *none])
@@ -208,8 +208,8 @@ class Fewest:
 
     def is_enough(self, catalogue: Catalogue, group: Group, choice: Choice) -> bool:
         """Whether the pictures of a group have so many fields, or nobody knows how many. The fields of one picture are counted."""
-        found = _fields_of(catalogue, group, choice) if self.fields else None
-        if found is None or found >= self.fields:
+        count = _fields_of(catalogue, group, choice) if self.fields else None
+        if count is None or count >= self.fields:
             return True
         self.small += 1
         return False
@@ -304,8 +304,8 @@ def _all_groups(
             meanings, listings, places = next(catalogue.rows(kept, row)) if table == COUNTED else (1, 1, 1)
             if meanings > listings:  # something differs that no field shows
                 continue
-            found = catalogue.rows(rows, (*row, *row), picture_of_row)
-            group = _there(query.basis, tuple(kinds), found, look, folders)
+            pictures = catalogue.rows(rows, (*row, *row), picture_of_row)
+            group = _there(query.basis, tuple(kinds), pictures, look, folders)
             fewest.absent += query.basis in (MEANING, BYTES, CODED_PICTURE) and group.count < 2 and bool(group.gone or group.changed)
             group.has_choice = table == COUNTED
             group.is_partial = meanings > 1 or places > 1
@@ -323,10 +323,10 @@ def _numbers_of_a_group(catalogue: Catalogue, query: _Query, table: str) -> str:
     if (query.basis, query.key[0]) in _INDEXED:
         return f"SELECT id FROM {table} WHERE {query.where} AND {' AND '.join(f'{column} = ?' for column in query.key)}"
     columns = [f"key{number}" for number in range(len(query.key))]
-    made = ", ".join(f"{expression} AS {column}" for expression, column in zip(query.key, columns))
+    definitions = ", ".join(f"{expression} AS {column}" for expression, column in zip(query.key, columns))
     with catalogue.guarded():
         number = next(catalogue.rows("SELECT count(*) FROM sqlite_temp_master"))[0]
-        catalogue.base.execute(f"CREATE TEMP TABLE keys{number} AS SELECT id, {made} FROM {table} WHERE {query.where}")
+        catalogue.base.execute(f"CREATE TEMP TABLE keys{number} AS SELECT id, {definitions} FROM {table} WHERE {query.where}")
         catalogue.base.execute(f"CREATE INDEX temp.by_key{number} ON keys{number} ({', '.join(columns)})")
     return f"SELECT id FROM temp.keys{number} WHERE {' AND '.join(f'{column} = ?' for column in columns)}"
 
@@ -340,21 +340,21 @@ def _there(basis: str, kinds: Tuple[str, ...], pictures: Iterable[Picture], look
     group = Group(basis, kinds, [])
     places: Dict[object, Dict[object, int]] = {}  # of each file among the members, by device and inode
     further: Dict[int, List[Picture]] = {}
-    for it in pictures:
-        state, (device, inode) = _state(it) if look else ("", (it.device, it.inode))
-        if not state and folders and not folders.is_marked_as(it.path, it.sidecars):
+    for picture in pictures:
+        state, (device, inode) = _state(picture) if look else ("", (picture.device, picture.inode))
+        if not state and folders and not folders.is_marked_as(picture.path, picture.sidecars):
             state = "changed"
         if state:
-            (group.gone if state == "gone" else group.changed).append(it.path)
+            (group.gone if state == "gone" else group.changed).append(picture.path)
             if basis == MAKER_NOTE:
-                group.lost.append(it)
+                group.lost.append(picture)
             continue
         of_device = places.setdefault(device if inode else None, {})
-        at = of_device.setdefault(inode or it.path, len(group.members))
+        at = of_device.setdefault(inode or picture.path, len(group.members))
         if at < len(group.members):
-            further.setdefault(at, []).append(it)
+            further.setdefault(at, []).append(picture)
         else:
-            group.members.append(_shrunk(it, group.members[-1:]))
+            group.members.append(_shrunk(picture, group.members[-1:]))
     for at in sorted(further):
         names = [group.members[at], *further[at]]
         first = group.members[at] = _real(names) if look else names[0]
@@ -387,10 +387,10 @@ def _state(picture: Picture) -> Tuple[str, Tuple[int, int]]:
     return "", (now.st_dev, now.st_ino)
 
 
-def _groups_of(catalogue: Catalogue, found: Group, readings: Readings) -> Iterator[Group]:
+def _groups_of(catalogue: Catalogue, whole: Group, readings: Readings) -> Iterator[Group]:
     """The groups of some pictures: one, or several where their MakerNotes read differently."""
-    split = _by_maker_notes if found.basis == MAKER_NOTE else _by_reading
-    for group in split(found, readings):
+    split = _by_maker_notes if whole.basis == MAKER_NOTE else _by_reading
+    for group in split(whole, readings):
         if group.basis in (MAKER_NOTE, REPAIR):
             _take_one_of_each(group)
         if group.count < 2 or (group.basis == REPAIR and all(None not in it.meanings for it in group.members)):
@@ -400,17 +400,17 @@ def _groups_of(catalogue: Catalogue, found: Group, readings: Readings) -> Iterat
         if first.not_read != "" and group.basis not in (MAKER_NOTE, CODED_PICTURE):
             group.not_read = ", ".join(each_kind(it.what for it in catalogue.not_read_of(first)))
         texts: Dict[str, str] = {}
-        for it in group.members if group.basis in (BYTES, REPAIR) or (group.basis == MAKER_NOTE and group.has_refused) else ():
-            reason = _reason(catalogue, it, group.basis)
-            group.reasons[it.id] = texts.setdefault(reason, reason)
+        for picture in group.members if group.basis in (BYTES, REPAIR) or (group.basis == MAKER_NOTE and group.has_refused) else ():
+            reason = _reason(catalogue, picture, group.basis)
+            group.reasons[picture.id] = texts.setdefault(reason, reason)
         yield group
 
 
 def _take_one_of_each(group: Group) -> None:
     """Leaves in a group one picture of each earlier group, and counts the others."""
     by_key: Dict[Tuple[object, ...], List[Picture]] = {}
-    for it in group.members:
-        by_key.setdefault(_class_of(it, group.kinds), []).append(it)
+    for picture in group.members:
+        by_key.setdefault(_class_of(picture, group.kinds), []).append(picture)
     group.members = [same[0] for same in by_key.values()]
     group.others = {same[0].id: len(same) - 1 for same in by_key.values() if len(same) > 1}
     here = {it.path for it in group.members}
@@ -428,20 +428,20 @@ def _by_reading(group: Group, readings: Readings) -> Iterator[Group]:
     """The group; a group for each reading of the MakerNotes by ExifTool, where they are at different places or in different bytes. Where a
     reading isn't known, a block that was written anew is in no group with others, and its picture is counted."""
     written: Dict[Tuple[str, str], Picture] = {}
-    for it in group.members:
-        written.setdefault(_note_of(it), it)
+    for picture in group.members:
+        written.setdefault(_note_of(picture), picture)
     if len(written) < 2 or EXIF not in group.kinds or group.basis == CODED_PICTURE or not any(place for place, _ in written):
         yield group
         return
     known = readings.of(written.values())
     by_reading: Dict[Tuple[object, object], List[Picture]] = {}
-    for it in group.members:
-        asked = written[_note_of(it)]
-        found = known.get(asked.id)
-        if found is None:
-            readings.count(it, asked)
-        key = (None, _note_of(it)) if found is None else (found.key, it.maker_notes if found.is_in_doubt else "")
-        by_reading.setdefault(key, []).append(it)
+    for picture in group.members:
+        asked = written[_note_of(picture)]
+        reading = known.get(asked.id)
+        if reading is None:
+            readings.count(picture, asked)
+        key = (None, _note_of(picture)) if reading is None else (reading.key, picture.maker_notes if reading.is_in_doubt else "")
+        by_reading.setdefault(key, []).append(picture)
     for pictures in by_reading.values():
         yield _part_of(group, pictures)
 
@@ -451,17 +451,17 @@ def _by_maker_notes(group: Group, readings: Readings) -> Iterator[Group]:
     if len({(_meaning(it), it.not_read, it.maker_notes) for it in [*group.members, *group.lost]}) < 2:
         return
     written: Dict[Tuple[str, str], Picture] = {}
-    for it in group.members:
-        written.setdefault(_note_of(it), it)
+    for picture in group.members:
+        written.setdefault(_note_of(picture), picture)
     known = readings.of(written.values())
     by_reading: Dict[bytes, List[Picture]] = {}
-    for it in group.members:
-        asked = written[_note_of(it)]
-        found = known.get(asked.id)
-        if found is None or found.is_in_doubt:
-            readings.count(it, asked)
+    for picture in group.members:
+        asked = written[_note_of(picture)]
+        reading = known.get(asked.id)
+        if reading is None or reading.is_in_doubt:
+            readings.count(picture, asked)
         else:
-            by_reading.setdefault(found.key, []).append(it)
+            by_reading.setdefault(reading.key, []).append(picture)
     lost = sum(_note_of(it) not in written for it in group.lost)
     if lost:
         readings.unknown[LOST] += lost
@@ -505,21 +505,21 @@ def _note_of(picture: Picture) -> Tuple[str, str]:
 def _reason(catalogue: Catalogue, picture: Picture, basis: str) -> str:
     """Why a picture of a group isn't simply accepted: its refusals, or its repairs."""
     query = "SELECT name, cause, repair FROM blocks WHERE picture = ? AND status != 'accepted' ORDER BY number"
-    found = []
+    reasons = []
     for name, cause, repair in catalogue.rows(query, (picture.id,), lambda row: (*row[:2], steps.unpacked(row[2]))):
         if basis in (REPAIR, MAKER_NOTE) and repair:
-            found.append(f"{name} repaired in memory: {steps.words(repair)}")
+            reasons.append(f"{name} repaired in memory: {steps.words(repair)}")
         else:
-            found.append(f"{name} refused: {cause}")
-    return "; ".join(found) or (picture.problem or "")
+            reasons.append(f"{name} refused: {cause}")
+    return "; ".join(reasons) or (picture.problem or "")
 
 
 def totals(catalogue: Catalogue, kinds: Sequence[str] = KINDS, only: Optional[str] = None, choice: Choice = EVERYTHING) -> Tuple[int, int]:
     """The number of groups, and of pictures in them, by the catalogue alone: no file is looked at, and a link counts as a picture."""
     query = next(_queries([it for it in kinds if it in choice.kinds], only))
     inner = f"SELECT count(*) AS n FROM {_table(catalogue, choice)} WHERE {query.where} GROUP BY {', '.join(query.key)} HAVING n > 1"
-    found = next(catalogue.rows(f"SELECT count(*), ifnull(sum(n), 0) FROM ({inner})"))
-    return int(found[0]), int(found[1])
+    counts = next(catalogue.rows(f"SELECT count(*), ifnull(sum(n), 0) FROM ({inner})"))
+    return int(counts[0]), int(counts[1])
 
 
 def left_out(catalogue: Catalogue, kinds: Sequence[str] = KINDS, only: Optional[str] = None) -> int:
@@ -527,5 +527,5 @@ def left_out(catalogue: Catalogue, kinds: Sequence[str] = KINDS, only: Optional[
     columns = [WORDS[it] for it in kinds]
     where = f"problem IS NULL AND (not_read IS NULL OR {' OR '.join(f'{it} IS NULL' for it in columns)})"
     where += f" AND path IN {only}" if only else ""
-    found: List[Tuple[int, ...]] = list(catalogue.rows(f"SELECT count(*) FROM pictures WHERE {where}"))
-    return found[0][0]
+    rows: List[Tuple[int, ...]] = list(catalogue.rows(f"SELECT count(*) FROM pictures WHERE {where}"))
+    return rows[0][0]

@@ -43,12 +43,12 @@ def keeping(group: Group, reads: bool = True) -> Dict[int, Keep]:
     keys = _keys(members, reads)
     damages = {it.id: it.damage for it in members if it.damage}
     equal: Dict[_Key, List[Picture]] = {}
-    for it in members:
-        if it.id in keys:
-            equal.setdefault(keys[it.id], []).append(it)
-    for key, some in equal.items():
-        if key[0] == "file" and len(some) > 1 and some[0].coded_picture is None:  # nobody has looked whether it is whole
-            damages.update({it.id: damage for damage in [_damage_of(some[0])] if damage for it in some})
+    for picture in members:
+        if picture.id in keys:
+            equal.setdefault(keys[picture.id], []).append(picture)
+    for key, pictures in equal.items():
+        if key[0] == "file" and len(pictures) > 1 and pictures[0].coded_picture is None:  # nobody has looked whether it is whole
+            damages.update({it.id: damage for damage in [_damage_of(pictures[0])] if damage for it in pictures})
     has_unknown = any(it.coded_picture is None and not (keys.get(it.id) and len(equal[keys[it.id]]) > 1) for it in members)
     return {it.id: _keep(it, keys, equal, damages, has_unknown) for it in members}
 
@@ -61,9 +61,9 @@ def _keep(picture: Picture, keys: Dict[int, _Key], equal: Dict[_Key, List[Pictur
     same = equal[keys[picture.id]]
     if len(same) == 1:
         if any(
-            one is not picture and one.coded_picture == picture.coded_picture
-            for some in equal.values()
-            for one in some
+            other is not picture and other.coded_picture == picture.coded_picture
+            for pictures in equal.values()
+            for other in pictures
             if picture.coded_picture
         ):
             return Keep(why=OTHER_BESIDE)
@@ -76,21 +76,21 @@ def _keep(picture: Picture, keys: Dict[int, _Key], equal: Dict[_Key, List[Pictur
 
 def _keys(members: Sequence[Picture], reads: bool) -> Dict[int, _Key]:
     """What is known of each picture: the digest of its coded picture, or else of its file."""
-    found: Dict[int, _Key] = {}
+    keys: Dict[int, _Key] = {}
     sizes = Counter(it.size for it in members if not it.coded_picture)
-    for it in members:
-        if it.damage:
+    for picture in members:
+        if picture.damage:
             continue
-        if it.coded_picture:
-            found[it.id] = ("picture", it.coded_picture + it.beside)
-        elif it.sha256 or it.file:
-            found[it.id] = ("file", it.sha256 or it.file)
-        elif reads and sizes[it.size] > 1:
+        if picture.coded_picture:
+            keys[picture.id] = ("picture", picture.coded_picture + picture.beside)
+        elif picture.sha256 or picture.file:
+            keys[picture.id] = ("file", picture.sha256 or picture.file)
+        elif reads and sizes[picture.size] > 1:
             from ..extract.formats.streams import digest_of_file  # which is seldom needed
 
             with contextlib.suppress(OSError):
-                found[it.id] = ("file", digest_of_file(it.path, 1 << 62))
-    return found
+                keys[picture.id] = ("file", digest_of_file(picture.path, 1 << 62))
+    return keys
 
 
 def _damage_of(picture: Picture) -> str:

@@ -89,9 +89,9 @@ class Pairs:
         self.base.close()
 
     def _open(self, only: Optional[Set[bytes]]) -> None:
-        for base, it in zip(_BASES, self.catalogues):
-            self.base.execute(f"ATTACH ? AS {base}", (address(it.name),))
-            check_schema(self.base, it.name, base)
+        for base, catalogue in zip(_BASES, self.catalogues):
+            self.base.execute(f"ATTACH ? AS {base}", (address(catalogue.name),))
+            check_schema(self.base, catalogue.name, base)
         self.base.executescript(_TABLES)
         self.base.create_function("last", 1, os.path.basename, deterministic=True)
         self.base.create_function("content", 5, _content, deterministic=True)
@@ -218,27 +218,27 @@ class Pairs:
         """The fields of a block; none if they aren't kept, or if there is no block."""
         return self._made(side, fields_of, block) if block else []
 
-    def maker_notes(self, side: int, picture: Picture, made: Callable[[bytes], Made]) -> Optional[Made]:
-        """The result of `made` for what ExifTool read of a picture's MakerNotes, if it was asked."""
-        return self.catalogues[side].maker_notes(picture, made)
+    def maker_notes(self, side: int, picture: Picture, unpack: Callable[[bytes], Made]) -> Optional[Made]:
+        """The result of `unpack` for what ExifTool read of a picture's MakerNotes, if it was asked."""
+        return self.catalogues[side].maker_notes(picture, unpack)
 
     def not_read(self, side: int, picture: Picture) -> List[NotRead]:
         """The parts of a picture that were not read."""
         query = f"SELECT what, digest FROM {_BASES[side]}.not_read WHERE picture = ? ORDER BY number"
         return self._of(side, query, picture, not_read_of_row)
 
-    def _of(self, side: int, query: str, picture: Picture, made: Callable[..., Made]) -> List[Made]:
+    def _of(self, side: int, query: str, picture: Picture, factory: Callable[..., Made]) -> List[Made]:
         with self.catalogues[side].guarded():
-            return [made(row) for row in self.base.execute(query, (picture.id,))]
+            return [factory(row) for row in self.base.execute(query, (picture.id,))]
 
     def _made(self, side: int, make: Callable[..., Made], value: object) -> Made:
         with self.catalogues[side].guarded():
             return make(value)
 
-    def _rows(self, query: str, made: Callable[..., Made]) -> Iterator[Made]:
+    def _rows(self, query: str, factory: Callable[..., Made]) -> Iterator[Made]:
         with self._guarded():
             for row in self.base.execute(query):
-                yield made(row)
+                yield factory(row)
 
 
 def _is_there(alias: str) -> str:
@@ -250,18 +250,18 @@ def _content(size: int, unread: str, *octets: str) -> bytes:
     return hashlib.sha256(repr(content_key(octets, unread, size)).encode("utf-8", "surrogatepass")).digest()
 
 
-def _equal(one: Iterator[Tuple[object, ...]], other: Iterator[Tuple[object, ...]]) -> Iterator[Tuple[object, object]]:
+def _equal(rows: Iterator[Tuple[object, ...]], others: Iterator[Tuple[object, ...]]) -> Iterator[Tuple[object, object]]:
     """The numbers of the rows with equal keys in two sequences that are in the order of their keys, each once.
 
     >>> list(_equal(iter([(1, "a"), (2, "b"), (3, "b")]), iter([(7, "b"), (8, "c")])))
     [(2, 7)]
     """
-    first, second = next(one, None), next(other, None)
+    first, second = next(rows, None), next(others, None)
     while first is not None and second is not None:
         if first[1:] == second[1:]:
             yield first[0], second[0]
-            first, second = next(one, None), next(other, None)
+            first, second = next(rows, None), next(others, None)
         elif first[1:] < second[1:]:
-            first = next(one, None)
+            first = next(rows, None)
         else:
-            second = next(other, None)
+            second = next(others, None)

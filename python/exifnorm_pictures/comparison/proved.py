@@ -21,12 +21,12 @@ def answer(picture: Picture, other: Picture) -> Optional[str]:
     if not picture.type == other.type == "JPEG":
         return None
     try:
-        found = exifnorm.jpeg_same(_head(picture.path), _head(other.path))
+        result = exifnorm.jpeg_same(_head(picture.path), _head(other.path))
     except (exifnorm.PictureRefused, OSError, TooMuch):
         return None
-    if isinstance(found, exifnorm.NotRead):
+    if isinstance(result, exifnorm.NotRead):
         return NOT_WHOLLY_READ
-    return SAME if found else DIFFERENT
+    return SAME if result else DIFFERENT
 
 
 def _head(path: bytes) -> bytes:

@@ -61,15 +61,15 @@ class Readings:
         from ..extract.programs import Missing
 
         wanted = [it for it in pictures if it.id not in self._known] if self.look else []
-        for it in wanted:
-            kept = self.catalogue.maker_notes(it, maker_notes.unpacked)
+        for picture in wanted:
+            kept = self.catalogue.maker_notes(picture, maker_notes.unpacked)
             if kept is not None:
-                self._known[it.id] = Read.of(kept)
+                self._known[picture.id] = Read.of(kept)
         asked = [it for it in wanted if it.id not in self._known]
         with contextlib.suppress(Missing):
             readings = maker_notes.each_reading(self.session, [it.path for it in asked]) if self.session else iter(())
-            for it, found in zip(asked, readings):
-                self._known[it.id] = None if found is None else Read.of(found)
+            for picture, reading in zip(asked, readings):
+                self._known[picture.id] = None if reading is None else Read.of(reading)
         return self._known
 
     def count(self, picture: Picture, asked: Picture) -> None:

@@ -67,16 +67,16 @@ class FieldCount:
             return
         self.came += difference.sign == "+"
         self.changed += difference.sign == "~"
-        found = what(difference)
-        if found.key not in self.values and len(self.values) == VALUES:
+        change = what(difference)
+        if change.key not in self.values and len(self.values) == VALUES:
             self.uncounted += 1
         else:
-            value = self.values.setdefault(found.key, ValueCount(found))
+            value = self.values.setdefault(change.key, ValueCount(change))
             value.count += 1
             value.came += difference.sign == "+"
-            value.is_one = value.is_one and value.first.before == found.before
-        if found.step and (found.step in self.steps or len(self.steps) < VALUES):
-            self.steps[found.step] += 1
+            value.is_one = value.is_one and value.first.before == change.before
+        if change.step and (change.step in self.steps or len(self.steps) < VALUES):
+            self.steps[change.step] += 1
 
     def joined(self, other: FieldCount) -> FieldCount:
         """Both counts together."""
@@ -125,13 +125,13 @@ class Summary:
             names.append((comparison.name, comparison.moved_to or b""))
         equal = [one for one in comparison.changes if one.is_equal_number]
         self.equal_pictures += bool(equal)
-        for one in equal:
-            self._add_equal(one)
+        for change in equal:
+            self._add_equal(change)
         for part in {(one.sign, one.part) for one in comparison.changes if one.part and self._has_parts}:
             self._add_part(*part, [one for one in comparison.changes if (one.sign, one.part) == part])
-        for one in comparison.changes:
-            if not one.is_equal_number and not (one.part and self._has_parts and not _is_labelled(one.name)):
-                self._add_field(self._fields, one)
+        for change in comparison.changes:
+            if not change.is_equal_number and not (change.part and self._has_parts and not _is_labelled(change.name)):
+                self._add_field(self._fields, change)
 
     def _add_equal(self, difference: Difference) -> None:
         self.equal_example = self.equal_example or " -> ".join(map(_number, (difference.before[0], difference.after[0])))
@@ -144,11 +144,11 @@ class Summary:
             return
         part = self.parts.setdefault((sign, name), PartCount(sign, name))
         part.pictures += 1
-        for it in changes:
+        for change in changes:
             if len(part.names) < FIELDS:
-                part.names.add(cut(it.name, LONGEST_NAME))
-            if sign == "+" and not _is_labelled(it.name):
-                self._add_field(part.fields, it)
+                part.names.add(cut(change.name, LONGEST_NAME))
+            if sign == "+" and not _is_labelled(change.name):
+                self._add_field(part.fields, change)
 
     def _add_field(self, counted: Dict[str, FieldCount], difference: Difference) -> None:
         name = cut(difference.name, LONGEST_NAME)
@@ -162,13 +162,13 @@ class Summary:
         """The fields that changed: first those with a label of `captions`, then those of the most pictures. A block that came is counted by itself;
         of its other fields only those are here that are few, or that have one value in all pictures, as after a batch that writes the same into
         each."""
-        found = dict(self._fields)
+        fields = dict(self._fields)
         for part in self.parts.values():
-            for it in part.fields.values():
-                is_batch = part.pictures > 1 and it.came == part.pictures and len(it.values) == 1
+            for count in part.fields.values():
+                is_batch = part.pictures > 1 and count.came == part.pictures and len(count.values) == 1
                 if len(part.names) <= FEW or is_batch:
-                    found[it.name] = found[it.name].joined(it) if it.name in found else it
-        return sorted(found.values(), key=lambda it: (not it.is_labelled, -it.most, it.name))
+                    fields[count.name] = fields[count.name].joined(count) if count.name in fields else count
+        return sorted(fields.values(), key=lambda it: (not it.is_labelled, -it.most, it.name))
 
 
 @functools.lru_cache(maxsize=1)

@@ -89,14 +89,14 @@ def read(name: bytes, how: How, session: Session) -> Picture:
 def compare(picture: Picture, other: Picture, each: bool, session: Optional[Session], choice: Choice = EVERYTHING) -> Comparison:
     """Compares two pictures that were read, by the fields that count. In a session ExifTool is asked for the values of MakerNotes; `each` has a row for
     each that differs."""
-    found = compared_records(picture, other, session, choice)
-    result = Comparison((picture, other), found, is_identical(picture.path, other.path), has_only_fields=bool(choice.only))
+    compared = compared_records(picture, other, session, choice)
+    result = Comparison((picture, other), compared, is_identical(picture.path, other.path), has_only_fields=bool(choice.only))
     if not choice:
-        result.proved = _proved(found, picture, other)
-    if not result.is_identical and found.changes:
-        result.rows = _rows(found.changes)
+        result.proved = _proved(compared, picture, other)
+    if not result.is_identical and compared.changes:
+        result.rows = _rows(compared.changes)
     if not result.is_identical and each:
-        result.rows += _note_rows(found)
+        result.rows += _note_rows(compared)
     return result
 
 
@@ -154,9 +154,9 @@ def _row(difference: Difference) -> Row:
 def with_position(rows: List[Row], picture: Picture, other: Picture) -> List[Row]:
     """The rows with the four fields of a position as one, in degrees, if both positions are known."""
     ours = [
-        it
-        for it in rows
-        if it.differences and it.differences[0].where == "gps" and it.differences[0].key in POSITION and not it.differences[0].block
+        row
+        for row in rows
+        if row.differences and row.differences[0].where == "gps" and row.differences[0].key in POSITION and not row.differences[0].block
     ]
     places = [_position(it) for it in (picture, other)]
     if not ours or places[0] == places[1] or any(place is None and has for place, has in zip(places, map(_has_position, (picture, other)))):

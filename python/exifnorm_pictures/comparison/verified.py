@@ -64,14 +64,14 @@ def verified(before: Catalogue, now: Catalogue, folders: Sequence[bytes]) -> Ite
     with now.guarded():
         now.base.execute("CREATE INDEX pictures_by_sha256 ON pictures (sha256)")
     tops = tuple(it.rstrip(b"/") + b"/" for it in folders)
-    for it in before.pictures():
-        if it.problem in NOT_THERE or not (it.path.startswith(tops) or it.path in folders):
+    for picture in before.pictures():
+        if picture.problem in NOT_THERE or not (picture.path.startswith(tops) or picture.path in folders):
             continue
-        found = _at(now, it.path)
-        if found is None or found.problem in NOT_THERE:
-            yield _gone(before, now, it)
+        there = _at(now, picture.path)
+        if there is None or there.problem in NOT_THERE:
+            yield _gone(before, now, picture)
         else:
-            yield Verified(it.path, *state_of(it, found))
+            yield Verified(picture.path, *state_of(picture, there))
 
 
 def _at(catalogue: Catalogue, path: bytes) -> Optional[Picture]:

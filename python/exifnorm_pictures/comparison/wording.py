@@ -161,15 +161,15 @@ _DATE = re.compile(r"(\d{4})[:-](\d\d)[:-](\d\d)[ T](\d\d):(\d\d)(?::(\d\d))?(.*
 def step(difference: Difference) -> str:
     """How much later or earlier a date is; empty for a field that is no date.
 
-    >>> one, other = (Field("main", "0132", "ASCII", 20, b"2020:01:0%d 10:00:00\\0" % day) for day in (1, 2))
-    >>> step(Difference("main", "0132", (one,), (other,)))
+    >>> first, second = (Field("main", "0132", "ASCII", 20, b"2020:01:0%d 10:00:00\\0" % day) for day in (1, 2))
+    >>> step(Difference("main", "0132", (first,), (second,)))
     '1 day later'
     """
-    found = [_DATE.fullmatch(text_of(side[0]) or "") if len(side) == 1 else None for side in (difference.before, difference.after)]
-    if not found[0] or not found[1] or found[0][7] != found[1][7]:  # with another zone the difference isn't known
+    matches = [_DATE.fullmatch(text_of(side[0]) or "") if len(side) == 1 else None for side in (difference.before, difference.after)]
+    if not matches[0] or not matches[1] or matches[0][7] != matches[1][7]:  # with another zone the difference isn't known
         return ""
     try:
-        first, second = (_time_of(one) for one in found if one)
+        first, second = (_time_of(one) for one in matches if one)
     except ValueError:
         return ""
     if first == second:
@@ -177,9 +177,9 @@ def step(difference: Difference) -> str:
     return f"{_duration(abs(second - first))} {'later' if second > first else 'earlier'}"
 
 
-def _time_of(found: "re.Match[str]") -> datetime:
+def _time_of(match: "re.Match[str]") -> datetime:
     """The time of a date. Raises `ValueError` for one that isn't in the calendar."""
-    year, month, day, hour, minute, second = (int(it or 0) for it in found.groups()[:6])
+    year, month, day, hour, minute, second = (int(it or 0) for it in match.groups()[:6])
     return datetime(year, month, day, hour, minute, second)
 
 

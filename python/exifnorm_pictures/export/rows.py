@@ -41,8 +41,8 @@ class Export:
         """Adds each picture, and then the groups. Prints its progress, unless it is quiet."""
         where = f" WHERE path IN {self.only}" if self.only else ""
         progress = Progress(next(self.catalogue.rows(f"SELECT count(*) FROM pictures{where}"))[0], quiet=quiet)
-        for count, it in enumerate(self.catalogue.pictures(self.only), 1):
-            self._picture(it)
+        for count, picture in enumerate(self.catalogue.pictures(self.only), 1):
+            self._picture(picture)
             progress.done(count)
         for number, group in enumerate(
             groups(self.catalogue, only=self.only, look=bool(self.session), fewest=self.fewest, session=self.session), 1
@@ -65,11 +65,11 @@ class Export:
             self.tables.add("not_read", ((picture.id, at, part.what) for at, part in enumerate(parts)))
 
     def _texts(self, picture: Picture, blocks: Sequence[Tuple[Block, List[Field]]]) -> None:
-        found = texts_of(blocks)
-        self.missing += bool(found.missing)
-        rows = [*_text_rows(found.texts), *((word, *(None,) * 6) for word in sorted(found.missing))]
+        texts = texts_of(blocks)
+        self.missing += bool(texts.missing)
+        rows = [*_text_rows(texts.texts), *((word, *(None,) * 6) for word in sorted(texts.missing))]
         self.tables.add("captions", ((picture.id, at, *row) for at, row in enumerate(rows)))
-        known = [one for one in conflicts(found.texts) if one.kind != ALIKE and one.label not in found.missing]
+        known = [one for one in conflicts(texts.texts) if one.kind != ALIKE and one.label not in texts.missing]
         self.tables.add("conflicts", ((picture.id, one.label, one.kind, one.detail or None) for one in known))
 
 
@@ -142,7 +142,9 @@ _short_row = functools.lru_cache(maxsize=4096)(_row)
 
 def _text_rows(texts: Sequence[LabelText]) -> Iterator[Row]:
     """A row for each text, several of a list."""
-    for it in texts:
-        for text in it.texts:
+    for label_text in texts:
+        for text in label_text.texts:
             if text:
-                yield it.label, it.standard, it.field, it.block or None, text, it.guess or None, int(it.is_own)
+                yield label_text.label, label_text.standard, label_text.field, label_text.block or None, text, label_text.guess or None, int(
+                    label_text.is_own
+                )

@@ -167,21 +167,21 @@ class Tables:
 def tables(file: str) -> Iterator[Tables]:
     """The tables of a new file. A file that is cut short is of no use to anybody, so nothing of it is kept safe."""
     with contextlib.closing(sqlite3.connect(file, isolation_level=None)) as base:
-        for it in (
+        for pragma in (
             f"application_id = {APPLICATION}",
             f"user_version = {VERSION}",
             "journal_mode = OFF",
             "synchronous = OFF",
             f"cache_size = -{_CACHE}",
         ):
-            base.execute(f"PRAGMA {it}")
+            base.execute(f"PRAGMA {pragma}")
         base.set_progress_handler(lambda: 0, STEPS)  # lets Python heed a signal while an index is made
         base.executescript(SCHEMA)
         base.execute("BEGIN")
-        made = Tables(base)
+        written = Tables(base)
         try:
-            yield made
-            made.finish()
+            yield written
+            written.finish()
         except sqlite3.Error as error:
             signals.go_on_stopping()
             if type(error) is sqlite3.DatabaseError:  # as SQLite calls a file of which it can't read what it has written
@@ -198,9 +198,9 @@ def _without_nul(cell: object) -> object:
     return cell.replace("\0", "\\x00") if isinstance(cell, str) else cell
 
 
-def _stored(it: object) -> object:
+def _stored(value: object) -> object:
     """A value that SQLite takes: a text without halves of characters, which a damaged catalogue may have."""
-    return it.encode("utf-8", "backslashreplace").decode("utf-8") if isinstance(it, str) else it
+    return value.encode("utf-8", "backslashreplace").decode("utf-8") if isinstance(value, str) else value
 
 
 def head_is_ours(head: bytes) -> bool:

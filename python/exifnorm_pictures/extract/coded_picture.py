@@ -51,12 +51,12 @@ def of_stream(stream: Stream, budget: Budget) -> CodedPicture:
     beside = hashlib.blake2b(digest_size=32)
     nothing = beside.digest()
     try:
-        found = digest(stream, budget, beside)
+        coded = digest(stream, budget, beside)
     except (NotFollowed, TooMuch, OSError):
         return CodedPicture()
     except Broken as why:
         return CodedPicture(damage=str(why) or "its structure is broken")
-    return CodedPicture(found, "" if beside.digest() == nothing else beside.hexdigest())
+    return CodedPicture(coded, "" if beside.digest() == nothing else beside.hexdigest())
 
 
 def digest(stream: Stream, budget: Budget, beside: "Optional[hashlib.blake2b]" = None) -> str:
@@ -64,25 +64,25 @@ def digest(stream: Stream, budget: Budget, beside: "Optional[hashlib.blake2b]" =
     beside = beside or hashlib.blake2b()
     stream.seek(0)
     head = stream.read(12)
-    found = hashlib.blake2b(digest_size=32)
+    coded = hashlib.blake2b(digest_size=32)
     if head.startswith(jpeg.START):
-        _jpeg(stream, found, budget, beside)
+        _jpeg(stream, coded, budget, beside)
     elif head.startswith(png.START):
-        _png(stream, found, budget, beside)
+        _png(stream, coded, budget, beside)
     elif webp.is_webp(head):
-        _webp(stream, found, budget, beside)
+        _webp(stream, coded, budget, beside)
     elif head[:4] in tiff.HEADS:
-        _tiff(Directories(stream), found, budget, beside)
+        _tiff(Directories(stream), coded, budget, beside)
     elif head[:4] in bigtiff.HEADS:
-        _tiff(bigtiff.BigDirectories(stream), found, budget, beside)
+        _tiff(bigtiff.BigDirectories(stream), coded, budget, beside)
     else:
         return ""
-    return found.hexdigest()
+    return coded.hexdigest()
 
 
-def _add(stream: Stream, found: "hashlib.blake2b", start: int, end: int) -> None:
+def _add(stream: Stream, hasher: "hashlib.blake2b", start: int, end: int) -> None:
     for data in pieces(stream, start, end):
-        found.update(data)
+        hasher.update(data)
 
 
 # JPEG
@@ -92,7 +92,7 @@ _PROFILE, _COMMENT = 0xE2, 0xFE
 _ALONE = frozenset((0x01, *range(0xD0, 0xD8)))  # markers without a segment
 
 
-def _jpeg(stream: Stream, found: "hashlib.blake2b", budget: Budget, beside: "hashlib.blake2b") -> None:
+def _jpeg(stream: Stream, coded: "hashlib.blake2b", budget: Budget, beside: "hashlib.blake2b") -> None:
     head = read_head(stream, 0, budget)
     if head.fault or not head.parts or head.parts[-1][0] != SOS:
         raise Broken(head.fault or f"no scan before {head.end}")
@@ -100,13 +100,13 @@ def _jpeg(stream: Stream, found: "hashlib.blake2b", budget: Budget, beside: "has
         if marker == SOI:
             raise Broken(f"no segment at {start - 2}")
         if marker not in _METADATA and marker not in _ALONE:
-            found.update(head.octets[start - 4 : start + size])
+            coded.update(head.octets[start - 4 : start + size])
         elif marker == _COMMENT or (marker == _PROFILE and head.octets.startswith(b"ICC_PROFILE\0", start)):
             beside.update(head.octets[start - 4 : start + size])
-    _scans(stream, found, head.parts[-1][3] - 4, budget)
+    _scans(stream, coded, head.parts[-1][3] - 4, budget)
 
 
-def _scans(stream: Stream, found: "hashlib.blake2b", at: int, budget: Budget) -> None:
+def _scans(stream: Stream, coded: "hashlib.blake2b", at: int, budget: Budget) -> None:
     """Adds all from the first scan to the end mark but the segments of metadata between the scans."""
     markers = Markers(stream, at, size_of(stream))
     start, passed = at, 0
@@ -118,13 +118,13 @@ def _scans(stream: Stream, found: "hashlib.blake2b", at: int, budget: Budget) ->
         if marker == 0:
             raise Broken("the file ends inside its picture")
         if marker == EOI:
-            _add(stream, found, start, markers.at)
+            _add(stream, coded, start, markers.at)
             return
         if marker >= 0xC0 and marker not in _ALONE and marker != SOI:
             here = markers.at - 2
             markers.pass_over()
             if marker in _METADATA:
-                _add(stream, found, start, here)
+                _add(stream, coded, start, here)
                 start = markers.at
 
 
@@ -138,7 +138,7 @@ _WEBP = frozenset((b"VP8 ", b"VP8L", b"ALPH", b"ANIM", b"ANMF"))
 _MOVES = 0x02  # the bit of VP8X that says so; a picture that doesn't move has VP8X only if it has metadata or ALPH
 
 
-def _png(stream: Stream, found: "hashlib.blake2b", budget: Budget, beside: "hashlib.blake2b") -> None:
+def _png(stream: Stream, coded: "hashlib.blake2b", budget: Budget, beside: "hashlib.blake2b") -> None:
     at, size, last = len(png.START), size_of(stream), b""
     while True:
         budget.spend(CHUNKS)
@@ -150,8 +150,8 @@ def _png(stream: Stream, found: "hashlib.blake2b", budget: Budget, beside: "hash
             return
         if kind in _PNG:
             if kind != b"IDAT" or last != b"IDAT":  # the data of these chunks are one stream
-                found.update(kind if kind == b"IDAT" else kind + head[:4])
-            _add(stream, found, at + 8, at + 8 + length)
+                coded.update(kind if kind == b"IDAT" else kind + head[:4])
+            _add(stream, coded, at + 8, at + 8 + length)
             last = kind
         elif kind in _PNG_COLOURS or (kind in _PNG_TEXTS and not read_at(stream, at + 8, min(length, 17)).startswith(_PNG_METADATA)):
             beside.update(kind + head[:4])
@@ -159,7 +159,7 @@ def _png(stream: Stream, found: "hashlib.blake2b", budget: Budget, beside: "hash
         at += 12 + length
 
 
-def _webp(stream: Stream, found: "hashlib.blake2b", budget: Budget, beside: "hashlib.blake2b") -> None:
+def _webp(stream: Stream, coded: "hashlib.blake2b", budget: Budget, beside: "hashlib.blake2b") -> None:
     end = 8 + int.from_bytes(read_at(stream, 4, 4), "little")
     at = 12
     if end > size_of(stream):
@@ -173,10 +173,10 @@ def _webp(stream: Stream, found: "hashlib.blake2b", budget: Budget, beside: "has
         if head[:4] == b"VP8X":
             flags, *size = read_at(stream, at + 8, min(length, 10)) or b"\0"
             if flags & _MOVES:
-                found.update(head[:4] + bytes(size))
+                coded.update(head[:4] + bytes(size))
         elif head[:4] in _WEBP:
-            found.update(head)
-            _add(stream, found, at + 8, at + 8 + length)
+            coded.update(head)
+            _add(stream, coded, at + 8, at + 8 + length)
         elif head[:4] == b"ICCP":
             _add(stream, beside, at + 8, at + 8 + length)
         at += 8 + length + length % 2
@@ -193,7 +193,7 @@ _TIFF_PROFILE = 0x8773
 _OLD_TABLES = (0x0207, 0x0208, 0x0209)  # of JPEG in TIFF 6.0, whose lengths aren't in the file's directories
 
 
-def _tiff(directories: Directories, found: "hashlib.blake2b", budget: Budget, beside: "hashlib.blake2b") -> None:
+def _tiff(directories: Directories, coded: "hashlib.blake2b", budget: Budget, beside: "hashlib.blake2b") -> None:
     left, strips = directories.size, 0  # strips may share bytes in a made file
     for number, page in enumerate(tiff.Reader(directories, False).pages()):
         by_tag: Dict[int, Entry] = {it.tag: it for it in page.directory.entries}
@@ -203,14 +203,14 @@ def _tiff(directories: Directories, found: "hashlib.blake2b", budget: Budget, be
             raise NotFollowed("old tables of JPEG")
         for tag in _CODING:
             if tag in by_tag:
-                found.update(b"%d:%s " % (tag, _value(directories, by_tag[tag])))
-        for start, end in _joined(_strips(directories, page.directory, by_tag, found)):
+                coded.update(b"%d:%s " % (tag, _value(directories, by_tag[tag])))
+        for start, end in _joined(_strips(directories, page.directory, by_tag, coded)):
             strips += 1
             left -= end - start
             if left < 0 or strips > STRIPS:
                 raise Broken("the strips are more than the file")
             budget.check_time()
-            _add(directories.stream, found, start, end)
+            _add(directories.stream, coded, start, end)
 
 
 def _value(directories: Directories, entry: Entry) -> bytes:
@@ -219,7 +219,7 @@ def _value(directories: Directories, entry: Entry) -> bytes:
     return b",".join(b"%d" % number for number in numbers) if numbers else directories.value(entry)
 
 
-def _strips(directories: Directories, page: Directory, by_tag: Dict[int, Entry], found: "hashlib.blake2b") -> Iterator[Tuple[int, int]]:
+def _strips(directories: Directories, page: Directory, by_tag: Dict[int, Entry], coded: "hashlib.blake2b") -> Iterator[Tuple[int, int]]:
     """The ranges of the strips, tiles and JPEGs of a page, after their lengths, which are added. Raises `Broken`."""
     for tag, of_lengths in _OFFSETS.items():
         if tag not in by_tag:
@@ -227,7 +227,7 @@ def _strips(directories: Directories, page: Directory, by_tag: Dict[int, Entry],
         starts, lengths = (directories.numbers(by_tag[it]) if it in by_tag else [] for it in (tag, of_lengths))
         if len(starts) != len(lengths) or not starts:
             raise Broken(f"the strips of the directory at {page.at} have no lengths")
-        found.update(b"%d:%s " % (of_lengths, b",".join(b"%d" % it for it in lengths)))
+        coded.update(b"%d:%s " % (of_lengths, b",".join(b"%d" % it for it in lengths)))
         for start, length in zip(starts, lengths):
             if start + length > directories.size:
                 raise Broken("a strip isn't in the file")

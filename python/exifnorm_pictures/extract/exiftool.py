@@ -95,17 +95,17 @@ def _members(output: bytes, names: Sequence[bytes]) -> List[Dict[str, str]]:
     if not output.strip():
         return [{} for _ in names]
     try:
-        found = json.loads(output, parse_int=str, parse_float=str)
+        answers = json.loads(output, parse_int=str, parse_float=str)
     except (ValueError, RecursionError):
         raise Failed("ExifTool's answer isn't understood: it is no JSON") from None
-    if not isinstance(found, list) or len(found) != len(names) or not all(isinstance(it, dict) for it in found):
+    if not isinstance(answers, list) or len(answers) != len(names) or not all(isinstance(it, dict) for it in answers):
         raise Failed("ExifTool's answer isn't understood: it isn't one object for each file")
-    for answer, name in zip(found, names):
+    for answer, name in zip(answers, names):
         if answer.pop("SourceFile", None) != name.decode("ascii"):
             raise Failed("ExifTool's answer isn't understood: it is about another file")
         if not all(isinstance(it, str) for it in answer.values()):
             raise Failed("ExifTool's answer isn't understood: a value is neither a text nor a number")
-    return found
+    return answers
 
 
 def _process(session: Session) -> Process:
@@ -202,10 +202,10 @@ def _add_by_exiv2(session: Session, blocks: Blocks, path: bytes) -> None:
     link = os.path.join(folder, f"picture.{blocks.type.lower()}")
     os.symlink(os.path.abspath(path), os.fsencode(link))
     programs.run([programs.needed("exiv2"), "-q", "-ee", "-l", folder, link], session.seconds, folder)
-    made = os.path.join(folder, "picture.exv")
-    found = _exif_of_exiv2(made) if os.path.isfile(made) else b""
-    if found:
-        blocks.add(EXIF, found, f"{blocks.type} file", extractor=EXIV2)
+    file = os.path.join(folder, "picture.exv")
+    block = _exif_of_exiv2(file) if os.path.isfile(file) else b""
+    if block:
+        blocks.add(EXIF, block, f"{blocks.type} file", extractor=EXIV2)
     else:
         blocks.problem, blocks.detail = Problem.TOOL_FAILED, "exiv2 extracted no Exif block from this file"
 
@@ -225,11 +225,11 @@ def add_trailers(session: Session, blocks: Blocks, path: bytes) -> None:
     known = {it.data for it in blocks.found}
     try:
         answer = ask(session, path, _WORDS)
-        found = [(kind, octets(value)) for tag, kind in _TAGS.items() for value in values(answer, tag) if kind != EXIF]
+        in_trailer = [(kind, octets(value)) for tag, kind in _TAGS.items() for value in values(answer, tag) if kind != EXIF]
     except (programs.Missing, programs.Failed):
         blocks.not_read.append(NotRead(UNREAD_TRAILER, ""))
         return
-    for kind, data in found:
+    for kind, data in in_trailer:
         if data not in known:
             blocks.add(kind, data, "trailer", "trailer", EXIFTOOL)
             blocks.extractor = EXIFTOOL

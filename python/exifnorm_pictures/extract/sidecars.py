@@ -50,8 +50,8 @@ class Folder:
                 if _PICTURE_NAME.search(low):
                     self._pictures.setdefault(low, set()).add(low)
                     self._pictures.setdefault(low[: low.rindex(b".")], set()).add(low)
-            for it in sidecars:
-                self._give(it)
+            for sidecar in sidecars:
+                self._give(sidecar)
 
     def _give(self, sidecar: bytes) -> None:
         """Gives a sidecar to its pictures."""
@@ -77,15 +77,15 @@ class Folder:
 
     def of(self, picture: bytes) -> Tuple[Sidecar, ...]:
         """The sidecars of a picture, in a fixed order. The names of their blocks don't depend on that of the picture."""
-        found: List[Sidecar] = []
+        sidecars: List[Sidecar] = []
         counts: Dict[str, int] = {}
         for what, file in sorted(self._of.get(picture.lower(), ())):
             counts[what] = counts.get(what, 0) + 1
-            found.append(Sidecar(what if counts[what] == 1 else f"{ordinal(counts[what])} {what}", file))
+            sidecars.append(Sidecar(what if counts[what] == 1 else f"{ordinal(counts[what])} {what}", file))
         further = self._further.get(picture.lower(), 0)
         if further:
-            found.append(Sidecar(f"{further:,} further {NAME}{'s' * (further > 1)}", b""))
-        return tuple(found)
+            sidecars.append(Sidecar(f"{further:,} further {NAME}{'s' * (further > 1)}", b""))
+        return tuple(sidecars)
 
 
 class Folders:
@@ -115,35 +115,37 @@ class Folders:
 
 
 def _is_as_before(now: str, then: str) -> bool:
-    one, other = now.split(" "), then.split(" ")
-    return one == other or (len(other) == 5 and other[_CHANGED] == str(RACY) and one[:_CHANGED] + one[4:] == other[:_CHANGED] + other[4:])
+    mine, earlier = now.split(" "), then.split(" ")
+    return mine == earlier or (
+        len(earlier) == 5 and earlier[_CHANGED] == str(RACY) and mine[:_CHANGED] + mine[4:] == earlier[:_CHANGED] + earlier[4:]
+    )
 
 
 def add(blocks: Blocks, path: bytes, sidecars: Sequence[Sidecar]) -> None:
     """Adds the sidecars of a picture to its blocks. One that can't be read is named. Raises `TooMuch`."""
     left = LIMITS[XMP_BYTES]
-    for it in sidecars:
-        if not it.file:
-            blocks.name(NotRead(it.block, ""))
+    for sidecar in sidecars:
+        if not sidecar.file:
+            blocks.name(NotRead(sidecar.block, ""))
             continue
-        data = _content(os.path.join(os.path.dirname(path), it.file), min(PACKET_BYTES, left))
+        data = _content(os.path.join(os.path.dirname(path), sidecar.file), min(PACKET_BYTES, left))
         if data is None:
-            blocks.name(NotRead(f"{it.block} that can't be read", ""))
+            blocks.name(NotRead(f"{sidecar.block} that can't be read", ""))
         else:
             left -= len(data)
             blocks.check()
-            blocks.found.append(FoundBlock(XMP, data, it.block, f"file {it.file.decode('utf-8', 'backslashreplace')}"))
+            blocks.found.append(FoundBlock(XMP, data, sidecar.block, f"file {sidecar.file.decode('utf-8', 'backslashreplace')}"))
 
 
 def with_sidecars(digest: str, path: bytes, sidecars: Sequence[Sidecar]) -> str:
     """The digest of a whole file, made into one of the file with its sidecars; empty if one of them can't be read."""
-    found = hashlib.sha256(digest.encode("ascii"))
-    for it in sidecars:
-        data = _content(os.path.join(os.path.dirname(path), it.file), PACKET_BYTES)
+    whole = hashlib.sha256(digest.encode("ascii"))
+    for sidecar in sidecars:
+        data = _content(os.path.join(os.path.dirname(path), sidecar.file), PACKET_BYTES)
         if data is None:
             return ""
-        found.update(hashlib.sha256(data).digest())
-    return found.hexdigest() if digest and sidecars else digest
+        whole.update(hashlib.sha256(data).digest())
+    return whole.hexdigest() if digest and sidecars else digest
 
 
 def _content(path: bytes, most: int) -> Optional[bytes]:
@@ -164,12 +166,12 @@ def marks(path: bytes, sidecars: Sequence[Sidecar], is_racy: Callable[[int, int]
 
     A file for whose mtime and ctime `is_racy` holds may be edited again without another mark; it gets a ctime that no file has.
     """
-    found = []
-    for it in sidecars:
+    lines = []
+    for sidecar in sidecars:
         try:
-            now = Stamp.of(os.stat(os.path.join(os.path.dirname(path), it.file)))
+            now = Stamp.of(os.stat(os.path.join(os.path.dirname(path), sidecar.file)))
         except OSError:
             now = Stamp(0, 0, RACY, 0)
         changed = RACY if is_racy(now.modified, now.changed) else now.changed
-        found.append(f"{it.file.hex()} {now.size} {now.modified} {changed} {now.inode}")
-    return "\n".join(found)
+        lines.append(f"{sidecar.file.hex()} {now.size} {now.modified} {changed} {now.inode}")
+    return "\n".join(lines)

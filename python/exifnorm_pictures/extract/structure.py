@@ -70,14 +70,14 @@ class Walk:
             count = self.two(at)
             there = min(count, (len(block) - at - 2) // 12)
             start = at + 2
-            found = self._pair.iter_unpack(self.block[start : start + 12 * there])
+            rows = self._pair.iter_unpack(self.block[start : start + 12 * there])
             new = tuple.__new__  # a refused block can have thousands of entries, and is walked after each step of its repair
-            entries = [new(Entry, (place, *it)) for place, it in zip(itertools.count(start, 12), found)]
+            entries = [new(Entry, (place, *it)) for place, it in zip(itertools.count(start, 12), rows)]
             following = at + 2 + 12 * count
             self.directories.append(Directory(name, at, entries, following, count, named_at))
-            for it in entries:
-                if (name, it.tag) in LINKS and it.type in (3, 4, 8, 9, 13) and it.elements == 1:
-                    waiting.append((LINKS[name, it.tag], self.number(it), it.place + 8))
+            for entry in entries:
+                if (name, entry.tag) in LINKS and entry.type in (3, 4, 8, 9, 13) and entry.elements == 1:
+                    waiting.append((LINKS[name, entry.tag], self.number(entry), entry.place + 8))
             if name == "main" and following + 4 <= len(block):
                 waiting.append(("thumb", self.four(following), following))
 
@@ -197,14 +197,14 @@ def gaps(block: bytes, covered: List[Tuple[int, int]]) -> List[Gap]:
     >>> gaps(b"ab\\0cd\\0\\0", [(0, 2)])
     [(3, b'cd')]
     """
-    found: List[Gap] = []
+    between: List[Gap] = []
     reached = 0
     for start, after in [*sorted(covered), (len(block), len(block))]:
         if start > reached and (gap := block[reached:start].lstrip(b"\0")):
-            found.append((start - len(gap), gap.rstrip(b"\0")))
+            between.append((start - len(gap), gap.rstrip(b"\0")))
         if after > reached:
             reached = after
-    return found
+    return between
 
 
 _SIZE = tuple(SIZE.get(it, 0) for it in range(130))

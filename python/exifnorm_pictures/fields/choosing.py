@@ -49,8 +49,8 @@ def fits_of(pattern: str) -> Test:
         return lambda where, key, block: True
     if not _WILD.search(folded):
         return lambda where, key, block: folded in names_of(where, key, block) or folded in groups_of(where, key)
-    found = _compiled(folded)
-    return lambda where, key, block: any(map(found.fullmatch, _of_form(folded, names_of(where, key, block))))
+    compiled = _compiled(folded)
+    return lambda where, key, block: any(map(compiled.fullmatch, _of_form(folded, names_of(where, key, block))))
 
 
 def _compiled(folded: str) -> "re.Pattern[str]":
@@ -117,16 +117,16 @@ def _patterns(words: Sequence[str]) -> List[Pattern]:
         return []
     from .labels import fields_by_label, label_of  # which loads the library
 
-    found: List[Pattern] = []
-    for it in dict.fromkeys(words):
-        label = label_of(it)
-        if it in SETS or label:
-            found += [Pattern(one, fits_of(one), label or it) for one in (fields_by_label()[label] if label else SETS[it])]
-        elif not it.strip():
+    patterns: List[Pattern] = []
+    for word in dict.fromkeys(words):
+        label = label_of(word)
+        if word in SETS or label:
+            patterns += [Pattern(one, fits_of(one), label or word) for one in (fields_by_label()[label] if label else SETS[word])]
+        elif not word.strip():
             raise UnknownField("the name of a field is empty")
         else:
-            found.append(Pattern(it, fits_of(it)))
-    return found
+            patterns.append(Pattern(word, fits_of(word)))
+    return patterns
 
 
 class Choice:
@@ -146,9 +146,9 @@ class Choice:
 
     def _kinds(self) -> FrozenSet[str]:
         """The kinds of blocks with fields that count. `Exif`, `IPTC` and `XMP` stand for whole blocks."""
-        found = set().union(*(kinds_of(it.text) for it in self.only)) if self.only else set(NAMES)
+        kinds = set().union(*(kinds_of(it.text) for it in self.only)) if self.only else set(NAMES)
         words = {it.text.casefold().removesuffix(":*") if it.text.casefold() != "xmp:*" else "" for it in self.ignore}
-        return frozenset(it for it in found if NAMES[it].casefold() not in words and "*" not in words)
+        return frozenset(it for it in kinds if NAMES[it].casefold() not in words and "*" not in words)
 
     @property
     def leaves_out_maker_notes(self) -> bool:
@@ -157,17 +157,17 @@ class Choice:
 
     def counts(self, where: str, key: str, block: str = "") -> bool:
         """Whether a field counts. One that stands for more fields than are kept always does."""
-        found = self._known.get((where, key, block))
-        if found is None:
-            found = self._decide(where, key, block)
+        counts = self._known.get((where, key, block))
+        if counts is None:
+            counts = self._decide(where, key, block)
             if len(self._known) < CACHED and len(key) < LONGEST_CACHED:
-                self._known[where, key, block] = found
-        return found
+                self._known[where, key, block] = counts
+        return counts
 
     def _decide(self, where: str, key: str, block: str) -> bool:
         ignored, wanted = ([it for it in some if it.test(where, key, block)] for some in (self.ignore, self.only))
-        for it in (*ignored, *wanted):
-            it.is_seen = True
+        for pattern in (*ignored, *wanted):
+            pattern.is_seen = True
         return is_rest(where, key) or (not ignored and (bool(wanted) or not self.only))
 
     def of(self, fields: Iterable[Field], block: str = "") -> List[Field]:
@@ -176,19 +176,19 @@ class Choice:
 
     def see(self, fields: Iterable[Field], block: str = "") -> None:
         """Notes which patterns fit these fields."""
-        for it in fields:
-            self.counts(it.where, it.key, block)
+        for field in fields:
+            self.counts(field.where, field.key, block)
 
     def see_kind(self, kind: str) -> None:
         """Notes that blocks of a kind are left out as wholes."""
-        for it in (*self.ignore, *self.only):
-            it.is_seen = it.is_seen or kinds_of(it.text) == {kind}
+        for pattern in (*self.ignore, *self.only):
+            pattern.is_seen = pattern.is_seen or kinds_of(pattern.text) == {kind}
 
     def add_left_out(self, names: Iterable[str]) -> None:
         """Notes that these fields differ in a picture and are left out."""
-        for it in {name[:LONGEST_CACHED] for name in names}:
-            if it in self.left_out or len(self.left_out) < MOST_LISTED:
-                self.left_out[it] = self.left_out.get(it, 0) + 1
+        for name in {name[:LONGEST_CACHED] for name in names}:
+            if name in self.left_out or len(self.left_out) < MOST_LISTED:
+                self.left_out[name] = self.left_out.get(name, 0) + 1
 
     def labels(self) -> Dict[str, Tuple[str, ...]]:
         """The labels that were given, each with its fields."""

@@ -81,20 +81,25 @@ def fields_by_label() -> Dict[str, Tuple[str, ...]]:
     >>> fields_by_label()["creator"]
     ('IFD0:Artist', 'IPTC:By-line', 'XMP-dc:creator', 'XMP-tiff:Artist', 'IFD0:XPAuthor')
     """
-    found: Dict[str, List[Tuple[str, str]]] = {}
-    for it in LABELS:
-        places = [("exif" if it.word == DATE else "main", it.exif), ("iptc", it.iptc), ("xmp", it.xmp), ("xmp", _MIRRORS.get(it.exif, ""))]
-        found[it.word] = [(where, key) for where, key in places if key]
-    found[DATE] += [("exif", "9291"), ("exif", "9011"), ("iptc", "2:60")]
-    found[COMMENT] = [("exif", "9286"), ("xmp", "exif:UserComment")]
+    by_label: Dict[str, List[Tuple[str, str]]] = {}
+    for label in LABELS:
+        places = [
+            ("exif" if label.word == DATE else "main", label.exif),
+            ("iptc", label.iptc),
+            ("xmp", label.xmp),
+            ("xmp", _MIRRORS.get(label.exif, "")),
+        ]
+        by_label[label.word] = [(where, key) for where, key in places if key]
+    by_label[DATE] += [("exif", "9291"), ("exif", "9011"), ("iptc", "2:60")]
+    by_label[COMMENT] = [("exif", "9286"), ("xmp", "exif:UserComment")]
     for tag, word in WINDOWS.items():
-        found[word].append(("main", tag))
-    found[POSITION] = [
+        by_label[word].append(("main", tag))
+    by_label[POSITION] = [
         *(("gps", it) for it in _POSITION),
         *(("xmp", f"exif:{plain_name('gps', it)}") for it in ("0002", "0004", "0005", "0006")),
     ]
-    found.update({word: list(fields) for word, fields in PRIVATE.items()})
-    return {word: tuple(group_name(*it) for it in fields) for word, fields in found.items()}
+    by_label.update({word: list(fields) for word, fields in PRIVATE.items()})
+    return {word: tuple(group_name(*it) for it in fields) for word, fields in by_label.items()}
 
 
 def label_of(word: str) -> Optional[str]:
@@ -154,14 +159,14 @@ _IPTC = {it.iptc: it.word for it in LABELS if it.iptc} | {"1:90": "", "2:60": DA
 _XMP = {it.xmp: it.word for it in LABELS if it.xmp}
 
 
-def of_block(found: Iterable[Field]) -> Iterator[LabelText]:
+def of_block(fields: Iterable[Field]) -> Iterator[LabelText]:
     """The texts of a block, by its fields.
 
     >>> [it[:4] for it in of_block([Field("main", "013b", "ASCII", 5, b"Anna\\0")])]
     [('creator', 'Exif', 'IFD0:Artist', ('Anna',))]
     """
-    fields = [it for it in found if word_of(it) is not None]
-    return _of_properties(fields) if fields and fields[0].where == "xmp" else _of_octets_fields(fields)
+    labelled = [it for it in fields if word_of(it) is not None]
+    return _of_properties(labelled) if labelled and labelled[0].where == "xmp" else _of_octets_fields(labelled)
 
 
 def word_of(field: Field) -> Optional[str]:
@@ -191,12 +196,12 @@ def _of_octets_fields(fields: Sequence[Field]) -> Iterator[LabelText]:
     exif: _Values = {}
     record: _Values = {}
     utf8: Set[str] = set()
-    for it in fields:
-        if isinstance(it.value, bytes) and it.where == "iptc":
-            record.setdefault(it.key, []).append(it.value)
-        elif isinstance(it.value, bytes):
-            exif[it.key] = [it.value]
-            utf8.update({it.key} if it.type == "UTF8" else ())
+    for field in fields:
+        if isinstance(field.value, bytes) and field.where == "iptc":
+            record.setdefault(field.key, []).append(field.value)
+        elif isinstance(field.value, bytes):
+            exif[field.key] = [field.value]
+            utf8.update({field.key} if field.type == "UTF8" else ())
     for label in LABELS:
         if label.word == DATE:
             yield from _dates(exif, record)
@@ -262,8 +267,8 @@ def _dates(exif: _Values, record: _Values) -> Iterator[LabelText]:
         yield LabelText(DATE, IPTC, group_name("iptc", "2:55"), (text if text.strip(" -:0+") else "",))
 
 
-def _time(it: "re.Match[str]") -> str:
-    return f" {it[1]}:{it[2]}:{it[3]}" + (f"{it[4]}:{it[5]}" if it[4] else "")
+def _time(match: "re.Match[str]") -> str:
+    return f" {match[1]}:{match[2]}:{match[3]}" + (f"{match[4]}:{match[5]}" if match[4] else "")
 
 
 def _text(values: Optional[Sequence[bytes]]) -> str:
@@ -278,7 +283,10 @@ def _of_properties(fields: Sequence[Field]) -> Iterator[LabelText]:
     by_key = {it.key: tuple(text.strip() for value in it.value for text in texts(value)) for it in fields}  # type: ignore[arg-type]
     for label in LABELS:
         if label.xmp in by_key:
-            some = by_key[label.xmp]
+            values = by_key[label.xmp]
             yield LabelText(
-                label.word, XMP, group_name("xmp", label.xmp), tuple(it.replace("T", " ") for it in some) if label.word == DATE else some
+                label.word,
+                XMP,
+                group_name("xmp", label.xmp),
+                tuple(it.replace("T", " ") for it in values) if label.word == DATE else values,
             )

@@ -171,8 +171,8 @@ def marked_text(field: Field, octets: bytes) -> Optional[Tuple[str, str]]:
         return "utf-16 ", text
     if is_comment(field) and octets[:8] == b"ASCII\0\0\0" and (text := _printable(octets[8:])) is not None:
         return "ascii ", text
-    found = plain_text(octets)
-    return None if found is None else ("", found)
+    plain = plain_text(octets)
+    return None if plain is None else ("", plain)
 
 
 def plain_text(octets: bytes) -> Optional[str]:
@@ -210,15 +210,15 @@ def readable(fields: Iterable[Field], kind: str) -> Iterator[str]:
     """The lines of an exact listing: a line for each directory, and one for each field below it."""
     yield f"{kind}:"
     where = None
-    for it in fields:
-        if it.where != where:
-            where = it.where
-            yield f"  [{group_of(it.where)}]"
-        name = plain_name(it.where, it.key)
+    for field in fields:
+        if field.where != where:
+            where = field.where
+            yield f"  [{group_of(field.where)}]"
+        name = plain_name(field.where, field.key)
         if where == "xmp":
-            yield f"    {name:<35} {it.type:<14} {shortened(exact(it))}"
+            yield f"    {name:<35} {field.type:<14} {shortened(exact(field))}"
             continue
-        yield f"    {it.key:<6} {name:<28} {counted_type(it):<14} {shortened(exact(it))}".rstrip()
+        yield f"    {field.key:<6} {name:<28} {counted_type(field):<14} {shortened(exact(field))}".rstrip()
 
 
 def counted_type(field: Field) -> str:

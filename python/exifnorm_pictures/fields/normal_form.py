@@ -23,23 +23,23 @@ def fields(form: bytes) -> List[Field]:
     each = places(form)
     if len(form) <= _LEAST * FIELDS:
         return _read(form, each)
-    found = _read(form, islice(each, FIELDS))  # 16 MB can be three million DataSets, for which Python needs 1 GB
+    first_fields = _read(form, islice(each, FIELDS))  # 16 MB can be three million DataSets, for which Python needs 1 GB
     if next(each, None) is not None:
-        found.append(Field("iptc", "more", "octets", len(form), Long(digest_of(form), b"")))
-    return found
+        first_fields.append(Field("iptc", "more", "octets", len(form), Long(digest_of(form), b"")))
+    return first_fields
 
 
 def _read(form: bytes, each: Iterable[Place]) -> List[Field]:
-    found: List[Field] = []
+    fields: List[Field] = []
     new = tuple.__new__  # to call the class itself takes twice as long, and a picture has a hundred fields
     for where, tag, kind, elements, at in each:
         if kind in OCTETS:
-            found.append(new(Field, (where, f"{tag:04x}", kind, elements, form[at : at + elements])))
+            fields.append(new(Field, (where, f"{tag:04x}", kind, elements, form[at : at + elements])))
         elif kind == "DATASET":
-            found.append(new(Field, ("iptc", f"{tag >> 8}:{tag & 255}", "octets", elements, form[at : at + elements])))
+            fields.append(new(Field, ("iptc", f"{tag >> 8}:{tag & 255}", "octets", elements, form[at : at + elements])))
         elif kind in ("JPEG", "STRIPS"):  # the thumbnail's JPEG, or each of its strips
             key = "jpeg" if kind == "JPEG" else "strip"
-            found += [Field("thumb", key, "octets", size, form[start : start + size]) for start, size in at]
+            fields += [Field("thumb", key, "octets", size, form[start : start + size]) for start, size in at]
         else:
-            found.append(new(Field, (where, f"{tag:04x}", kind, elements, _READ[kind](form, at, elements))))
-    return found
+            fields.append(new(Field, (where, f"{tag:04x}", kind, elements, _READ[kind](form, at, elements))))
+    return fields

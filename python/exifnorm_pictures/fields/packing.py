@@ -103,8 +103,8 @@ def _json_of_octets(field: Field) -> str:
 def _json_of_others(field: Field) -> str:
     value: Any = field.value
     if field.elements == 1 and field.where != "xmp" and not isinstance(value, Long):
-        one = value[0]
-        return f"[{one[0]},{one[1]}]" if isinstance(one, tuple) else str(one)
+        number = value[0]
+        return f"[{number[0]},{number[1]}]" if isinstance(number, tuple) else str(number)
     value = kept_value(field)
     if isinstance(value, Long):
         return f'["{value.digest}",{_quoted(str(value.begins))}]'
@@ -146,10 +146,10 @@ def unpacked(octets: bytes) -> List[Field]:
         text = octets if octets[:1] == b"[" else opening.decompress(octets, FIELD_BYTES)
         if len(text) > FIELD_BYTES or opening.unconsumed_tail:
             raise Damaged("the fields of a block are too long")
-        found = json.loads(text.decode("ascii"))
-        if not isinstance(found, list) or not all(isinstance(it, list) and [type(one) for one in it[:4]] == _TYPES for it in found):
+        rows = json.loads(text.decode("ascii"))
+        if not isinstance(rows, list) or not all(isinstance(it, list) and [type(one) for one in it[:4]] == _TYPES for it in rows):
             raise Damaged("a list of fields has something else")
-        return [Field(where, key, kind, count, _value(where, kind, count, value)) for where, key, kind, count, value in found]
+        return [Field(where, key, kind, count, _value(where, kind, count, value)) for where, key, kind, count, value in rows]
     except (zlib.error, ValueError, TypeError, RecursionError) as error:
         raise Damaged(f"fields that can't be read: {error}") from error
 

@@ -49,12 +49,12 @@ def decimal(number: Fraction, places: int = 4) -> str:
     return "0" if text == "-0" else text
 
 
-def number(field: Field, made: Callable[[Fraction], Optional[str]]) -> Optional[str]:
+def number(field: Field, words: Callable[[Fraction], Optional[str]]) -> Optional[str]:
     """The plain form of a single number."""
-    found = fractions(field)
-    if found is None or len(found) != 1:
+    ratios = fractions(field)
+    if ratios is None or len(ratios) != 1:
         return None
-    return UNKNOWN if found[0] is None else made(found[0])
+    return UNKNOWN if ratios[0] is None else words(ratios[0])
 
 
 def with_unit(unit: str, places: int = 4) -> Rule:
@@ -98,10 +98,10 @@ def exposure_value(field: Field) -> Optional[str]:
 
 def degrees(field: Field) -> Optional[Fraction]:
     """An angle of degrees, minutes and seconds as degrees."""
-    found = fractions(field)
-    if found is None or len(found) != 3 or None in found:
+    parts = fractions(field)
+    if parts is None or len(parts) != 3 or None in parts:
         return None
-    return sum(((one or Fraction(0)) / Fraction(60) ** place for place, one in enumerate(found)), Fraction(0))
+    return sum(((one or Fraction(0)) / Fraction(60) ** place for place, one in enumerate(parts)), Fraction(0))
 
 
 def angle(field: Field) -> Optional[str]:
@@ -110,29 +110,29 @@ def angle(field: Field) -> Optional[str]:
     >>> angle(Field("gps", "0002", "RATIONAL", 3, ((46, 1), (1213, 100), (0, 1))))
     '46°12\\'7.8"'
     """
-    found = degrees(field)
-    if found is None:
+    value = degrees(field)
+    if value is None:
         return None
-    hundredths = round(found * 360000)
+    hundredths = round(value * 360000)
     return f"{hundredths // 360000}°{hundredths // 6000 % 60:02}'{decimal(Fraction(hundredths % 6000, 100), 2)}\""
 
 
 def clock(field: Field) -> Optional[str]:
     """GPSTimeStamp."""
-    found = fractions(field)
-    if found is None or len(found) != 3 or None in found:
+    parts = fractions(field)
+    if parts is None or len(parts) != 3 or None in parts:
         return None
-    hours, minutes, rest = (one or Fraction(0) for one in found)
+    hours, minutes, rest = (one or Fraction(0) for one in parts)
     whole, part = divmod(rest, 1)
     return f"{int(hours):02}:{int(minutes):02}:{int(whole):02}{decimal(part, 3)[1:] if part else ''} UTC"
 
 
 def lens(field: Field) -> Optional[str]:
     """LensSpecification: the least and greatest focal length, and the f-number at each."""
-    found = fractions(field)
-    if found is None or len(found) != 4:
+    ratios = fractions(field)
+    if ratios is None or len(ratios) != 4:
         return None
-    words = ["?" if one is None else decimal(one, 1) for one in found]
+    words = ["?" if one is None else decimal(one, 1) for one in ratios]
     length = words[0] if words[0] == words[1] else f"{words[0]}-{words[1]}"
     opening = words[2] if words[2] == words[3] else f"{words[2]}-{words[3]}"
     return f"{length} mm" + ("" if opening in ("?", "0") else f" f/{opening}")

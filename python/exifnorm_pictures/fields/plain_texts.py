@@ -104,13 +104,13 @@ def plain_xmp(field: Field) -> str:
     >>> plain_xmp(Field("xmp", "dc:title", "Alt", 2, (Array("Alt", (Literal("Vase", "x-default"), Literal("Krug", "de"))),)))
     'Vase (x-default); Krug (de)'
     """
-    found = xmp_texts(field)
-    if found is None:
+    texts = xmp_texts(field)
+    if texts is None:
         return shortened(exact(field))
-    languages = {language for _, language in found if language}
+    languages = {language for _, language in texts if language}
     if languages <= {"x-default"}:
-        return "; ".join(text for text, _ in found)
-    return "; ".join(f"{text} ({language})" if language else text for text, language in found)
+        return "; ".join(text for text, _ in texts)
+    return "; ".join(f"{text} ({language})" if language else text for text, language in texts)
 
 
 def quoted_xmp(field: Field) -> str:
@@ -120,8 +120,8 @@ def quoted_xmp(field: Field) -> str:
     >>> quoted_xmp(Field("xmp", "dc:title", "Alt", 2, (Array("Alt", (Literal("Vase", "x-default"), Literal("Krug", "de"))),)))
     '"Vase" (x-default), "Krug" (de)'
     """
-    found = xmp_texts(field)
-    if found is None:
+    texts = xmp_texts(field)
+    if texts is None:
         return shortened(exact(field))
-    shows_language = not {language for _, language in found if language} <= {"x-default"}
-    return ", ".join(quoted(text) + (f" ({language})" if shows_language and language else "") for text, language in found) or EMPTY
+    shows_language = not {language for _, language in texts if language} <= {"x-default"}
+    return ", ".join(quoted(text) + (f" ({language})" if shows_language and language else "") for text, language in texts) or EMPTY

@@ -176,9 +176,9 @@ def _without_words(field: Field) -> str:
         text = exact(field)
         digest = text.rpartition("sha256:")[2][:8]
         return f"{field.elements:,} bytes (SHA-256 {digest}..)" if "sha256:" in text else text
-    found = fractions(field)
-    if found and field.type in numbers.RATIOS:
-        return ", ".join(numbers.UNKNOWN if one is None else decimal(one) for one in found)
+    ratios = fractions(field)
+    if ratios and field.type in numbers.RATIOS:
+        return ", ".join(numbers.UNKNOWN if one is None else decimal(one) for one in ratios)
     return shortened(exact(field))
 
 
@@ -190,16 +190,16 @@ def position(fields: Dict[str, Field]) -> Optional[str]:
     """The position of the GPS directory in degrees, of its fields by tag; None if a part is missing.
 
     >>> angles = {"0002": ((46, 1), (30, 1), (0, 1)), "0004": ((7, 1), (1213, 100), (0, 1))}
-    >>> some = {key: Field("gps", key, "RATIONAL", 3, value) for key, value in angles.items()}
-    >>> position({**some, "0001": Field("gps", "0001", "ASCII", 2, b"N\\0"), "0003": Field("gps", "0003", "ASCII", 2, b"E\\0")})
+    >>> halves = {key: Field("gps", key, "RATIONAL", 3, value) for key, value in angles.items()}
+    >>> position({**halves, "0001": Field("gps", "0001", "ASCII", 2, b"N\\0"), "0003": Field("gps", "0003", "ASCII", 2, b"E\\0")})
     '46.500000° N, 7.202167° E'
     """
     words = []
     for letter, angle in _HALVES:
         if letter not in fields or angle not in fields:
             return None
-        found, name = degrees(fields[angle]), text_of(fields[letter])
-        if found is None or name not in ("N", "S", "E", "W"):
+        value, name = degrees(fields[angle]), text_of(fields[letter])
+        if value is None or name not in ("N", "S", "E", "W"):
             return None
-        words.append(f"{float(found):.6f}° {name}")
+        words.append(f"{float(value):.6f}° {name}")
     return ", ".join(words)

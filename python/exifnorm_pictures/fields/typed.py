@@ -36,17 +36,17 @@ def value_of(field: Field) -> Value:
         return _of_xmp(field.value)  # type: ignore[arg-type]
     if not isinstance(field.value, bytes):
         return _one_or_all(_numbers(field))
-    found = _of_octets(field, field.value)
-    text = found.strip("\0 ") if isinstance(found, str) else ""
+    value = _of_octets(field, field.value)
+    text = value.strip("\0 ") if isinstance(value, str) else ""
     if (field.where, field.key) in _DATES:
-        return _moment(text, "%Y:%m:%d %H:%M:%S") or found
+        return _moment(text, "%Y:%m:%d %H:%M:%S") or value
     if field.where == "iptc" and field.key in _DATASET_DATES:
         day = _moment(text, "%Y%m%d")
-        return day.date() if day else found
+        return day.date() if day else value
     if field.where == "iptc" and field.key in _DATASET_TIMES:
         moment = _moment(text, "%H%M%S%z") or _moment(text, "%H%M%S")
-        return moment.timetz() if moment else found
-    return found
+        return moment.timetz() if moment else value
+    return value
 
 
 def typed(field: Field) -> Any:
@@ -62,10 +62,10 @@ def typed(field: Field) -> Any:
         return _json_of_xmp(field)
     if isinstance(value, Long):
         return {"sha256": value.digest, "count": field.elements}
-    found = _of_octets(field, value) if isinstance(value, bytes) else _one_or_all(_numbers(field))
-    if isinstance(found, bytes):
-        return {"hex": found.hex()}
-    return [_json_number(one) for one in found] if isinstance(found, tuple) else _json_number(found)
+    result = _of_octets(field, value) if isinstance(value, bytes) else _one_or_all(_numbers(field))
+    if isinstance(result, bytes):
+        return {"hex": result.hex()}
+    return [_json_number(one) for one in result] if isinstance(result, tuple) else _json_number(result)
 
 
 def together(fields: Sequence[Field]) -> Any:
@@ -73,10 +73,10 @@ def together(fields: Sequence[Field]) -> Any:
     return typed(fields[0]) if len(fields) == 1 else [typed(it) for it in fields]
 
 
-def _json_number(it: Any) -> Any:
-    if isinstance(it, Fraction):
-        return int(it) if it.denominator == 1 else float(it)
-    return None if isinstance(it, float) and not math.isfinite(it) else it
+def _json_number(number: Any) -> Any:
+    if isinstance(number, Fraction):
+        return int(number) if number.denominator == 1 else float(number)
+    return None if isinstance(number, float) and not math.isfinite(number) else number
 
 
 def _one_or_all(values: Sequence[Value]) -> Value:
@@ -178,11 +178,11 @@ def _one_of_xmp(value: XmpValue) -> Value:
 
 def _json_of_xmp(field: Field) -> Any:
     """A text, a list of texts, or a list of texts with their languages."""
-    found = xmp_texts(field._replace(value=kept_value(field)))
-    if found is None:
+    pairs = xmp_texts(field._replace(value=kept_value(field)))
+    if pairs is None:
         long = [one for one in kept_value(field) if isinstance(one, Long)]
         return {"sha256": long[0].digest, "count": field.elements} if long else None
-    if any(language for _, language in found):
-        return [{"text": text, "language": language or None} for text, language in found]
-    texts = [text for text, _ in found]
+    if any(language for _, language in pairs):
+        return [{"text": text, "language": language or None} for text, language in pairs]
+    texts = [text for text, _ in pairs]
     return texts[0] if field.type in ("text", "URI") and len(texts) == 1 else texts

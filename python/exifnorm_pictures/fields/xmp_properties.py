@@ -14,14 +14,14 @@ WHERE = "xmp"
 LONGEST_STRUCTURE = 400  # characters of the exact form of a value without texts that is kept whole
 
 
-def fields(found: Statements) -> List[Field]:
+def fields(statements: Statements) -> List[Field]:
     """A field for each property, by its name.
 
     >>> fields((Statement("http://purl.org/dc/elements/1.1/format", Literal("image/jpeg")),))
     [Field(where='xmp', key='dc:format', type='text', elements=1, value=(Literal(text='image/jpeg', language='', datatype=''),))]
     """
     by_property: Dict[str, List[Value]] = {}
-    for predicate, value in unique(found):
+    for predicate, value in unique(statements):
         by_property.setdefault(short_name(predicate), []).append(value)
     return [_field(name, values) for name, values in sorted(by_property.items())]
 
@@ -42,12 +42,12 @@ def _form(value: Value) -> Tuple[str, int]:
 
 def _kept(value: Value) -> XmpValue:
     """A value; of a long structure, which has no text that a reader shows, its beginning and a digest."""
-    found = _value(value)
-    if isinstance(value, Node) and not texts(found):
-        text = exact(found)
+    kept = _value(value)
+    if isinstance(value, Node) and not texts(kept):
+        text = exact(kept)
         if len(text) > LONGEST_STRUCTURE:
             return Long(hashlib.sha256(key_of(value).encode("utf-8", "surrogatepass")).hexdigest()[:DIGITS], text[:60])
-    return found
+    return kept
 
 
 def _value(value: Value) -> XmpValue:
@@ -68,9 +68,9 @@ def _place(statement: Statement) -> Tuple[int, str]:
     return len(statement.predicate), statement.predicate
 
 
-def _name(it: Tuple[str, XmpValue]) -> str:
-    return it[0] + "="
+def _name(member: Tuple[str, XmpValue]) -> str:
+    return member[0] + "="
 
 
-def _name_and_value(it: Tuple[str, XmpValue]) -> str:
-    return f"{it[0]}={exact(it[1])}"
+def _name_and_value(member: Tuple[str, XmpValue]) -> str:
+    return f"{member[0]}={exact(member[1])}"

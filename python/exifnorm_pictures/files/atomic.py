@@ -85,10 +85,10 @@ def _check(out: bytes, allowed: Callable[[bytes], bool], kept: Tuple[str, ...]) 
         return
     if not stat.S_ISREG(now.st_mode):
         raise NotReplaced("it is there, and is no regular file")
-    for it in kept:
+    for catalogue in kept:
         with contextlib.suppress(OSError):
-            if os.path.samestat(os.stat(it), now):
-                raise NotReplaced(f"it is the catalogue {it}")
+            if os.path.samestat(os.stat(catalogue), now):
+                raise NotReplaced(f"it is the catalogue {catalogue}")
     with opening.reading(out) as file:
         head = file.read(100)
     if head and not allowed(head):

@@ -45,8 +45,8 @@ def _interrupt(number: int, _: Optional[FrameType]) -> None:
 
 
 def _stop(number: int, _: Optional[FrameType]) -> None:
-    for it in SIGNALS:
-        signal.signal(it, signal.SIG_IGN)  # the run is cleaning up
+    for signum in SIGNALS:
+        signal.signal(signum, signal.SIG_IGN)  # the run is cleaning up
     global _stopped
     _stopped = Stopped(number)
     raise _stopped
@@ -54,9 +54,9 @@ def _stop(number: int, _: Optional[FrameType]) -> None:
 
 def heed_signals() -> None:
     """From now on a signal unwinds the run, so that it removes folders and ends programs. Ignored signals stay ignored."""
-    for it in SIGNALS:
-        if signal.getsignal(it) == signal.SIG_DFL:
-            signal.signal(it, _stop)
+    for signum in SIGNALS:
+        if signal.getsignal(signum) == signal.SIG_DFL:
+            signal.signal(signum, _stop)
     if signal.getsignal(signal.SIGINT) in (signal.default_int_handler, signal.SIG_DFL):
         signal.signal(signal.SIGINT, _interrupt)
 
@@ -111,8 +111,8 @@ def drop(stream: Optional[IO[str]]) -> None:
 def end_children() -> None:
     """Ends all processes that look at pictures, with their programs, which the system ends with them."""
     multiprocessing = sys.modules.get("multiprocessing")  # imported only where there are several processes
-    for it in multiprocessing.active_children() if multiprocessing else ():
-        it.kill()
+    for child in multiprocessing.active_children() if multiprocessing else ():
+        child.kill()
 
 
 def trace(error: BaseException) -> None:

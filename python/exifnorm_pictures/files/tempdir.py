@@ -39,11 +39,11 @@ def room() -> Iterator[str]:
 def _sweep(base: str) -> None:
     """Removes the folders of runs that were killed: those that `room` has made for this user, with a lock that no process has."""
     with contextlib.suppress(OSError), os.scandir(base) as entries:
-        for it in entries:
-            if _NAME.fullmatch(it.name):
+        for entry in entries:
+            if _NAME.fullmatch(entry.name):
                 with contextlib.suppress(OSError):
-                    if _is_own(it.stat(follow_symlinks=False)) and _is_dead(it.path):
-                        shutil.rmtree(it.path, ignore_errors=True)
+                    if _is_own(entry.stat(follow_symlinks=False)) and _is_dead(entry.path):
+                        shutil.rmtree(entry.path, ignore_errors=True)
 
 
 def _is_own(status: os.stat_result) -> bool:

@@ -29,8 +29,8 @@ def judge(kind: str, block: bytes, packs: bool = False, at: FoundBlock = _BY_ITS
     try:
         form = exifnorm.normal(block)
     except exifnorm.Refused as refused:
-        found = Block(kind, *at[2:5], REFUSED, None, refused.cause, refused.place, len(block), octets)
-        return _repaired(found, block, packs, budget) if kind == EXIF else found
+        result = Block(kind, *at[2:5], REFUSED, None, refused.cause, refused.place, len(block), octets)
+        return _repaired(result, block, packs, budget) if kind == EXIF else result
     except exifnorm.NormalTooLong:
         return Block(kind, *at[2:5], TOO_LONG, None, "NormalTooLong", None, len(block), octets)
     except MemoryError:
@@ -47,15 +47,15 @@ def _with_fields(block: Block, fields: Fields, packs: bool) -> Block:
     return block._replace(packed=kept.octets, but_note=kept.but_note)
 
 
-def _repaired(it: Block, block: bytes, packs: bool, budget: Optional[Budget]) -> Block:
+def _repaired(refused: Block, block: bytes, packs: bool, budget: Optional[Budget]) -> Block:
     """A refused block with what a repair makes of it."""
     from . import repairs  # which takes long to import, and few blocks are refused
 
-    found = repairs.repaired(block, budget)
-    if found is None:
-        return it
-    known = it._replace(repair=steps.packed(found.steps), repaired=hashlib.sha256(found.form).hexdigest())
-    return _with_fields(known, Fields(found.form), packs)
+    repair = repairs.repaired(block, budget)
+    if repair is None:
+        return refused
+    known = refused._replace(repair=steps.packed(repair.steps), repaired=hashlib.sha256(repair.form).hexdigest())
+    return _with_fields(known, Fields(repair.form), packs)
 
 
 def _says_nothing(block: FoundBlock) -> bool:
@@ -74,10 +74,10 @@ def _with_notes(block: Block, at: FoundBlock, blocks: Blocks) -> Block:
     """An Exif block with the place of its MakerNote; the bytes that only it can reach are noted as not read."""
     if not structure.may_have_notes(at.data):
         return block
-    found = structure.notes(at.data)
-    if found.uncovered:
-        blocks.leave(found.words + ("" if block.name == NAMES[EXIF] else f" ({block.name})"), found.octets)
-    return block if found.place is None else block._replace(note=found.place if at.note is None else at.note)
+    notes = structure.notes(at.data)
+    if notes.uncovered:
+        blocks.leave(notes.words + ("" if block.name == NAMES[EXIF] else f" ({block.name})"), notes.octets)
+    return block if notes.place is None else block._replace(note=notes.place if at.note is None else at.note)
 
 
 def judge_all(blocks: Blocks, packs: bool = False) -> List[Block]:
@@ -88,30 +88,30 @@ def judge_all(blocks: Blocks, packs: bool = False) -> List[Block]:
     none = xmp.Extensions({}, blocks.budget)
     known: Dict[Tuple[str, bytes], Block] = {}
     many = len(blocks.found) > FEW
-    found: List[Block] = []
+    judged: List[Block] = []
     kept = 0
-    for it in blocks.found:
-        if it.extends:
+    for at in blocks.found:
+        if at.extends:
             continue
-        block = known.get((it.kind, it.data)) if many else None
+        block = known.get((at.kind, at.data)) if many else None
         if block is not None:
             kept += len(block.packed or b"")
-            note = block.note if it.note is None else it.note
-            found.append(_within(block._replace(name=it.name, source=it.where, extractor=it.extractor, note=note), kept))
+            note = block.note if at.note is None else at.note
+            judged.append(_within(block._replace(name=at.name, source=at.where, extractor=at.extractor, note=note), kept))
             continue
-        if it.kind == XMP and not it.data.startswith(COMPRESSED):
-            block = extended.judge(it, packs) if extended else _judge_xmp(it, none, {}, packs)
+        if at.kind == XMP and not at.data.startswith(COMPRESSED):
+            block = extended.judge(at, packs) if extended else _judge_xmp(at, none, {}, packs)
         else:
-            block = judge(it.kind, it.data, packs, it, blocks.budget)
-            if it.kind == EXIF and (block.digest or block.repaired):
-                block = _with_notes(block, it, blocks)
+            block = judge(at.kind, at.data, packs, at, blocks.budget)
+            if at.kind == EXIF and (block.digest or block.repaired):
+                block = _with_notes(block, at, blocks)
         if many:  # pages of a TIFF can share a value
             blocks.budget.check_time()
-            known[it.kind, it.data] = block
+            known[at.kind, at.data] = block
         kept += len(block.packed or b"")
-        found.append(_within(block, kept))
-    found = _all_within(found) if packs else found
-    return found + extended.not_named() if extended else found
+        judged.append(_within(block, kept))
+    judged = _all_within(judged) if packs else judged
+    return judged + extended.not_named() if extended else judged
 
 
 def _within(block: Block, kept: int) -> Block:
@@ -123,13 +123,13 @@ def _all_within(blocks: List[Block]) -> List[Block]:
     """The blocks without the packed fields of those from which on all of them, unpacked, are more than are kept of a picture."""
     if sum(len(it.packed or b"") for it in blocks) * _INFLATES <= KEPT_BYTES:  # as of nearly each picture
         return blocks
-    found: List[Block] = []
+    within: List[Block] = []
     kept = 0
-    for it in blocks:
-        is_long = it.packed is not None and not is_short(it.packed)
-        kept += length(it.packed or b"") if is_long and kept <= KEPT_BYTES else 0
-        found.append(_within(it, kept) if is_long else it)
-    return found
+    for block in blocks:
+        is_long = block.packed is not None and not is_short(block.packed)
+        kept += length(block.packed or b"") if is_long and kept <= KEPT_BYTES else 0
+        within.append(_within(block, kept) if is_long else block)
+    return within
 
 
 class _Extended:
@@ -138,8 +138,8 @@ class _Extended:
     def __init__(self, blocks: Blocks) -> None:
         self.found = [it for it in blocks.found if it.extends]
         self.every: Dict[str, Dict[str, bytes]] = {}
-        for it in self.found:
-            self.every.setdefault(_part(it), {}).setdefault(it.extends, it.data)
+        for at in self.found:
+            self.every.setdefault(_part(at), {}).setdefault(at.extends, at.data)
         self.remaining = {part: dict(some) for part, some in self.every.items()}
         self.named = {part: xmp.Extensions(some, blocks.budget) for part, some in self.every.items()}
         self.none = xmp.Extensions({}, blocks.budget)
@@ -177,13 +177,13 @@ def _judge_xmp(at: FoundBlock, extensions: xmp.Extensions, left: Dict[str, bytes
     except xmp.Unreadable as error:
         statements, cause = None, error.cause
     octets = hashlib.sha256(at.data)
-    for it in sorted(used):
-        octets.update(extensions.data.get(it, b""))
-        left.pop(it, None)
+    for name in sorted(used):
+        octets.update(extensions.data.get(name, b""))
+        left.pop(name, None)
     if statements is None:
         return _unreadable(XMP, at, len(at.data), octets.hexdigest(), cause)
-    found = Block(XMP, *at[2:5], ACCEPTED, xmp.digest(statements), None, None, len(at.data), octets.hexdigest())
-    return _with_fields(found, Fields(statements), packs)
+    result = Block(XMP, *at[2:5], ACCEPTED, xmp.digest(statements), None, None, len(at.data), octets.hexdigest())
+    return _with_fields(result, Fields(statements), packs)
 
 
 def _unreadable(kind: str, at: FoundBlock, length: int, octets: str, cause: str) -> Block:

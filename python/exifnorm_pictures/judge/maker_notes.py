@@ -78,8 +78,8 @@ def _asked(session: Session, paths: Sequence[bytes]) -> List[Reading]:
     warned = [number for number, some in enumerate(warnings) if some]
     if warned:
         others = exiftool.ask_several(session, [paths[number] for number in warned], (), (*_WARNINGS, _WITHOUT))
-        for number, it in zip(warned, others):
-            warnings[number] = sorted((Counter(warnings[number]) - Counter(it.values())).elements())
+        for number, answer in zip(warned, others):
+            warnings[number] = sorted((Counter(warnings[number]) - Counter(answer.values())).elements())
     return [Reading(_values(it), tuple(some)) for it, some in zip(answers, warnings)]
 
 
@@ -94,11 +94,11 @@ def _values(answer: Dict[str, str]) -> Values:
 def each_reading(session: Session, paths: Sequence[bytes]) -> Iterator[Optional[Reading]]:
     """What ExifTool reads of the MakerNotes of each file; None for one at which it fails. Raises `programs.Missing`."""
     for at in range(0, len(paths), MANY):
-        some = paths[at : at + MANY]
+        chunk = paths[at : at + MANY]
         try:
-            yield from _asked(session, some)
+            yield from _asked(session, chunk)
         except programs.Failed:
-            yield from (_by_itself(session, path) for path in some)
+            yield from (_by_itself(session, path) for path in chunk)
 
 
 def _by_itself(session: Session, path: bytes) -> Optional[Reading]:
@@ -150,11 +150,11 @@ class Compared(NamedTuple):
 def compared(session: Session, sides: Sides, picture: Picture, other: Picture) -> Optional[Compared]:
     """Two pictures compared; None if a reading isn't known: a file has changed since, or there is no ExifTool."""
     known: Dict[int, Reading] = {}
-    for number, it in enumerate((picture, other)):
-        kept = sides.maker_notes(number, it, unpacked)
+    for number, side in enumerate((picture, other)):
+        kept = sides.maker_notes(number, side, unpacked)
         if kept is not None:
             known[number] = kept
-        elif not is_there(it):
+        elif not is_there(side):
             return None
     missing = [number for number in (0, 1) if number not in known]
     try:
@@ -162,8 +162,8 @@ def compared(session: Session, sides: Sides, picture: Picture, other: Picture) -
     except (programs.Failed, programs.Missing):
         return None
     first, second = known[0], known[1]
-    found = differences(first.values, second.values)
-    return Compared(found) if found else Compared([], second.doubt or first.doubt, first.warnings != second.warnings)
+    changes = differences(first.values, second.values)
+    return Compared(changes) if changes else Compared([], second.doubt or first.doubt, first.warnings != second.warnings)
 
 
 def is_there(picture: Picture) -> bool:

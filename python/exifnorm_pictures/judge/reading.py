@@ -56,14 +56,14 @@ class Reading:
     def texts(self) -> List[LabelText]:
         """The texts by label, in the order of the standards. Those of a refused block are read after its repair, if one is known."""
         if self._texts is None:
-            found = [
-                it._replace(block="" if block.name == NAMES[block.kind] else block.name)
+            texts = [
+                text._replace(block="" if block.name == NAMES[block.kind] else block.name)
                 for block in self.blocks
-                for it in of_block(fields_of(block))
+                for text in of_block(fields_of(block))
             ]
             cameras = (camera_of(fields_of(block)) for block in self.blocks if block.kind == EXIF)
             camera = next(filter(any, cameras), ("", ""))
-            self._texts = with_own(sorted(found, key=lambda it: STANDARDS.index(it.standard)), *camera)
+            self._texts = with_own(sorted(texts, key=lambda it: STANDARDS.index(it.standard)), *camera)
         return self._texts
 
     def found(self, block: Block) -> FoundBlock:

@@ -93,11 +93,11 @@ def _changed_value(original: bytes, now: bytes, walk: Walk, budget: Budget) -> _
                 return True
         return False
 
-    for it in walk.directories:
-        for one in it.entries:
-            if one.tag not in _POINTERS and not had(it.name, one):
-                what = f"tag {one.tag:04x}, whose value other steps would change, left out"
-                return _without(now, walk, it, one.place), what, *_value(it, one)
+    for directory in walk.directories:
+        for entry in directory.entries:
+            if entry.tag not in _POINTERS and not had(directory.name, entry):
+                what = f"tag {entry.tag:04x}, whose value other steps would change, left out"
+                return _without(now, walk, directory, entry.place), what, *_value(directory, entry)
     pictures = old.pictures()
     if all(any(one.startswith(it) for one in pictures) for it in walk.pictures()):
         return None
@@ -134,12 +134,12 @@ def _put(block: bytes, walk: Walk, place: int, number: int) -> bytearray:
 
 def _unsorted(block: bytes, walk: Walk) -> _Done:
     out = bytearray(block)
-    for it in walk.directories:
-        if it.is_whole:
+    for directory in walk.directories:
+        if directory.is_whole:
             rows = sorted(
-                (block[one.place : one.place + 12] for one in it.entries), key=lambda row: struct.unpack(walk.order + "H", row[:2])
+                (block[one.place : one.place + 12] for one in directory.entries), key=lambda row: struct.unpack(walk.order + "H", row[:2])
             )
-            out[it.at + 2 : it.next] = b"".join(rows)
+            out[directory.at + 2 : directory.next] = b"".join(rows)
     return out, "entries sorted", ""
 
 
@@ -156,26 +156,26 @@ def _overlap(block: bytes, walk: Walk) -> _Done:
 
 def _values(walk: Walk, directory: Directory) -> List[Tuple[bool, int, int, int]]:
     """The values of a directory: whether it may be moved, where it begins, its length, and the place of its offset."""
-    found = [
-        (one.tag != MAKER_NOTE, one.last, one.size, one.place + 8)
-        for one in directory.entries
-        if one.size > 4 and (directory.name, one.tag) not in LINKS
+    values = [
+        (entry.tag != MAKER_NOTE, entry.last, entry.size, entry.place + 8)
+        for entry in directory.entries
+        if entry.size > 4 and (directory.name, entry.tag) not in LINKS
     ]
     by = {one.tag: one for one in directory.entries}
     if directory.name == "thumb" and 0x0201 in by and 0x0202 in by:
-        found.append((True, by[0x0201].last, by[0x0202].last, by[0x0201].place + 8))
-    return found
+        values.append((True, by[0x0201].last, by[0x0202].last, by[0x0201].place + 8))
+    return values
 
 
 def _end_of_directory(block: bytes, walk: Walk) -> _Done:
     """A directory without the four bytes behind its entries, as piexif writes it: a copy of it gets them."""
     ranges = [(it.at, it.next, it.at) for it in walk.directories]
     ranges += [(start, start + size, -1) for it in walk.directories for _, start, size, _ in _values(walk, it)]
-    for it in walk.directories:
-        taken = (start < it.next + 4 and it.next < end and own != it.at for start, end, own in ranges)
-        if it.name != "main" and it.is_whole and any(taken):
-            out = _put(block + b"\0" * (len(block) % 2), walk, it.named_at, len(block) + len(block) % 2)
-            return out + block[it.at : it.next] + bytes(4), f"the missing end of the {_NAMES[it.name]} added", ""
+    for directory in walk.directories:
+        taken = (start < directory.next + 4 and directory.next < end and own != directory.at for start, end, own in ranges)
+        if directory.name != "main" and directory.is_whole and any(taken):
+            out = _put(block + b"\0" * (len(block) % 2), walk, directory.named_at, len(block) + len(block) % 2)
+            return out + block[directory.at : directory.next] + bytes(4), f"the missing end of the {_NAMES[directory.name]} added", ""
     return None
 
 
@@ -189,8 +189,8 @@ def _shared_values(block: bytes, walk: Walk) -> _Done:
     claimed = bytearray(len(block))  # a byte for each of the block: whether a table or a value has claimed it
     for start, end in ((0, 8), *((it.at, it.next + 4) for it in walk.directories)):
         _claim(claimed, start, end)
-    for number, it in enumerate(walk.directories):
-        if any(one.at < it.next + 4 and it.at < one.next + 4 for one in walk.directories[:number]):
+    for number, directory in enumerate(walk.directories):
+        if any(one.at < directory.next + 4 and directory.at < one.next + 4 for one in walk.directories[:number]):
             return None  # directories that share bytes
     out, moved = bytearray(block), 0
     for _, start, size, field in sorted(
@@ -211,41 +211,46 @@ def _shared_values(block: bytes, walk: Walk) -> _Done:
 
 
 def _directory_outside(block: bytes, walk: Walk) -> _Done:
-    for it in walk.directories:
-        if it.is_whole and it.next + 4 > len(block) >= it.next:
-            return bytearray(block) + bytes(it.next + 4 - len(block)), "the missing end of the block added", ""
+    for directory in walk.directories:
+        if directory.is_whole and directory.next + 4 > len(block) >= directory.next:
+            return bytearray(block) + bytes(directory.next + 4 - len(block)), "the missing end of the block added", ""
     return _cut_directory(block, walk)
 
 
 def _cut_directory(block: bytes, walk: Walk) -> _Done:
     """Leaves out entries, or a whole directory, that aren't in the block."""
-    for it in walk.directories:
-        if not it.is_whole:
+    for directory in walk.directories:
+        if not directory.is_whole:
             out = bytearray(block)
-            struct.pack_into(walk.order + "H", out, it.at, len(it.entries))
-            what = f"the {_NAMES[it.name]} cut from {it.size:,} entries to the {len(it.entries):,} that are there"
-            end = it.at + 2 + 12 * len(it.entries)
-            covers = any(it.at < one.at < end for one in walk.directories)  # another table, which the further steps spoil
-            return out, what, "entries", "main" if covers else it.name
+            struct.pack_into(walk.order + "H", out, directory.at, len(directory.entries))
+            what = f"the {_NAMES[directory.name]} cut from {directory.size:,} entries to the {len(directory.entries):,} that are there"
+            end = directory.at + 2 + 12 * len(directory.entries)
+            covers = any(directory.at < one.at < end for one in walk.directories)  # another table, which the further steps spoil
+            return out, what, "entries", "main" if covers else directory.name
     starts = {it.at for it in walk.directories}
-    for it in walk.directories:
-        for one in it.entries:
-            if (it.name, one.tag) in LINKS and walk.number(one) not in starts:
-                to = LINKS[it.name, one.tag]
+    for directory in walk.directories:
+        for entry in directory.entries:
+            if (directory.name, entry.tag) in LINKS and walk.number(entry) not in starts:
+                to = LINKS[directory.name, entry.tag]
                 return (
-                    _without(block, walk, it, one.place),
+                    _without(block, walk, directory, entry.place),
                     f"the pointer to the {_NAMES[to]}, which isn't there, dropped",
                     "a directory",
                     to,
                 )
-        if it.name == "main" and it.next + 4 <= len(block) and walk.four(it.next) not in starts | {0}:
-            return _put(block, walk, it.next, 0), "the pointer to a thumbnail directory that isn't there dropped", "the thumbnail", "thumb"
+        if directory.name == "main" and directory.next + 4 <= len(block) and walk.four(directory.next) not in starts | {0}:
+            return (
+                _put(block, walk, directory.next, 0),
+                "the pointer to a thumbnail directory that isn't there dropped",
+                "the thumbnail",
+                "thumb",
+            )
     return None
 
 
 def _empty(block: bytes, walk: Walk) -> _Done:
-    for it in walk.directories:
-        if not it.size and (out := _without_directory(block, walk, it)):
+    for directory in walk.directories:
+        if not directory.size and (out := _without_directory(block, walk, directory)):
             return out, "an empty directory left out", ""
     return None
 
@@ -266,18 +271,18 @@ def _doubled(block: bytes, walk: Walk) -> _Done:
             block[entry.last : entry.last + entry.size] if entry.size > 4 else block[entry.place + 8 : entry.place + 8 + entry.size],
         )
 
-    for it in walk.directories:
+    for directory in walk.directories:
         by: Dict[int, Entry] = {}
-        for one in it.entries:
-            other = by.setdefault(one.tag, one)
-            if other is not one:
-                equal = value(one) == value(other)
+        for entry in directory.entries:
+            other = by.setdefault(entry.tag, entry)
+            if other is not entry:
+                equal = value(entry) == value(other)
                 what = (
                     "the second of two equal entries left out"
                     if equal
-                    else f"the second of two different entries of tag {one.tag:04x} left out"
+                    else f"the second of two different entries of tag {entry.tag:04x} left out"
                 )
-                return _without(block, walk, it, one.place), what, "" if equal else "a value"
+                return _without(block, walk, directory, entry.place), what, "" if equal else "a value"
     return None
 
 
@@ -286,13 +291,21 @@ def _unknown_type(block: bytes, walk: Walk) -> _Done:
     if not wrong:
         return None
     if len(wrong) > MOST:  # one is left out in a step; a directory of such entries can't be one
-        it = max(walk.directories, key=lambda one: sum(of is one for of, _ in wrong))
-        left = _without_directory(block, walk, it)
-        return (left, f"the {_NAMES[it.name]}, whose entries have unknown types, left out", "a directory", it.name) if left else None
-    it, one = wrong[0]
-    if one.type == 13:
-        return _with_type(block, walk, one), "type 13 (IFD) read as LONG", ""
-    return _without(block, walk, it, one.place), f"tag {one.tag:04x} of unknown type {one.type} left out", *_value(it, one)
+        directory = max(walk.directories, key=lambda one: sum(of is one for of, _ in wrong))
+        left = _without_directory(block, walk, directory)
+        return (
+            (left, f"the {_NAMES[directory.name]}, whose entries have unknown types, left out", "a directory", directory.name)
+            if left
+            else None
+        )
+    directory, entry = wrong[0]
+    if entry.type == 13:
+        return _with_type(block, walk, entry), "type 13 (IFD) read as LONG", ""
+    return (
+        _without(block, walk, directory, entry.place),
+        f"tag {entry.tag:04x} of unknown type {entry.type} left out",
+        *_value(directory, entry),
+    )
 
 
 def _with_type(block: bytes, walk: Walk, entry: Entry, number: Optional[int] = None) -> bytearray:
@@ -302,31 +315,31 @@ def _with_type(block: bytes, walk: Walk, entry: Entry, number: Optional[int] = N
 
 
 def _pointer_form(block: bytes, walk: Walk) -> _Done:
-    for it in walk.directories:
-        for one in it.entries:
-            if one.tag in _POINTERS and (it.name, one.tag) in _ALLOWED and (one.type, one.elements) != (4, 1):
-                if one.type in (9, 13) and one.elements == 1:
-                    return _with_type(block, walk, one), f"a pointer of type {one.type} read as LONG", ""
-                if one.type in (3, 8) and one.elements == 1:
-                    return _with_type(block, walk, one, walk.two(one.place + 8)), f"a pointer of type {one.type} read as LONG", ""
+    for directory in walk.directories:
+        for entry in directory.entries:
+            if entry.tag in _POINTERS and (directory.name, entry.tag) in _ALLOWED and (entry.type, entry.elements) != (4, 1):
+                if entry.type in (9, 13) and entry.elements == 1:
+                    return _with_type(block, walk, entry), f"a pointer of type {entry.type} read as LONG", ""
+                if entry.type in (3, 8) and entry.elements == 1:
+                    return _with_type(block, walk, entry, walk.two(entry.place + 8)), f"a pointer of type {entry.type} read as LONG", ""
                 return (
-                    _without(block, walk, it, one.place),
+                    _without(block, walk, directory, entry.place),
                     "a pointer of another form left out",
                     "a directory",
-                    LINKS.get((it.name, one.tag), ""),
+                    LINKS.get((directory.name, entry.tag), ""),
                 )
     return None
 
 
 def _misplaced(block: bytes, walk: Walk) -> _Done:
-    for it in walk.directories:
-        for one in it.entries:
-            if one.tag in _ROLES and (it.name, one.tag) not in _ALLOWED:
+    for directory in walk.directories:
+        for entry in directory.entries:
+            if entry.tag in _ROLES and (directory.name, entry.tag) not in _ALLOWED:
                 return (
-                    _without(block, walk, it, one.place),
-                    f"the offset of tag {one.tag:04x} in the {_NAMES[it.name]} left out",
+                    _without(block, walk, directory, entry.place),
+                    f"the offset of tag {entry.tag:04x} in the {_NAMES[directory.name]} left out",
                     "an offset",
-                    f"{it.name} {one.tag:04x}",
+                    f"{directory.name} {entry.tag:04x}",
                 )
     return None
 
@@ -335,14 +348,18 @@ def _value_outside(block: bytes, walk: Walk) -> _Done:
     outside = [(it, one) for it in walk.directories for one in it.entries if one.size > 4 and one.last + one.size > len(block)]
     if not outside or len(outside) > MOST:  # one is left out in a step
         return None
-    it, one = outside[0]
-    return _without(block, walk, it, one.place), f"tag {one.tag:04x}, whose value isn't in the block, left out", *_value(it, one)
+    directory, entry = outside[0]
+    return (
+        _without(block, walk, directory, entry.place),
+        f"tag {entry.tag:04x}, whose value isn't in the block, left out",
+        *_value(directory, entry),
+    )
 
 
 def _thumbnail_outside(block: bytes, walk: Walk) -> _Done:
-    for it in walk.directories:
-        by = {one.tag: one for one in it.entries}
-        if it.name != "thumb" or 0x0201 not in by or 0x0202 not in by:
+    for directory in walk.directories:
+        by = {one.tag: one for one in directory.entries}
+        if directory.name != "thumb" or 0x0201 not in by or 0x0202 not in by:
             continue
         start, size = by[0x0201].last, by[0x0202].last
         if start < len(block) < start + size:
@@ -353,13 +370,13 @@ def _thumbnail_outside(block: bytes, walk: Walk) -> _Done:
                 "thumb",
             )
         if start >= len(block):
-            first = bytes(_without(block, walk, it, by[0x0201].place))
+            first = bytes(_without(block, walk, directory, by[0x0201].place))
             inner = Walk(first)
             for other in inner.directories:
-                for one in other.entries:
-                    if other.name == "thumb" and one.tag == 0x0202:
+                for entry in other.entries:
+                    if other.name == "thumb" and entry.tag == 0x0202:
                         return (
-                            _without(first, inner, other, one.place),
+                            _without(first, inner, other, entry.place),
                             "a thumbnail that isn't there left out",
                             "the thumbnail's length",
                             "thumb",
@@ -368,30 +385,35 @@ def _thumbnail_outside(block: bytes, walk: Walk) -> _Done:
 
 
 def _thumbnail_pair(block: bytes, walk: Walk) -> _Done:
-    for it in walk.directories:
-        for one in it.entries:
-            if it.name == "thumb" and one.tag in (0x0111, 0x0117, 0x0201, 0x0202):
-                return _without(block, walk, it, one.place), "half of a thumbnail's pair left out", "a thumbnail's place or length", "thumb"
+    for directory in walk.directories:
+        for entry in directory.entries:
+            if directory.name == "thumb" and entry.tag in (0x0111, 0x0117, 0x0201, 0x0202):
+                return (
+                    _without(block, walk, directory, entry.place),
+                    "half of a thumbnail's pair left out",
+                    "a thumbnail's place or length",
+                    "thumb",
+                )
     return None
 
 
 def _extra(block: bytes, walk: Walk) -> _Done:
-    for it in walk.directories:
-        if it.name == "thumb" and it.next + 4 <= len(block):
-            return _put(block, walk, it.next, 0), "a third directory left out", "a directory"
+    for directory in walk.directories:
+        if directory.name == "thumb" and directory.next + 4 <= len(block):
+            return _put(block, walk, directory.next, 0), "a third directory left out", "a directory"
     return None
 
 
 def _loop(block: bytes, walk: Walk) -> _Done:
     starts = {it.at for it in walk.directories}
-    for it in walk.directories:
-        if it.name in ("main", "thumb") and it.next + 4 <= len(block):
-            if walk.four(it.next) in {one.at for one in walk.directories if one.name != "thumb" or it.name == "thumb"}:
-                return _put(block, walk, it.next, 0), "a pointer back left out", ""
-        for one in it.entries:
-            if (it.name, one.tag) in LINKS and one.last in starts:
-                if next(other for other in walk.directories if other.at == one.last).named_at != one.place + 8:
-                    return _without(block, walk, it, one.place), "a pointer back left out", ""
+    for directory in walk.directories:
+        if directory.name in ("main", "thumb") and directory.next + 4 <= len(block):
+            if walk.four(directory.next) in {one.at for one in walk.directories if one.name != "thumb" or directory.name == "thumb"}:
+                return _put(block, walk, directory.next, 0), "a pointer back left out", ""
+        for entry in directory.entries:
+            if (directory.name, entry.tag) in LINKS and entry.last in starts:
+                if next(other for other in walk.directories if other.at == entry.last).named_at != entry.place + 8:
+                    return _without(block, walk, directory, entry.place), "a pointer back left out", ""
     return None
 
 

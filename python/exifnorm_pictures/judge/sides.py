@@ -28,8 +28,8 @@ class Sides(Protocol):
         """The parts of a picture that were not read."""
         ...
 
-    def maker_notes(self, side: int, picture: Picture, made: Callable[[bytes], Made]) -> Optional[Made]:
-        """The result of `made` for ExifTool's readings of its MakerNotes; None if they aren't kept."""
+    def maker_notes(self, side: int, picture: Picture, unpack: Callable[[bytes], Made]) -> Optional[Made]:
+        """The result of `unpack` for ExifTool's readings of its MakerNotes; None if they aren't kept."""
         ...
 
 
@@ -48,6 +48,6 @@ class Fresh:
         """The parts of a picture that were not read."""
         return picture.unread
 
-    def maker_notes(self, _: int, picture: Picture, made: Callable[[bytes], Made]) -> Optional[Made]:
-        """The result of `made` for its readings, if ExifTool was asked."""
-        return made(picture.notes) if picture.notes else None
+    def maker_notes(self, _: int, picture: Picture, unpack: Callable[[bytes], Made]) -> Optional[Made]:
+        """The result of `unpack` for its readings, if ExifTool was asked."""
+        return unpack(picture.notes) if picture.notes else None

@@ -61,6 +61,6 @@ def _defined(name: str, kind: Any, more: Is) -> str:
 
 def check(row: Iterable[object], types: Iterable[Any]) -> None:
     """Raises `Damaged` if a value isn't of its type."""
-    for it, kind in zip(row, types):
-        if not isinstance(it, kind):
-            raise Damaged(f"{it!r} is a value of another type")
+    for value, kind in zip(row, types):
+        if not isinstance(value, kind):
+            raise Damaged(f"{value!r} is a value of another type")

@@ -118,9 +118,9 @@ class Blocks:
     def add(self, kind: str, data: bytes, where: str, part: str = "", extractor: str = OWN, note: Optional[int] = None) -> None:
         """Adds the next block of a kind, in the whole file or in one part of it.
 
-        >>> some = Blocks()
-        >>> some.add(EXIF, b"MM", "APP1 segment at 2"); some.add(EXIF, b"II", "APP1 segment at 30")
-        >>> [it.name for it in some.found]
+        >>> blocks = Blocks()
+        >>> blocks.add(EXIF, b"MM", "APP1 segment at 2"); blocks.add(EXIF, b"II", "APP1 segment at 30")
+        >>> [it.name for it in blocks.found]
         ['Exif', 'second Exif']
         """
         self.check()

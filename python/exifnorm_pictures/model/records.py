@@ -226,11 +226,11 @@ class Picture(NamedTuple):
 
     def sides(self) -> Dict[str, Side]:
         """The digest of its meaning, for each kind of block."""
-        found = {}
+        by_kind = {}
         for kind, digest, octets in zip(KINDS, self.meanings, self.octets):
             status = ABSENT if digest == "" else ACCEPTED if digest else UNREADABLE if kind == XMP else REFUSED
-            found[kind] = Side(status, digest or "", octets, (self.exif_repaired or "") if kind == EXIF else "")
-        return found
+            by_kind[kind] = Side(status, digest or "", octets, (self.exif_repaired or "") if kind == EXIF else "")
+        return by_kind
 
 
 def is_same_file(picture: Picture, other: Picture) -> bool:

@@ -39,8 +39,8 @@ def lost_fields(steps: Sequence[Step]) -> FrozenSet[str]:
 def words(steps: Sequence[Step]) -> str:
     """Some steps for people: `entries sorted, the missing end of a directory added`."""
     counts: Dict[str, int] = {}
-    for it in steps:
-        counts[it.what] = counts.get(it.what, 0) + 1
+    for step in steps:
+        counts[step.what] = counts.get(step.what, 0) + 1
     return ", ".join(what + (f" ({count} times)" if count > 1 else "") for what, count in counts.items())
 
 
@@ -58,9 +58,9 @@ def unpacked(text: Optional[str]) -> Tuple[Step, ...]:
     if not text:
         return ()
     try:
-        found = json.loads(text)
-        if not isinstance(found, list) or not all(isinstance(it, list) and all(isinstance(one, str) for one in it) for it in found):
+        rows = json.loads(text)
+        if not isinstance(rows, list) or not all(isinstance(it, list) and all(isinstance(one, str) for one in it) for it in rows):
             raise Damaged("the steps of a repair are something else")
-        return tuple(Step(*it) for it in found)
+        return tuple(Step(*it) for it in rows)
     except (ValueError, TypeError, RecursionError) as error:
         raise Damaged(f"the steps of a repair can't be read: {error}") from error

@@ -126,9 +126,9 @@ def verdict(kind: str, side: Side, other: Side) -> Verdict:
     return Verdict(kind, SAME, same_bytes)
 
 
-def verdicts(one: Dict[str, Side], other: Dict[str, Side], kinds: Iterable[str] = tuple(NAMES)) -> List[Verdict]:
+def verdicts(before: Dict[str, Side], after: Dict[str, Side], kinds: Iterable[str] = tuple(NAMES)) -> List[Verdict]:
     """The verdicts on several kinds."""
-    return [verdict(kind, one.get(kind, Side(ABSENT)), other.get(kind, Side(ABSENT))) for kind in kinds]
+    return [verdict(kind, before.get(kind, Side(ABSENT)), after.get(kind, Side(ABSENT))) for kind in kinds]
 
 
 def left_open(parts: Iterable[NotRead], other: Iterable[NotRead]) -> List[str]:

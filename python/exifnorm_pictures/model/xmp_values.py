@@ -119,8 +119,8 @@ def texts(value: XmpValue) -> Tuple[str, ...]:
     return tuple(it.text for name, it in value.members if name == VALUE and isinstance(it, Literal))
 
 
-def _number(it: Tuple[int, XmpValue]) -> int:
-    return it[0]
+def _number(member: Tuple[int, XmpValue]) -> int:
+    return member[0]
 
 
 def _chosen(members: Tuple[XmpValue, ...]) -> Tuple[str, ...]:
@@ -135,7 +135,7 @@ def simple_texts(value: XmpValue) -> Iterator[Tuple[str, str]]:
     elif isinstance(value, Resource):
         yield value.uri, ""
     elif isinstance(value, Array):
-        for it in value.ordered():
-            yield from simple_texts(it)
+        for member in value.ordered():
+            yield from simple_texts(member)
     else:
         raise ValueError

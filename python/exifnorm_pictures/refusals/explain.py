@@ -52,14 +52,14 @@ class Explanation:
         """The explanation as text."""
         if self.cause is None:
             return [f"{self.kind}: {self.judgement.line}", *(f"  {it}" for it in self._here())]
-        found = [f"{self.kind}: {self.judgement.line}", f"  {self.cause.sentence} {self.cause.meaning}"]
-        found += [f"  {it}" for it in self.here]
-        found += [f"    {it}" for it in self.octets]
+        lines = [f"{self.kind}: {self.judgement.line}", f"  {self.cause.sentence} {self.cause.meaning}"]
+        lines += [f"  {it}" for it in self.here]
+        lines += [f"    {it}" for it in self.octets]
         if self.cause.writers:
-            found.append("  Written by: " + "; ".join(f"{who} ({count})" for who, count in self.cause.writers) + ".")
-        found += [f"  Other readers: {self.cause.readers}", f"  Remedy: {self._remedy}"]
-        found += [] if self.is_without_remedy else [f"  Cost: {self.cause.cost}"]
-        return found
+            lines.append("  Written by: " + "; ".join(f"{who} ({count})" for who, count in self.cause.writers) + ".")
+        lines += [f"  Other readers: {self.cause.readers}", f"  Remedy: {self._remedy}"]
+        lines += [] if self.is_without_remedy else [f"  Cost: {self.cause.cost}"]
+        return lines
 
     def members(self) -> Members:
         """The explanation as a JSON object."""
@@ -111,12 +111,12 @@ def _beginning(layout: Layout, cause: str, place: int) -> List[str]:
 def _data_set(layout: Layout, cause: str, place: int) -> List[str]:
     block = layout.block
     before = block.rfind(b"\x1c", 0, place)
-    found = [f"The record has {len(block):,} bytes; at {place} is {block[place : place + 8].hex(' ') or 'nothing'}."]
+    lines = [f"The record has {len(block):,} bytes; at {place} is {block[place : place + 8].hex(' ') or 'nothing'}."]
     if block[place : place + 1] == b"\x1c" and place + 3 <= len(block):
-        found.append(f"The DataSet is {block[place + 1]}:{block[place + 2]}.")
+        lines.append(f"The DataSet is {block[place + 1]}:{block[place + 2]}.")
     elif before >= 0 and before + 3 <= len(block):
-        found.append(f"The last 1C before it, at {before}, begins with {block[before : before + 5].hex(' ')}.")
-    return found
+        lines.append(f"The last 1C before it, at {before}, begins with {block[before : before + 5].hex(' ')}.")
+    return lines
 
 
 def _range(part: Part) -> str:
@@ -125,27 +125,27 @@ def _range(part: Part) -> str:
 
 def _ranges(layout: Layout, cause: str, place: int) -> List[str]:
     owners = layout.owners(place)
-    found = _entry_line(layout, place)
+    lines = _entry_line(layout, place)
     if owners:
         mine, other = owners
         start, end = max(mine.start, other.start), min(mine.end, other.end)
-        found.append(f"Both own bytes {start} to {end - 1}: {_range(mine)} and {_range(other)}.")
-    return found
+        lines.append(f"Both own bytes {start} to {end - 1}: {_range(mine)} and {_range(other)}.")
+    return lines
 
 
 def _directory(layout: Layout, cause: str, place: int) -> List[str]:
-    found = _entry_line(layout, place) if cause != "EmptyDirectory" else []
+    lines = _entry_line(layout, place) if cause != "EmptyDirectory" else []
     at = place if cause == "EmptyDirectory" else _named(layout, place)
     if at is None:
-        return found
+        return lines
     count = layout.number(at, 2)
     if count is None:
-        return found + [f"The directory would begin at {at}; the block has {len(layout.block)} bytes."]
+        return lines + [f"The directory would begin at {at}; the block has {len(layout.block)} bytes."]
     end = at + 2 + 12 * count + 4
     words = f"The directory at {at} has {count} entries and would end at {end}; the block has {len(layout.block)} bytes."
     if cause == "DirectoryOutside" and 0 < end - len(layout.block) <= 4:
         words += f" Only the offset after the last entry is missing ({end - len(layout.block)} bytes of 4)."
-    return found + [words]
+    return lines + [words]
 
 
 def _next(layout: Layout, cause: str, place: int) -> List[str]:
@@ -154,41 +154,41 @@ def _next(layout: Layout, cause: str, place: int) -> List[str]:
 
 def _named(layout: Layout, place: int) -> Optional[int]:
     """The offset in the pointer to a directory."""
-    it = layout.entries.get(place)
-    return it.last if it else layout.number(place, 4)
+    entry = layout.entries.get(place)
+    return entry.last if entry else layout.number(place, 4)
 
 
 def _entry_line(layout: Layout, place: int) -> List[str]:
-    it = layout.entries.get(place)
-    if it is None:
+    entry = layout.entries.get(place)
+    if entry is None:
         words = {4: "the header's offset of the main directory"}.get(place, "the offset of the next directory")
         return [f"At {place} is {words}."]
-    return [f"At {place} is entry {it.number}: {it.label}, {it.form}, last field {it.last}."]
+    return [f"At {place} is entry {entry.number}: {entry.label}, {entry.form}, last field {entry.last}."]
 
 
 _PIXELS = (0x0111, 0x0144, 0x014A)  # StripOffsets, TileOffsets, SubIFDs
 
 
 def _entry(layout: Layout, cause: str, place: int) -> List[str]:
-    found = _entry_line(layout, place)
-    it = layout.entries.get(place)
-    if it is None:
-        return found
-    if cause == "MisplacedOffset" and it.where == "main" and it.tag in _PIXELS:
-        found.append("This seems to be a whole TIFF picture: give it without --block, and each of its pages is taken as a block.")
+    lines = _entry_line(layout, place)
+    entry = layout.entries.get(place)
+    if entry is None:
+        return lines
+    if cause == "MisplacedOffset" and entry.where == "main" and entry.tag in _PIXELS:
+        lines.append("This seems to be a whole TIFF picture: give it without --block, and each of its pages is taken as a block.")
     before = layout.entries.get(place - 12)
     if cause in ("Unsorted", "Doubled") and before is not None:
-        found.append(f"Before it is {before.label}, {before.form}, last field {before.last}.")
+        lines.append(f"Before it is {before.label}, {before.form}, last field {before.last}.")
     if cause == "ValueOutside":
-        found.append(f"Its value would end at {it.last + it.size}; the block has {len(layout.block)} bytes.")
+        lines.append(f"Its value would end at {entry.last + entry.size}; the block has {len(layout.block)} bytes.")
     if cause == "ThumbnailOutside":
-        found += _thumbnail(layout, it)
-    return found
+        lines += _thumbnail(layout, entry)
+    return lines
 
 
-def _thumbnail(layout: Layout, it: EntryAt) -> List[str]:
+def _thumbnail(layout: Layout, entry: EntryAt) -> List[str]:
     for part in layout.parts:
-        if part.named_at == it.place and part.what == "the thumbnail JPEG":
+        if part.named_at == entry.place and part.what == "the thumbnail JPEG":
             return [f"The thumbnail would end at {part.end}; the block has {len(layout.block)} bytes."]
     return []
 

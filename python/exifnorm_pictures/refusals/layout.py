@@ -110,20 +110,20 @@ class Layout:
         self._read.add(offset)
         words = f"the table of the {DIRECTORIES[where]} ({count} entries)"
         self.parts.append(Part(offset, offset + 2 + 12 * count + 4, words, named_at))
-        found: Dict[int, EntryAt] = {}
+        entries: Dict[int, EntryAt] = {}
         for index in range(min(count, (len(self.block) - offset - 2) // 12)):
-            it = self._entry(where, index, offset + 2 + 12 * index)
-            found.setdefault(it.tag, it)
-            if it.size > 4:
-                self.parts.append(Part(it.last, it.last + it.size, f"the value of {it.label}", it.place))
-        return found
+            entry = self._entry(where, index, offset + 2 + 12 * index)
+            entries.setdefault(entry.tag, entry)
+            if entry.size > 4:
+                self.parts.append(Part(entry.last, entry.last + entry.size, f"the value of {entry.label}", entry.place))
+        return entries
 
     def _entry(self, where: str, index: int, place: int) -> EntryAt:
         tag, kind, count = struct.unpack_from(self.order + "HHI", self.block, place)
         last = self.number(place + 8, 2 if kind == 3 and count == 1 else 4) or 0
-        it = EntryAt(where, index + 1, tag, kind, count, last, place)
-        self.entries[place] = it
-        return it
+        entry = EntryAt(where, index + 1, tag, kind, count, last, place)
+        self.entries[place] = entry
+        return entry
 
     def owners(self, place: int) -> Optional[Tuple[Part, Part]]:
         """The part that the entry at an offset claims and that shares bytes with an earlier one, and that one."""

@@ -76,8 +76,8 @@ def mend(picture: bytes, out: bytes, session: Session, folder: Optional[bytes] =
     if os.path.lexists(out):
         raise NotWritten("the copy is there already")
     with tempfile.TemporaryDirectory(dir=session.room) as own:
-        result, made = attempt(session, picture, own)
-        if made is None or (lossless and result.lost):
+        result, file = attempt(session, picture, own)
+        if file is None or (lossless and result.lost):
             return result
         if folder is not None:
             _make_folders(out, folder)
@@ -86,10 +86,10 @@ def mend(picture: bytes, out: bytes, session: Session, folder: Optional[bytes] =
             name = os.path.join(os.fsencode(own), b"copy" + os.fsencode(_suffix(picture)))
             os.symlink(copy, name)
             written = blocks_of(name, session=session)
-            if written.problem or _refusals(written) or (made == picture and damage(it.what for it in written.not_read) != result.damage):
+            if written.problem or _refusals(written) or (file == picture and damage(it.what for it in written.not_read) != result.damage):
                 raise NotWritten("the picture was changed while it was copied")
 
-        _put(made, picture, out, check)
+        _put(file, picture, out, check)
     result.is_written = True
     return result
 
@@ -114,9 +114,9 @@ def attempt(session: Session, picture: bytes, room: str) -> Tuple[Mended, Option
         raise NeedsExifTool(taken.type, repair)
     if best is None:
         return Mended(NONE, before, damage=left), None
-    step, made, lost, gained = best
+    step, file, lost, gained = best
     repairs = repair.steps if repair and step == "repair" else ()
-    return Mended(step, before, lost, gained, "", repairs, left), os.fsencode(made)
+    return Mended(step, before, lost, gained, "", repairs, left), os.fsencode(file)
 
 
 def _make_folders(out: bytes, folder: bytes) -> None:
@@ -141,15 +141,15 @@ def _repaired(session: Session, picture: bytes, taken: Blocks, room: str) -> Opt
     """A copy whose Exif blocks are repaired; none if that isn't enough, or changes anything else that is read of the file."""
     name = os.path.join(room, "repair" + _suffix(picture))
     with opening.reading(picture) as given:
-        made = repaired_file.changes(given, taken.type, taken.found)
-        if made is None:
+        repair = repaired_file.changes(given, taken.type, taken.found)
+        if repair is None:
             return None
         with open(name, "xb") as copy:
-            repaired_file.write(given, made[0], copy)
+            repaired_file.write(given, repair[0], copy)
     after = blocks_of(os.fsencode(name), session=session)
     if after.problem or _refusals(after) or _beside_exif(after) != _beside_exif(taken):
         return None
-    return _Repair(name, made[1])
+    return _Repair(name, repair[1])
 
 
 def _beside_exif(taken: Blocks) -> List[object]:
@@ -159,7 +159,7 @@ def _beside_exif(taken: Blocks) -> List[object]:
 
 
 def _put(octets: bytes, picture: bytes, out: bytes, check: Callable[[bytes], None]) -> None:
-    """Writes the bytes of `made` to `out`, with the times and the rights of the picture, after a check of the copy."""
+    """Writes the bytes of the file `octets` to `out`, with the times and the rights of the picture, after a check of the copy."""
     try:
         atomic.copy_new(octets, out, picture, check)
     except OSError as error:
@@ -191,20 +191,20 @@ def _best(session: Session, picture: bytes, repair: Optional[_Repair], room: str
     before = _printed(session, first)
     best: Optional[Attempt] = None
     for step in STEPS:
-        made = os.path.join(room, step + suffix)
+        file = os.path.join(room, step + suffix)
         if step != "repair":
-            _copy(first, made)
-            if not _REMEDIES[step](session, made):
+            _copy(first, file)
+            if not _REMEDIES[step](session, file):
                 continue
         elif repair is None:
             continue
-        taken = blocks_of(os.fsencode(made), session=session)
+        taken = blocks_of(os.fsencode(file), session=session)
         if taken.problem or _refusals(taken):
             continue
-        after = _printed(session, made)
+        after = _printed(session, file)
         lost, gained = sorted((before - after).elements()), sorted((after - before).elements())
         if best is None or (len(lost), len(gained)) < (len(best[2]), len(best[3])):
-            best = (step, made, lost, gained)
+            best = (step, file, lost, gained)
         if not lost and not gained:
             break
     return best

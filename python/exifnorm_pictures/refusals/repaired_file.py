@@ -35,13 +35,13 @@ def changes(picture: BinaryIO, kind: str, blocks: Sequence[FoundBlock]) -> Optio
         return None
     replaced, steps = [], ()  # type: List[Change], Tuple[Step, ...]
     for block in dict.fromkeys(it.data for it in blocks if it.kind == EXIF):
-        made = repairs.repaired(block)
-        change = _change(picture, wrap, block, made.block) if made and made.steps else None
-        if made is None or (made.steps and change is None):
+        repair = repairs.repaired(block)
+        change = _change(picture, wrap, block, repair.block) if repair and repair.steps else None
+        if repair is None or (repair.steps and change is None):
             return None
         if change:
             replaced.append(change)
-            steps += made.steps
+            steps += repair.steps
     if kind == "WEBP" and replaced:
         replaced.append(_length(picture, replaced))
     replaced.sort()

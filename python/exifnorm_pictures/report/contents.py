@@ -102,34 +102,40 @@ class Gathered:
 def gather(about: About) -> Gathered:
     """The contents of a catalogue, and the changes since an older one: counts, and the first of each list."""
     catalogue = about.catalogue
-    found = Gathered(runs=catalogue.runs(), since=about.old is not None, roots=catalogue.roots())
+    contents = Gathered(runs=catalogue.runs(), since=about.old is not None, roots=catalogue.roots())
     later: List[Picture] = []
     for picture in catalogue.pictures(about.table()):
-        found.total += 1
-        found.states[picture.state] += 1
+        contents.total += 1
+        contents.states[picture.state] += 1
         if picture.problem:
-            found.all_problems += 1
-            kept = later if picture.problem == Problem.NO_PICTURE else found.problems
+            contents.all_problems += 1
+            kept = later if picture.problem == Problem.NO_PICTURE else contents.problems
             if len(kept) < MOST_CHANGES:
                 kept.append(picture)
-    found.problems = (found.problems + later)[:MOST_CHANGES]
-    for it in _refused(about):
-        found.causes[it.cause] += 1
-        kept_ = found.refused.setdefault(it.cause, [])
+    contents.problems = (contents.problems + later)[:MOST_CHANGES]
+    for block in _refused(about):
+        contents.causes[block.cause] += 1
+        kept_ = contents.refused.setdefault(block.cause, [])
         if len(kept_) < MOST_REFUSED:
-            kept_.append(it)
-    _gather_parts(found, about)
-    found.all_groups = groups.totals(catalogue, only=about.table(), choice=about.choice)
+            kept_.append(block)
+    _gather_parts(contents, about)
+    contents.all_groups = groups.totals(catalogue, only=about.table(), choice=about.choice)
     for group in groups.groups(
-        catalogue, only=about.table(), most=MOST_GROUPS, look=about.look, choice=about.choice, unknown=found.unknown, session=about.session
+        catalogue,
+        only=about.table(),
+        most=MOST_GROUPS,
+        look=about.look,
+        choice=about.choice,
+        unknown=contents.unknown,
+        session=about.session,
     ):
         sentence = group.sentence() + f"; {groups.KEEP_ALL}" * group.rests_on_readings
-        found.groups.append((group.count, sentence, list(group.pictures(MOST_OF_GROUP))))
-    for one in checked(catalogue, catalogue.pictures(about.table())):
-        found.contradictions.add(one, MOST_CONTRADICTIONS)
+        contents.groups.append((group.count, sentence, list(group.pictures(MOST_OF_GROUP))))
+    for checked_picture in checked(catalogue, catalogue.pictures(about.table())):
+        contents.contradictions.add(checked_picture, MOST_CONTRADICTIONS)
     if about.old is not None:
-        _gather_changes(found, about)
-    return found
+        _gather_changes(contents, about)
+    return contents
 
 
 def unproved(runs: Sequence[Run]) -> List[str]:
@@ -184,13 +190,13 @@ def _gather_changes(contents: Gathered, about: About) -> None:
         choice=about.choice,
         pictures=contents.coded,
     )
-    for it in found_changes:
-        if it.result in changed.UNCHANGED:
+    for comparison in found_changes:
+        if comparison.result in changed.UNCHANGED:
             continue
-        contents.fields.update({change.name for change in it.changes})
-        to = f"to {shown_path(it.moved_to)}" if it.moved_to is not None else ""
-        text = [it.result, it.note or to, [(one.name, *sides(one), one.note) for one in it.changes]]
-        equal.add(json.dumps(text), it.name, it.moved_to is not None)
+        contents.fields.update({change.name for change in comparison.changes})
+        to = f"to {shown_path(comparison.moved_to)}" if comparison.moved_to is not None else ""
+        text = [comparison.result, comparison.note or to, [(one.name, *sides(one), one.note) for one in comparison.changes]]
+        equal.add(json.dumps(text), comparison.name, comparison.moved_to is not None)
 
     def heads() -> Iterator[Tuple[int, int, int, EqualChanges]]:
         for number, (text, count, names) in enumerate(equal.all()):
@@ -225,11 +231,20 @@ def members(about: About) -> Iterator[Members]:
         yield {"maker_notes_unknown": dict(unknown)}
     if about.old is not None:
         yield from _changed_members(about)
-    for one in checked(catalogue, catalogue.pictures(about.table())):
-        if one.real:
-            yield {"contradicts_itself": path_members(one.path), "conflicts": [_conflict_members(label) for label in one.real]}
-    for it in _refused(about):
-        yield {"refused": path_members(it.path), "kind": WORDS[it.kind], "name": it.name, "cause": it.cause, "refusal": it.refusal}
+    for checked_picture in checked(catalogue, catalogue.pictures(about.table())):
+        if checked_picture.real:
+            yield {
+                "contradicts_itself": path_members(checked_picture.path),
+                "conflicts": [_conflict_members(label) for label in checked_picture.real],
+            }
+    for block in _refused(about):
+        yield {
+            "refused": path_members(block.path),
+            "kind": WORDS[block.kind],
+            "name": block.name,
+            "cause": block.cause,
+            "refusal": block.refusal,
+        }
     for picture in catalogue.pictures(about.table()):
         if picture.problem:
             yield {"problem": picture.problem, **path_members(picture.path), "detail": picture.detail}
@@ -246,12 +261,12 @@ def _changed_members(about: About) -> Iterator[Members]:
     results: "Counter[str]" = Counter()
     fields: "Counter[str]" = Counter()
     about.choice.left_out.clear()  # of the page
-    for it in changed.changed(about.old, about.catalogue, results, about.only, session=about.session, choice=about.choice):
-        if it.result in changed.UNCHANGED:
+    for comparison in changed.changed(about.old, about.catalogue, results, about.only, session=about.session, choice=about.choice):
+        if comparison.result in changed.UNCHANGED:
             continue
-        fields.update({change.change_name for change in it.changes})
-        changes = [{"name": one.change_name, "before": bare(one.before), "after": bare(one.after)} for one in it.changes]
-        moved = {} if it.moved_to is None else {"moved_to": path_members(it.moved_to)}
-        yield {"changed": path_members(it.name), "result": it.result, "note": it.note, **moved, "fields": changes}
+        fields.update({change.change_name for change in comparison.changes})
+        changes = [{"name": one.change_name, "before": bare(one.before), "after": bare(one.after)} for one in comparison.changes]
+        moved = {} if comparison.moved_to is None else {"moved_to": path_members(comparison.moved_to)}
+        yield {"changed": path_members(comparison.name), "result": comparison.result, "note": comparison.note, **moved, "fields": changes}
     left_out = {"left_out": about.choice.left_out} if about.choice.left_out else {}
     yield {"results": dict(results), "fields": dict(fields), **left_out}

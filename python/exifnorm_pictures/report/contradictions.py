@@ -44,38 +44,38 @@ class Contradictions:
     labels: "Counter[str]" = field(default_factory=Counter)
     first: List[Tuple[bytes, List[Conflict]]] = field(default_factory=list)
 
-    def add(self, it: Checked, most: int) -> None:
+    def add(self, checked: Checked, most: int) -> None:
         """Counts a picture, and keeps its contradictions if there is space."""
-        real = it.real
+        real = checked.real
         self.pictures += 1
         self.real += bool(real)
-        self.minor += bool(it.found) and not real
-        self.unread += not it.is_whole
+        self.minor += bool(checked.found) and not real
+        self.unread += not checked.is_whole
         self.labels.update([one.label for one in real])
         if real and len(self.first) < most:
-            self.first.append((it.path, real))
+            self.first.append((checked.path, real))
 
 
 def checked(catalogue: Catalogue, pictures: Iterator[Picture]) -> Iterator[Checked]:
     """The pictures with metadata in two standards at least."""
-    for it in pictures:
-        if it.problem or sum(octets != "" for octets in it.octets) < 2:
+    for picture in pictures:
+        if picture.problem or sum(octets != "" for octets in picture.octets) < 2:
             continue
         with catalogue.guarded():
-            blocks = with_fields(catalogue.blocks_of(it))
-        found = texts_of(blocks, _COMPARED)
-        yield _checked(it, [block for block, _ in blocks], found)
+            blocks = with_fields(catalogue.blocks_of(picture))
+        texts = texts_of(blocks, _COMPARED)
+        yield _checked(picture, [block for block, _ in blocks], texts)
 
 
-def _checked(picture: Picture, blocks: List[Block], found: PictureTexts) -> Checked:
-    known = [one for one in conflicts(found.texts) if one.kind != ALIKE and one.label not in found.missing]
-    is_whole = not found.missing and all(one.status == ACCEPTED or one.repair for one in blocks)
+def _checked(picture: Picture, blocks: List[Block], texts: PictureTexts) -> Checked:
+    known = [one for one in conflicts(texts.texts) if one.kind != ALIKE and one.label not in texts.missing]
+    is_whole = not texts.missing and all(one.status == ACCEPTED or one.repair for one in blocks)
     return Checked(picture.path, known, is_whole)
 
 
 def texts(conflict: Conflict) -> Dict[str, str]:
     """The texts by standard."""
-    found: Dict[str, List[str]] = {}
-    for one in conflict.texts:
-        found.setdefault(one.standard, []).append(one.line)
-    return {standard: "; ".join(found[standard]) for standard in STANDARDS if standard in found}
+    by_standard: Dict[str, List[str]] = {}
+    for text in conflict.texts:
+        by_standard.setdefault(text.standard, []).append(text.line)
+    return {standard: "; ".join(by_standard[standard]) for standard in STANDARDS if standard in by_standard}

@@ -145,8 +145,8 @@ def _changes(contents: Gathered) -> str:
     if contents.fields:
         parts += ["<h3>Fields that differ, by number of pictures</h3>", _bars(contents.fields.most_common(20), "odd")]
         parts.append(_more(len(contents.fields), 20, "fields"))
-    for number, it in enumerate(contents.changed):
-        parts.append(_equal(it, number < MOST_OPEN))
+    for number, changes in enumerate(contents.changed):
+        parts.append(_equal(changes, number < MOST_OPEN))
     parts.append(_more(contents.all_changed, MOST_CHANGES, "differences"))
     if not contents.changed:
         parts.append("<p>Nothing has changed.</p>")
@@ -283,8 +283,8 @@ def _refusals(contents: Gathered) -> str:
             parts.append(f"<p><b>{_text(cause.sentence)}</b> {_marked(cause.meaning)}</p>")
             parts.append(f'<p class="remedy"><b>Remedy.</b> {_marked(cause.remedy)} <b>Cost.</b> {_marked(cause.cost)}</p>')
         rows = "".join(
-            f"<li>{_name(it.path, contents.roots)} <span class='note'>{_text(it.name)}, {_text(it.refusal)}</span></li>"
-            for it in contents.refused[name]
+            f"<li>{_name(block.path, contents.roots)} <span class='note'>{_text(block.name)}, {_text(block.refusal)}</span></li>"
+            for block in contents.refused[name]
         )
         parts.append(f"<details><summary>{_counted(contents.causes[name], 'block')}</summary><ul>{rows}</ul>")
         parts.append(_more(contents.causes[name], MOST_REFUSED, "blocks") + "</details>")
@@ -301,9 +301,9 @@ def _problems(contents: Gathered) -> str:
     if not contents.problems:
         return ""
     rows = "".join(
-        f"<tr><td><span class='tag {_TONES.get(it.problem or '', 'odd')}'>{_text(it.problem or '')}</span></td>"
-        f"<td>{_name(it.path, contents.roots)}</td><td class='note'>{_text(it.detail or TEXTS.get(it.problem or '', ''))}</td></tr>"
-        for it in contents.problems
+        f"<tr><td><span class='tag {_TONES.get(picture.problem or '', 'odd')}'>{_text(picture.problem or '')}</span></td>"
+        f"<td>{_name(picture.path, contents.roots)}</td><td class='note'>{_text(picture.detail or TEXTS.get(picture.problem or '', ''))}</td></tr>"
+        for picture in contents.problems
     )
     more = _more(contents.all_problems, MOST_CHANGES, "files")
     return f"<section><h2>Files without an answer</h2><table class='files'>{rows}</table>{more}</section>\n"

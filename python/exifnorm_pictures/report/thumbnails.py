@@ -20,15 +20,15 @@ _BEGINNINGS = ((b"\xff\xd8\xff", "image/jpeg"), (b"\x89PNG\r\n\x1a\n", "image/pn
 
 def small_pictures(paths: Sequence[bytes], session: Optional[Session] = None) -> Dict[bytes, str]:
     """A data URI for each of these pictures that has a thumbnail, up to the limit. The pictures are read again."""
-    found: Dict[bytes, str] = {}
+    uris: Dict[bytes, str] = {}
     left = MOST
     for path in dict.fromkeys(paths):
         octets = _embedded(_exif(session, path)) or _by_itself(path)
         kind = _kind(octets) if octets else None
         if octets and kind and len(octets) <= min(LARGEST, left):
             left -= len(octets)
-            found[path] = f"data:{kind};base64,{base64.b64encode(octets).decode('ascii')}"
-    return found
+            uris[path] = f"data:{kind};base64,{base64.b64encode(octets).decode('ascii')}"
+    return uris
 
 
 def _exif(session: Optional[Session], path: bytes) -> Optional[bytes]:

@@ -113,7 +113,7 @@ class _Cluster:
     def _answers(self, task: Any) -> Iterator[Picture]:
         chunk = self.tasks.pop(task)
         try:
-            found = task.result()
+            answers = task.result()
         except KilledWorker:
             if len(chunk) == 1:
                 yield _failed(chunk[0], "the workers that looked at it died")
@@ -121,19 +121,19 @@ class _Cluster:
                 self.suspects += chunk
             return
         except Exception as error:  # a worker with other packages, for one
-            found = [_failed(it, f"the worker failed: {type(error).__name__}: {error}") for it in chunk]
-        for it, answer in zip(chunk, found):
-            yield _here(it, answer)
+            answers = [_failed(it, f"the worker failed: {type(error).__name__}: {error}") for it in chunk]
+        for file, answer in zip(chunk, answers):
+            yield _here(file, answer)
 
 
 def _chunks(work: Sequence[FoundFile]) -> Iterator[Sequence[FoundFile]]:
     """Pictures of one folder each, at most CHUNK together."""
     chunk: List[FoundFile] = []
-    for it in work:
-        if chunk and (len(chunk) == CHUNK or it.root != chunk[0].root):
+    for file in work:
+        if chunk and (len(chunk) == CHUNK or file.root != chunk[0].root):
             yield chunk
             chunk = []
-        chunk.append(it)
+        chunk.append(file)
     yield chunk
 
 

@@ -11,9 +11,9 @@ from typing import List, Sequence, Tuple
 class Excluded:
     """Patterns, and whether each has fitted something.
 
-    >>> it = Excluded(["*.tmp", "raw/*"])
-    >>> it.fits(b"a/b.tmp"), it.fits(b"raw/a.dng"), it.fits(b"x/raw/a.dng"), it.fits(b"raw")
-    (True, True, False, False)
+    >>> excluded = Excluded(["*.tmp", "raw/*"])
+    >>> [excluded.fits(path) for path in (b"a/b.tmp", b"raw/a.dng", b"x/raw/a.dng", b"raw")]
+    [True, True, False, False]
     """
 
     def __init__(self, patterns: Sequence[str] = ()) -> None:
@@ -30,16 +30,16 @@ class Excluded:
     def fits(self, path: bytes) -> bool:
         """Whether a pattern fits a path below the folder, or the last name of it. `*` fits any characters, also `/`."""
         name = os.path.basename(path)
-        found = [at for at, (_, pattern) in enumerate(self._patterns) if pattern.match(path) or pattern.match(name)]
-        for at in found:
+        fitting = [at for at, (_, pattern) in enumerate(self._patterns) if pattern.match(path) or pattern.match(name)]
+        for at in fitting:
             self._used[at] = True
-        return bool(found)
+        return bool(fitting)
 
     def passes_over(self, path: bytes) -> bool:
         """Whether a file or a folder is passed over; counts it."""
-        found = self.fits(path)
-        self.count += found
-        return found
+        is_excluded = self.fits(path)
+        self.count += is_excluded
+        return is_excluded
 
     def has_below(self, path: bytes) -> bool:
         """Whether a path, or a folder above it, is passed over."""

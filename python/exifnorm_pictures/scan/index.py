@@ -91,12 +91,12 @@ def index(options: IndexOptions, catalogue: Catalogue) -> "Counter[str]":
     left = list(departed.settle(catalogue, run, gone, work.new))
     together = moved_together(departed.went) if options.moved_line else {}
     in_folders = {path for paths in together.values() for path in paths}
-    for it in left:
-        at_work.count(it, None if it.path in in_folders else options.how.lines)
+    for picture in left:
+        at_work.count(picture, None if picture.path in in_folders else options.how.lines)
     if options.moved_line:
         at_work.print_lines(options.moved_line(*key, len(paths)) for key, paths in together.items())
-    for it in _named_wrong(work, catalogue):
-        at_work.count(it, options.lines or options.how.lines)
+    for picture in _named_wrong(work, catalogue):
+        at_work.count(picture, options.lines or options.how.lines)
     catalogue.end_run(run, _now())
     return work.counts
 
@@ -119,22 +119,22 @@ def _work(options: IndexOptions, catalogue: Catalogue) -> Work:
     if not first:
         work.unfinished.update(_unfinished(catalogue))
     sidecars = work.sidecars if options.how.sidecars else None
-    for it in below(options.names, work.unlisted.append, _own_files(catalogue.name), sidecars, options.excluded):
+    for file in below(options.names, work.unlisted.append, _own_files(catalogue.name), sidecars, options.excluded):
         if many:
-            if it.path in named:
+            if file.path in named:
                 continue
-            named.add(it.path)
-        known = None if first else catalogue.known(it.path)
+            named.add(file.path)
+        known = None if first else catalogue.known(file.path)
         if known is None and not first:
-            work.new.add(it.path)
+            work.new.add(file.path)
         elif known is not None:
             work.seen[known.id >> 12] = work.seen.get(known.id >> 12, 0) | 1 << (known.id & 4095)
-        if options.again or not _is_unchanged(it, known, options.how) or (known and known.id in work.unfinished):
-            work.to_read.append(it._replace(problem=known.problem) if known and known.problem and not options.again else it)
+        if options.again or not _is_unchanged(file, known, options.how) or (known and known.id in work.unfinished):
+            work.to_read.append(file._replace(problem=known.problem) if known and known.problem and not options.again else file)
         else:
             work.counts["unchanged"] += 1
-            if known and known.stamp and it.stamp and known.stamp.device != it.stamp.device:  # mounted again
-                work.devices.append((it.stamp.device, known.id))
+            if known and known.stamp and file.stamp and known.stamp.device != file.stamp.device:  # mounted again
+                work.devices.append((file.stamp.device, known.id))
     return work
 
 
@@ -192,10 +192,10 @@ def _gone(options: IndexOptions, work: Work, catalogue: Catalogue) -> Tuple[List
 
 def _named_wrong(work: Work, catalogue: Catalogue) -> Iterator[Picture]:
     """A line for each folder that can't be read, and for each name without a file. The catalogue keeps none of it."""
-    for it in work.unlisted:
-        known = sum(1 for _ in catalogue.below(it.path))
+    for unlisted in work.unlisted:
+        known = sum(1 for _ in catalogue.below(unlisted.path))
         kept = f"; its {known} pictures stay as they were" if known else ""
-        yield Picture.of(it.path, b"", problem=Problem.UNREADABLE, detail=it.reason + kept)
+        yield Picture.of(unlisted.path, b"", problem=Problem.UNREADABLE, detail=unlisted.reason + kept)
 
 
 def _version(program: str, seconds: float) -> Optional[str]:
@@ -228,10 +228,10 @@ class _Looking:
 
         self.version = exifnorm.version()
         self.catalogue.set_versions(self.run, self.version, None, None)
-        for it in self.options.look(self.work.to_read, self.options.how):
-            self.ready.append(it)
-            self.files += isinstance(it, Batch)
-            self.pictures += sum(it.states.values()) if isinstance(it, Batch) else 1
+        for result in self.options.look(self.work.to_read, self.options.how):
+            self.ready.append(result)
+            self.files += isinstance(result, Batch)
+            self.pictures += sum(result.states.values()) if isinstance(result, Batch) else 1
             if self.pictures >= BATCH or self.files >= FILES or time.monotonic() - self.last > LONGEST_WAIT:
                 self.commit()
         if self.ready:
@@ -243,13 +243,13 @@ class _Looking:
         entries = [one for it in self.ready for one in (it.unread if isinstance(it, Batch) else (it,))]
         self.catalogue.put(self.run, entries, [it.file for it in batches])
         self.keep_versions({program for it in self.ready for program in it.programs})
-        for it in self.ready:
-            if isinstance(it, Batch):
-                self.work.counts += it.states
-                self.print_lines(it.lines)
-                os.unlink(it.file)
+        for result in self.ready:
+            if isinstance(result, Batch):
+                self.work.counts += result.states
+                self.print_lines(result.lines)
+                os.unlink(result.file)
             else:
-                self.count(it, self.options.how.lines)
+                self.count(result, self.options.how.lines)
         self.done += self.pictures
         self.ready.clear()
         self.pictures = self.files = 0

@@ -148,5 +148,5 @@ def _is_racy(times: Sequence[int], began: int) -> bool:
 def in_this_process(work: Sequence[FoundFile], how: How) -> Iterator[Picture]:
     """The results for these files, in their order."""
     with Session(how.seconds, how.debug, how.room or None) as session:
-        for it in work:
-            yield look(it, how, session)
+        for file in work:
+            yield look(file, how, session)

@@ -58,9 +58,9 @@ class Departed:
             with catalogue.transaction():
                 words = ((f"to {shown_path(to)}", path) for path, to in self.went.items())
                 catalogue.base.executemany("UPDATE pictures SET problem = 'Moved', detail = ? WHERE path = ?", words)
-        for it in [*gone, *remounted]:
-            to = self.went.get(it.path)
-            yield it if to is None else Picture.of(it.path, b"", problem=Problem.MOVED, detail=f"to {shown_path(to)}")
+        for picture in [*gone, *remounted]:
+            to = self.went.get(picture.path)
+            yield picture if to is None else Picture.of(picture.path, b"", problem=Problem.MOVED, detail=f"to {shown_path(to)}")
 
     def _remounted(self, catalogue: Catalogue, run: int, new: Collection[bytes]) -> Iterator[Picture]:
         """The pictures of folders that are gone and whose files are new in this run: a file system that is mounted at another place.
@@ -85,14 +85,14 @@ def moved_together(went: Dict[bytes, bytes]) -> Dict[Tuple[bytes, bytes], List[b
     >>> moved_together({b"/a/x/1.jpg": b"/b/x/1.jpg", b"/a/x/2.jpg": b"/b/x/2.jpg", b"/a/3.jpg": b"/c/4.jpg"})
     {(b'/a', b'/b'): [b'/a/x/1.jpg', b'/a/x/2.jpg']}
     """
-    found: Dict[Tuple[bytes, bytes], List[bytes]] = {}
+    together: Dict[Tuple[bytes, bytes], List[bytes]] = {}
     for old, new in went.items():
-        one, other = old.split(b"/"), new.split(b"/")
-        while len(one) > 1 and len(other) > 1 and one[-1] == other[-1]:
-            del one[-1], other[-1]
-        if len(one) < old.count(b"/") + 1:
-            found.setdefault((b"/".join(one) or b"/", b"/".join(other) or b"/"), []).append(old)
-    return {key: paths for key, paths in found.items() if len(paths) > 1}
+        old_names, new_names = old.split(b"/"), new.split(b"/")
+        while len(old_names) > 1 and len(new_names) > 1 and old_names[-1] == new_names[-1]:
+            del old_names[-1], new_names[-1]
+        if len(old_names) < old.count(b"/") + 1:
+            together.setdefault((b"/".join(old_names) or b"/", b"/".join(new_names) or b"/"), []).append(old)
+    return {key: paths for key, paths in together.items() if len(paths) > 1}
 
 
 _REMOUNTED = """SELECT old.path, new.path FROM pictures AS new JOIN pictures AS old USING (inode, size, modified, exif_octets, iptc_octets, xmp_octets)

@@ -80,20 +80,20 @@ def _below(
         folder = waiting.pop()
         try:
             with os.scandir(folder) as entries:
-                found = sorted(entries, key=lambda it: it.name)
+                listing = sorted(entries, key=lambda it: it.name)
         except OSError as error:
             unlisted(Unlisted(folder, reason(error)))
             continue
         if excluded:
-            found = [it for it in found if not excluded.passes_over(it.path[head:])]
-        waiting += [it.path for it in reversed(found) if it.is_dir(follow_symlinks=False)]
-        files = [it for it in found if not _leads_to_folder(it) and it.path not in leave_out]
+            listing = [it for it in listing if not excluded.passes_over(it.path[head:])]
+        waiting += [it.path for it in reversed(listing) if it.is_dir(follow_symlinks=False)]
+        files = [it for it in listing if not _leads_to_folder(it) and it.path not in leave_out]
         known = Folder([] if sidecars is None else [it.name for it in files])
-        for it in files:
-            if sidecars is not None and it.name in known.files:
-                sidecars.add(it.path)
+        for entry in files:
+            if sidecars is not None and entry.name in known.files:
+                sidecars.add(entry.path)
             else:
-                yield FoundFile(it.path, top, _stamp(it), known.of(it.name))
+                yield FoundFile(entry.path, top, _stamp(entry), known.of(entry.name))
 
 
 def _leads_to_folder(entry: "os.DirEntry[bytes]") -> bool:

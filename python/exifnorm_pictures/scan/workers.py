@@ -46,9 +46,9 @@ def in_several_processes(work: Sequence[FoundFile], how: How) -> Iterator[Result
     """The results for these files. If no process can be started, this one looks at them."""
     done = 0
     try:
-        for it in _by_several(work, how):
-            yield it
-            done += sum(it.states.values()) if isinstance(it, Batch) else 1
+        for result in _by_several(work, how):
+            yield result
+            done += sum(result.states.values()) if isinstance(result, Batch) else 1
     except CannotStart as error:
         signals.say(f"exifnorm-pictures: one process looks at the pictures, since {error}")
         yield from in_this_process(work[done:], how)
@@ -62,16 +62,16 @@ def _by_several(work: Sequence[FoundFile], how: How) -> Iterator[Result]:
     while unfinished:
         unfinished = []
         yield from _by_processes(chunks, how, files, unfinished)
-        for it in unfinished:
-            yield from _one_by_one(it.chunk, how)
+        for task in unfinished:
+            yield from _one_by_one(task.chunk, how)
 
 
 def look_at_some(task: Task, how: How) -> Batch:
     """A process's results for the first pictures of a task: for all of them, unless that takes too long."""
     ends_at = time.monotonic() + LONGEST_WAIT
     entries: List[Picture] = []
-    for it in task.chunk:
-        entries.append(_look(it, how))
+    for file in task.chunk:
+        entries.append(_look(file, how))
         if time.monotonic() > ends_at:
             break
     return batch(task.file, entries, task.chunk[len(entries) :], how.lines)
@@ -115,11 +115,11 @@ def _by_processes(chunks: Iterator[Sequence[FoundFile]], how: How, files: Iterat
             while not wait([waiting[0]], WATCH).done:
                 if not _is_served(pool):  # its thread has died, as without memory
                     return
-            found = waiting[0].result()
+            result = waiting[0].result()
             waiting.popleft()
-            unfinished[:1] = [Task(found.left, next(files))] if found.left else []
-            yield found
-            if found.left:
+            unfinished[:1] = [Task(result.left, next(files))] if result.left else []
+            yield result
+            if result.left:
                 waiting.appendleft(pool.submit(look_at_some, unfinished[0], how))
         pool.shutdown()
     except BrokenProcessPool:
@@ -141,20 +141,20 @@ def _check_threads(processes: int) -> None:
     go = threading.Event()
     threads = [threading.Thread(target=go.wait, daemon=True) for _ in range(processes + 2)]
     try:
-        for it in threads:
-            it.start()
+        for thread in threads:
+            thread.start()
     finally:
         go.set()
-        for it in threads:
-            if it.ident is not None:
-                it.join()
+        for thread in threads:
+            if thread.ident is not None:
+                thread.join()
 
 
 def _remove_files(tasks: Iterable[Task]) -> None:
     """Removes the files of tasks whose processes have ended: their pictures are looked at again, or not at all."""
-    for it in tasks:
+    for task in tasks:
         with contextlib.suppress(FileNotFoundError):
-            os.unlink(it.file)
+            os.unlink(task.file)
 
 
 def _pool(how: How, processes: int) -> ProcessPoolExecutor:
@@ -177,12 +177,12 @@ def _pool(how: How, processes: int) -> ProcessPoolExecutor:
 
 def _one_by_one(chunk: Sequence[FoundFile], how: How) -> Iterator[Picture]:
     """The results for a chunk at which a process died: each file gets a process of its own, so that only one file fails."""
-    for it in chunk:
+    for file in chunk:
         pool = _pool(how, 1)
         try:
-            yield pool.submit(_look, it, how).result()
+            yield pool.submit(_look, file, how).result()
         except BrokenProcessPool:
-            yield failed(it, "the process that looked at it died twice")
+            yield failed(file, "the process that looked at it died twice")
         finally:
             signals.end_children()
             pool.shutdown(wait=True, cancel_futures=True)

@@ -75,10 +75,10 @@ class _Tree:
         names = {str(it).rstrip("/#") for it in self._tops if isinstance(it, self._rdflib.URIRef)}
         if len(names - {_BASE, ""}) > 1:
             raise Unreadable("SeveralSubjects")
-        found = tuple(self._statement(*it) for top in self._tops for it in self._by_subject[top])
+        statements = tuple(self._statement(*it) for top in self._tops for it in self._by_subject[top])
         if len(self._reached) + len(self._tops) < len(self._by_subject):
             raise Unreadable("Shared")  # a ring that no statement points to
-        return found
+        return statements
 
     def _statement(self, predicate: Any, value: Any) -> Statement:
         return Statement(str(predicate), self._value(value))

@@ -33,16 +33,16 @@ def statements(root: Element) -> Statements:
     """The statements of an rdf:RDF element. Raises `Unusual` and `Unreadable`."""
     if set(root.attrib) - {_LANG} or _says(root.text):
         raise Unusual
-    found: List[Statement] = []
+    every: List[Statement] = []
     subjects = set()
     for node in root:
         if node.tag != _DESCRIPTION or _says(node.tail):
             raise Unusual
         subjects.add(node.get(_ABOUT, node.get("about", "")))
-        found += _node(node, _language(root, ""))
+        every += _node(node, _language(root, ""))
     if len(subjects - {""}) > 1:
         raise Unreadable("SeveralSubjects")
-    return tuple(found)
+    return tuple(every)
 
 
 def _says(text: "str | None") -> bool:
@@ -51,14 +51,14 @@ def _says(text: "str | None") -> bool:
 
 def _language(element: Element, outer: str) -> str:
     """The language of an element's texts, which it has from the elements around it unless it has its own."""
-    found = element.get(_LANG)
-    if found is None:
+    language = element.get(_LANG)
+    if language is None:
         return outer
-    if len(found) > LANGUAGE:
+    if len(language) > LANGUAGE:
         raise Unreadable("TooLong")
-    if not _LANGUAGE.match(found):
+    if not _LANGUAGE.match(language):
         raise Unusual
-    return found.lower()
+    return language.lower()
 
 
 def _uri(name: str) -> str:
@@ -81,32 +81,32 @@ def _node(node: Element, language: str) -> List[Statement]:
     if node.tag not in _NODES or _says(node.text):
         raise Unusual
     language = _language(node, language)
-    found: List[Statement] = []
+    statements: List[Statement] = []
     if node.tag != _DESCRIPTION:
-        found.append(Statement(TYPE, Resource(RDF + node.tag[len(_R) :])))
+        statements.append(Statement(TYPE, Resource(RDF + node.tag[len(_R) :])))
     for name, text in node.attrib.items():
         if name == _R + "type":
-            found.append(Statement(TYPE, _resource(text)))
+            statements.append(Statement(TYPE, _resource(text)))
         elif name not in (_LANG, _ABOUT, "about"):
-            found.append(Statement(_uri(name), Literal(text, language)))
-    return found + _properties(node, language)
+            statements.append(Statement(_uri(name), Literal(text, language)))
+    return statements + _properties(node, language)
 
 
 def _properties(node: Element, language: str) -> List[Statement]:
-    found: List[Statement] = []
+    statements: List[Statement] = []
     number = 0
-    for it in node:
-        if _says(it.tail):
+    for element in node:
+        if _says(element.tail):
             raise Unusual
-        if it.tag == _LI:
+        if element.tag == _LI:
             number += 1
             predicate = f"{RDF}_{number}"
         else:
-            predicate = _uri(it.tag)
-        if MEMBER.match(predicate) and it.tag != _LI:
+            predicate = _uri(element.tag)
+        if MEMBER.match(predicate) and element.tag != _LI:
             raise Unusual
-        found.append(Statement(predicate, _value(it, _language(it, language))))
-    return found
+        statements.append(Statement(predicate, _value(element, _language(element, language))))
+    return statements
 
 
 def _resource(uri: str) -> Resource:

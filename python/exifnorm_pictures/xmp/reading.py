@@ -52,15 +52,15 @@ def statements(packet: bytes, extensions: Union[Extensions, Mapping[str, bytes]]
         extensions.budget.small_packets -= 1
     else:
         spend(packet, extensions.budget)
-    found = _parsed(packet, extensions.budget)
-    wanted = _named(found)
+    parsed = _parsed(packet, extensions.budget)
+    wanted = _named(parsed)
     if not wanted:
-        return found
+        return parsed
     used.update(wanted)
     added: Statements = ()
     for name in wanted:
         added += extensions.statements(name)
-    return tuple(it for it in found if it.predicate != NOTE) + added
+    return tuple(it for it in parsed if it.predicate != NOTE) + added
 
 
 def _parsed(packet: bytes, budget: Budget) -> Statements:
@@ -74,15 +74,15 @@ def _parsed(packet: bytes, budget: Budget) -> Statements:
             raise
         except TooMuch:
             raise Unreadable("TooRare") from None
-        found = by_rdflib.statements(root, budget)
-    check_repeated(found)  # rdflib doesn't keep the order
-    return found
+        parsed = by_rdflib.statements(root, budget)
+    check_repeated(parsed)  # rdflib doesn't keep the order
+    return parsed
 
 
-def check_repeated(found: Statements) -> None:
+def check_repeated(statements: Statements) -> None:
     """Raises `Unreadable` if a property stands twice with different values: their order decides which one a reader shows, and isn't known."""
     seen: Dict[str, Value] = {}
-    for predicate, value in found:
+    for predicate, value in statements:
         other = seen.setdefault(predicate, value)
         if other is not value and predicate != TYPE and other != value and key_of(other) != key_of(value):
             raise Unreadable("Repeated")
@@ -90,11 +90,11 @@ def check_repeated(found: Statements) -> None:
             check_repeated(value.statements)
 
 
-def _named(found: Statements) -> Tuple[str, ...]:
+def _named(statements: Statements) -> Tuple[str, ...]:
     """The digests of the extended XMP that some statements refer to."""
-    return tuple(dict.fromkeys(it.value.text.upper() for it in found if it.predicate == NOTE and isinstance(it.value, Literal)))
+    return tuple(dict.fromkeys(it.value.text.upper() for it in statements if it.predicate == NOTE and isinstance(it.value, Literal)))
 
 
-def digest(found: Statements) -> str:
+def digest(statements: Statements) -> str:
     """SHA-256 of some statements, in any order."""
-    return digest_of(found)
+    return digest_of(statements)

@@ -85,15 +85,15 @@ def unique(statements: Statements) -> "List[Statement]":
 def digest_of(statements: Statements, is_bag: bool = False) -> str:
     """A digest that is equal for the same statements in any order.
 
-    >>> one, other = Statement("a", Literal("1")), Statement("b", Literal("2"))
-    >>> digest_of((one, other)) == digest_of((other, one)), digest_of((one,)) == digest_of((other,))
+    >>> first, second = Statement("a", Literal("1")), Statement("b", Literal("2"))
+    >>> digest_of((first, second)) == digest_of((second, first)), digest_of((first,)) == digest_of((second,))
     (True, False)
     """
     lines: List[str] = []
-    found = unique(statements)
-    many = len({predicate for predicate, _ in found}) < len(found)
+    distinct = unique(statements)
+    many = len({predicate for predicate, _ in distinct}) < len(distinct)
     counts: Dict[str, int] = {}
-    for predicate, value in found:
+    for predicate, value in distinct:
         word = "member" if is_bag and MEMBER.match(predicate) else predicate
         if many and predicate != TYPE:  # XMP allows a property once; of several, readers take the first or the last, so their order counts
             number = counts[predicate] = counts.get(predicate, 0) + 1

@@ -64,17 +64,17 @@ def boxes_of_file(blocks: Blocks, stream: Stream, is_whole: Callable[[Set[bytes]
 
     Raises `Broken` and `TooMuch`.
     """
-    found: List[Box] = []
+    every: List[Box] = []
     try:
-        for it in boxes(stream, 0, size_of(stream), is_file=True):
-            found.append(it)
+        for box in boxes(stream, 0, size_of(stream), is_file=True):
+            every.append(box)
     except Broken:
-        if not is_whole({it.kind for it in found}):
+        if not is_whole({it.kind for it in every}):
             raise
-        leave_rest(blocks, stream, found[-1].end)
-    if not is_whole({it.kind for it in found}):
+        leave_rest(blocks, stream, every[-1].end)
+    if not is_whole({it.kind for it in every}):
         raise Broken("the file has no picture")
-    return found
+    return every
 
 
 def content(stream: Stream, box: Box) -> bytes:
@@ -112,20 +112,20 @@ class Fields:
     def number(self, length: int) -> int:
         """The next number, of so many bytes; 0 for none.
 
-        >>> some = Fields(b"\\1\\0", "pitm box"); some.number(2), some.number(0)
+        >>> fields = Fields(b"\\1\\0", "pitm box"); fields.number(2), fields.number(0)
         (256, 0)
         """
         end = self.at + length
         if end > len(self.data):
             raise Broken(f"the {self.name} is cut")
-        found = int.from_bytes(self.data[self.at : end], "big")
+        number = int.from_bytes(self.data[self.at : end], "big")
         self.at = end
-        return found
+        return number
 
     def text(self) -> bytes:
         """The next text, up to a zero byte."""
         end = self.data.find(b"\0", self.at)
         if end < 0:
             raise Broken(f"the {self.name} has a text without end")
-        found, self.at = self.data[self.at : end], end + 1
-        return found
+        text, self.at = self.data[self.at : end], end + 1
+        return text

@@ -15,19 +15,19 @@ _WITHOUT = frozenset((b"CCTP", b"CTBO", b"THMB", b"free"))  # kinds and places o
 
 def parts(blocks: Blocks, stream: Stream, box: Box) -> Dict[bytes, Box]:
     """The version and the structures of the box. Other boxes in it are named. Raises `Broken`."""
-    found: Dict[bytes, Box] = {}
-    for one in boxes(stream, box.start, box.end):
-        if one.kind in (VERSION, MAIN, EXIF, MAKER_NOTE, GPS):
-            if one.kind in found:
-                raise Broken(f"a second {one.name}")
-            found[one.kind] = one
-        elif one.kind not in _WITHOUT:
-            leave(blocks, f"{one.name} of Canon", stream, one.start, one.end)
-    return found
+    structures: Dict[bytes, Box] = {}
+    for structure in boxes(stream, box.start, box.end):
+        if structure.kind in (VERSION, MAIN, EXIF, MAKER_NOTE, GPS):
+            if structure.kind in structures:
+                raise Broken(f"a second {structure.name}")
+            structures[structure.kind] = structure
+        elif structure.kind not in _WITHOUT:
+            leave(blocks, f"{structure.name} of Canon", stream, structure.start, structure.end)
+    return structures
 
 
 def leave_all(blocks: Blocks, stream: Stream, box: Box) -> None:
     """Names the structures, in a picture whose Exif is elsewhere. Raises `Broken`."""
-    for one in parts(blocks, stream, box).values():
-        if one.kind != VERSION:
-            leave(blocks, f"{one.name} of Canon", stream, one.start, one.end)
+    for structure in parts(blocks, stream, box).values():
+        if structure.kind != VERSION:
+            leave(blocks, f"{structure.name} of Canon", stream, structure.start, structure.end)

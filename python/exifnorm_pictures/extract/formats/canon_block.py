@@ -87,18 +87,18 @@ class _Joined(Directories):
         """The first directory of a structure, with its interoperability directory."""
         entries = self._directory(kind, self._firsts[kind])
         below: Dict[int, Table] = {}
-        for it in entries if kind == EXIF else ():
-            if it.tag == _INTEROPERABILITY and is_pointer(it) and not below:
-                below[it.tag] = Table(self._directory(kind, self.number(it.last)), {})
+        for entry in entries if kind == EXIF else ():
+            if entry.tag == _INTEROPERABILITY and is_pointer(entry) and not below:
+                below[entry.tag] = Table(self._directory(kind, self.number(entry.last)), {})
         return Table(entries, below)
 
     def _directory(self, kind: bytes, offset: int) -> List[Entry]:
         """The entries of a directory, whose values are in its own structure or nowhere."""
         start, end = self._ranges[kind]
-        found: Directory = self.read(start + offset)
-        if found.following or found.at + 6 + 12 * len(found.entries) > end:
+        directory: Directory = self.read(start + offset)
+        if directory.following or directory.at + 6 + 12 * len(directory.entries) > end:
             raise _NotOne
-        return [it if it.size <= 4 else it._replace(last=self._moved(it, start, end)) for it in found.entries]
+        return [it if it.size <= 4 else it._replace(last=self._moved(it, start, end)) for it in directory.entries]
 
     def _moved(self, entry: Entry, start: int, end: int) -> bytes:
         place = start + self.number(entry.last)

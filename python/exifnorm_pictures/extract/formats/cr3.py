@@ -36,46 +36,46 @@ def read(stream: Stream, whole: bool = False) -> Blocks:
     """The blocks of a CR3. Raises `Broken`, and `LeftToOthers` for a film."""
     blocks = Blocks(type="CR3", budget=budget_of(stream))
     movies = 0
-    for it in boxes_of_file(blocks, stream, lambda kinds: b"moov" in kinds):
-        if it.kind == b"moov":
+    for box in boxes_of_file(blocks, stream, lambda kinds: b"moov" in kinds):
+        if box.kind == b"moov":
             movies += 1
-            _movie(blocks, stream, it)
-        elif it.uuid == XMP_UUID:
-            add_xmp(blocks, stream, it)
-        elif it.kind not in _WITHOUT and it.uuid != _PREVIEW:
-            leave(blocks, it.name, stream, it.start, it.end)
+            _movie(blocks, stream, box)
+        elif box.uuid == XMP_UUID:
+            add_xmp(blocks, stream, box)
+        elif box.kind not in _WITHOUT and box.uuid != _PREVIEW:
+            leave(blocks, box.name, stream, box.start, box.end)
     if movies > 1:
         raise Broken("the file has two moov boxes")
     return blocks
 
 
 def _movie(blocks: Blocks, stream: Stream, moov: Box) -> None:
-    found: Dict[bytes, Box] = {}
-    for it in boxes(stream, moov.start, moov.end):
-        if it.uuid == canon.UUID and not found:
-            found = canon.parts(blocks, stream, it)
-        elif it.kind == b"trak":
-            _Track(blocks, stream, it).take()
-        elif it.kind not in _WITHOUT_IN_MOVIE:
-            leave(blocks, f"{it.name} in moov", stream, it.start, it.end)
-    if canon.MAIN not in found:
+    structures: Dict[bytes, Box] = {}
+    for box in boxes(stream, moov.start, moov.end):
+        if box.uuid == canon.UUID and not structures:
+            structures = canon.parts(blocks, stream, box)
+        elif box.kind == b"trak":
+            _Track(blocks, stream, box).take()
+        elif box.kind not in _WITHOUT_IN_MOVIE:
+            leave(blocks, f"{box.name} in moov", stream, box.start, box.end)
+    if canon.MAIN not in structures:
         raise Broken("the file has no CMT1 box")
-    version = found.pop(canon.VERSION, None)
+    version = structures.pop(canon.VERSION, None)
     if version is not None and not content(stream, version).startswith(b"CanonCR3"):
         raise LeftToOthers("a film of Canon")
-    _add_exif(blocks, stream, found)
+    _add_exif(blocks, stream, structures)
 
 
-def _add_exif(blocks: Blocks, stream: Stream, found: Dict[bytes, Box]) -> None:
+def _add_exif(blocks: Blocks, stream: Stream, canon_boxes: Dict[bytes, Box]) -> None:
     """Adds one block of all structures; if they can't be one, a block of each."""
-    structures = {kind: content(stream, it) for kind, it in found.items() if not is_blank(stream, it.start, it.end)}
+    structures = {kind: content(stream, it) for kind, it in canon_boxes.items() if not is_blank(stream, it.start, it.end)}
     block = one_block(structures, blocks.budget)
     if block is not None:
         names = ", ".join(it.decode("ascii") for it in sorted(structures))
-        blocks.add(EXIF, block, f"boxes {names} at {found[canon.MAIN].at}")
+        blocks.add(EXIF, block, f"boxes {names} at {canon_boxes[canon.MAIN].at}")
         return
     for kind, data in structures.items():
-        blocks.add(EXIF, data, f"{found[kind].name} at {found[kind].at}", _NAMES.get(kind, ""))
+        blocks.add(EXIF, data, f"{canon_boxes[kind].name} at {canon_boxes[kind].at}", _NAMES.get(kind, ""))
 
 
 class _Track:
@@ -85,9 +85,9 @@ class _Track:
         self.blocks, self.stream = blocks, stream
         self._found: Dict[bytes, Box] = {}
         waiting = [trak]
-        for one in waiting:  # which grows meanwhile: at most by one box of each kind
-            for it in boxes(stream, one.start, one.end):
-                self._sort(it, waiting)
+        for outer in waiting:  # which grows meanwhile: at most by one box of each kind
+            for box in boxes(stream, outer.start, outer.end):
+                self._sort(box, waiting)
 
     def _sort(self, box: Box, waiting: List[Box]) -> None:
         if box.kind in (b"free", b"skip"):

@@ -16,9 +16,9 @@ def add_jpeg(blocks: Blocks, stream: Stream, start: int, length: int, part: str,
     if read_at(stream, start, 3) != jpeg.START:
         raise Broken(f"no JPEG at {start}")
     of = f" of {part}" if part else ""
-    found = jpeg.read(Window(stream, start, length), whole)
-    for it in found.found:
+    inner = jpeg.read(Window(stream, start, length), whole)
+    for block in inner.found:
         blocks.check()
-        blocks.counts[it.name + of] = 1
-        blocks.found.append(it._replace(name=it.name + of, where=f"{it.where} of the JPEG at {start}"))
-    blocks.not_read += [NotRead(it.what + of, it.digest) for it in found.not_read]
+        blocks.counts[block.name + of] = 1
+        blocks.found.append(block._replace(name=block.name + of, where=f"{block.where} of the JPEG at {start}"))
+    blocks.not_read += [NotRead(it.what + of, it.digest) for it in inner.not_read]

@@ -65,11 +65,11 @@ class _Reader:
         if not 0 <= first <= len(self._piece) - length:
             self.stream.seek(self.at)
             self._piece, self._start, first = self.stream.read(max(PIECE, length)), self.at, 0
-        found = self._piece[first : first + length]
-        if len(found) < length:
+        octets = self._piece[first : first + length]
+        if len(octets) < length:
             raise Broken(f"the file ends inside the {length} bytes at {self.at}")
         self.at += length
-        return found
+        return octets
 
     def skip(self) -> None:
         """Goes on behind the next blocks of data. Raises `Broken` and `TooMuch`."""
@@ -79,11 +79,11 @@ class _Reader:
 
     def data(self) -> bytes:
         """The next blocks of data, joined. Raises `Broken` and `TooMuch`."""
-        found = bytearray()
+        joined = bytearray()
         while length := self.take(1)[0]:
             self.budget.spend(BLOCK_BYTES, length)
-            found += self.take(length)
-        return bytes(found)
+            joined += self.take(length)
+        return bytes(joined)
 
     def extension(self, at: int) -> None:
         """Adds the block of an extension, or names it. Raises `Broken` and `TooMuch`."""

@@ -41,16 +41,16 @@ def read(stream: Stream, whole: bool = False) -> Blocks:
     """The blocks of a HEIF, which is always read to its last box. Raises `Broken`."""
     blocks = Blocks(type="AVIF" if read_at(stream, 8, 3) == b"avi" else "HEIC", budget=budget_of(stream))
     meta = None
-    for it in boxes_of_file(blocks, stream, _is_whole):
-        if it.kind == b"meta":
+    for box in boxes_of_file(blocks, stream, _is_whole):
+        if box.kind == b"meta":
             if meta is not None:
                 raise Broken("the file has two meta boxes")
-            meta = it
-            _Reader(stream, blocks).read(it)
-        elif it.uuid == XMP_UUID:
-            add_xmp(blocks, stream, it)
-        elif it.kind not in _WITHOUT and it.at:  # the first one is ftyp
-            leave(blocks, it.name, stream, it.start, it.end)
+            meta = box
+            _Reader(stream, blocks).read(box)
+        elif box.uuid == XMP_UUID:
+            add_xmp(blocks, stream, box)
+        elif box.kind not in _WITHOUT and box.at:  # the first one is ftyp
+            leave(blocks, box.name, stream, box.start, box.end)
     return blocks
 
 
@@ -69,19 +69,19 @@ class _Reader:
     def read(self, meta: Box) -> None:
         """Adds the blocks of all items."""
         known: Set[bytes] = set()
-        for it in boxes(self.stream, meta.start + 4, meta.end):
-            if it.kind in READERS or it.kind == b"iprp":
-                if it.kind in known:
-                    raise Broken(f"a second {it.name} at {it.at}")
-                known.add(it.kind)
-            if it.kind in READERS:
-                self.items.read(it)
-            elif it.kind == b"iprp":
-                self._properties(it)
-            elif it.uuid == canon.UUID:
-                canon.leave_all(self.blocks, self.stream, it)
-            elif it.kind not in _WITHOUT_IN_META:
-                self._leave(f"{it.name} in meta", it)
+        for box in boxes(self.stream, meta.start + 4, meta.end):
+            if box.kind in READERS or box.kind == b"iprp":
+                if box.kind in known:
+                    raise Broken(f"a second {box.name} at {box.at}")
+                known.add(box.kind)
+            if box.kind in READERS:
+                self.items.read(box)
+            elif box.kind == b"iprp":
+                self._properties(box)
+            elif box.uuid == canon.UUID:
+                canon.leave_all(self.blocks, self.stream, box)
+            elif box.kind not in _WITHOUT_IN_META:
+                self._leave(f"{box.name} in meta", box)
         self.items.check()
         names = self.items.pictures()
         for item in self.items.items:
@@ -92,13 +92,13 @@ class _Reader:
         leave(self.blocks, what, self.stream, box.start, box.end)
 
     def _properties(self, iprp: Box) -> None:
-        for it in boxes(self.stream, iprp.start, iprp.end):
-            if it.kind == b"ipco":
-                for one in boxes(self.stream, it.start, it.end):
-                    if one.kind not in _PROPERTIES:
-                        self._leave(one.name.replace(" box", " property"), one)
-            elif it.kind != b"ipma":
-                self._leave(f"{it.name} in iprp", it)
+        for box in boxes(self.stream, iprp.start, iprp.end):
+            if box.kind == b"ipco":
+                for inner in boxes(self.stream, box.start, box.end):
+                    if inner.kind not in _PROPERTIES:
+                        self._leave(inner.name.replace(" box", " property"), inner)
+            elif box.kind != b"ipma":
+                self._leave(f"{box.name} in iprp", box)
 
     def _take(self, item: Item, names: Dict[int, str]) -> None:
         """Adds the block of an item, or names it."""
@@ -129,10 +129,10 @@ class _Reader:
         start, end = (idat.start, idat.end) if place.method == 1 and idat is not None else (0, size_of(self.stream))
         if not place.has_lengths or (place.method == 1 and any(not length for _, length in place.extents)):
             return None  # all of the file or of idat
-        found = [(start + offset, start + offset + length) for offset, length in place.extents]
-        if any(stop > end for _, stop in found):
+        ranges = [(start + offset, start + offset + length) for offset, length in place.extents]
+        if any(stop > end for _, stop in ranges):
             raise Broken(f"item {item.number} isn't in the file")
-        return found
+        return ranges
 
     def _data(self, ranges: List[Tuple[int, int]]) -> bytes:
         self.blocks.budget.spend(BOX_BYTES, sum(end - start for start, end in ranges))

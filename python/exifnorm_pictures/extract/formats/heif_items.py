@@ -89,10 +89,10 @@ class Items:
     def _idat(self, box: Box) -> None:
         self.idat = box
 
-    def _iinf(self, it: Box) -> None:
-        version, fields = self._full(it)
+    def _iinf(self, iinf: Box) -> None:
+        version, fields = self._full(iinf)
         count = fields.number(4 if version else 2)
-        self.items = [self._infe(box) for box in boxes(self.stream, it.start + fields.at, it.end) if box.kind == b"infe"]
+        self.items = [self._infe(box) for box in boxes(self.stream, iinf.start + fields.at, iinf.end) if box.kind == b"infe"]
         if not count == len(self.items) == len({item.number for item in self.items}):
             raise Broken("the list of items is wrong")
 
@@ -136,12 +136,12 @@ class Items:
         self.budget.spend(EXTENTS, count)
         return count
 
-    def _iref(self, it: Box) -> None:
-        version, fields = self._full(it)
+    def _iref(self, iref: Box) -> None:
+        version, fields = self._full(iref)
         if version > 1:
             raise Broken("the iref box has another form")
         size = 4 if version else 2
-        for box in boxes(self.stream, it.start + fields.at, it.end):
+        for box in boxes(self.stream, iref.start + fields.at, iref.end):
             numbers = Fields(content(self.stream, box), box.name)
             item = numbers.number(size)
             others = [numbers.number(size) for _ in range(self._counted(numbers.number(2)))]
@@ -165,10 +165,10 @@ class Items:
         for word, numbers in (("auxiliary picture", self._auxiliary), ("thumbnail", self._thumbnails)):
             names.update({number: f"{word} {count}" for count, number in enumerate(dict.fromkeys(numbers), 1)})
         count = 0
-        for it in self.items:
-            if it.kind in PICTURES and it.number not in names and (it.number == self.primary or it.number not in self._tiles):
+        for item in self.items:
+            if item.kind in PICTURES and item.number not in names and (item.number == self.primary or item.number not in self._tiles):
                 count += 1
-                names[it.number] = f"picture {count}"
+                names[item.number] = f"picture {count}"
         return names
 
     def part_of(self, item: Item, names: Dict[int, str]) -> str:

@@ -28,8 +28,8 @@ _PHOTOSHOP = bytes.fromhex("2c4c0100850440b9a03e562148d6dfeb")
 _GEOTIFF = bytes.fromhex("b14bf8bd083d4b43a5ae8cd7d5a6ce03")
 # Settings of Adobe's plugin, of one byte or four (ExifTool's module Jpeg2000)
 _SETTINGS = frozenset(
-    bytes.fromhex(it)
-    for it in (
+    bytes.fromhex(digits)
+    for digits in (
         "3a0d02180ae94115b3764bca41ce0e71",
         "47c92cccd1a14581b90438bb5467713b",
         "bc45a774dd504ec6a9f6f3a137f47e90",
@@ -47,9 +47,9 @@ def read(stream: Stream, whole: bool = False) -> Blocks:
     """The blocks of a JPEG 2000. Raises `Broken`."""
     is_bare = read_at(stream, 0, len(BARE)) == BARE
     blocks = Blocks(type="J2C" if is_bare else "JP2", budget=budget_of(stream))
-    for it in () if is_bare else boxes_of_file(blocks, stream, _is_whole):
-        if it.at:  # the first one is the signature
-            _take(blocks, stream, it, 1)
+    for box in () if is_bare else boxes_of_file(blocks, stream, _is_whole):
+        if box.at:  # the first one is the signature
+            _take(blocks, stream, box, 1)
     return blocks
 
 
@@ -62,8 +62,8 @@ def _take(blocks: Blocks, stream: Stream, box: Box, depth: int) -> None:
     if box.kind in _NESTED:
         if depth > _DEEPEST:
             raise Broken(f"more than {_DEEPEST} boxes in one another")
-        for one in boxes(stream, box.start, box.end):
-            _take(blocks, stream, one, depth + 1)
+        for inner in boxes(stream, box.start, box.end):
+            _take(blocks, stream, inner, depth + 1)
     elif box.kind == b"uuid":
         _uuid(blocks, stream, box)
     elif box.kind == b"xml ":
@@ -89,8 +89,8 @@ def _uuid(blocks: Blocks, stream: Stream, box: Box) -> None:
 
 def _geotiff(blocks: Blocks, stream: Window, where: str) -> None:
     inside = tiff.read(stream)
-    for one in inside.found:
+    for block in inside.found:
         blocks.check()
-        blocks.found.append(one._replace(name=f"{one.name} of GeoTIFF", where=f"{one.where} of the {where}"))
+        blocks.found.append(block._replace(name=f"{block.name} of GeoTIFF", where=f"{block.where} of the {where}"))
     for part in inside.not_read:
         blocks.name(NotRead(f"{part.what} of GeoTIFF", part.digest))

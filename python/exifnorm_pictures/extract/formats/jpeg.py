@@ -58,9 +58,9 @@ def read(stream: Stream, whole: bool = False) -> Blocks:
     whole = whole or head.index_is_wrong
     _read_after(stream, head, (starts + [end])[0], whole)
     for number, start in enumerate(starts):
-        one = _Head(blocks, f"MPF picture {number + 2}")
-        one.read(stream, start, budget)
-        _read_after(stream, one, (starts + [end])[number + 1], whole)
+        following = _Head(blocks, f"MPF picture {number + 2}")
+        following.read(stream, start, budget)
+        _read_after(stream, following, (starts + [end])[number + 1], whole)
     return blocks
 
 
@@ -159,35 +159,35 @@ def _add_piece(blocks: List[Tuple[str, List[bytes]]], begins: int, place: str, d
 
 def _further(stream: Stream, head: _Head, end: int) -> List[int]:
     """The offsets of the further pictures of the MPF index. An index that does not fit the file is noted, and not followed."""
-    found: Set[int] = set()
+    starts: Set[int] = set()
     for at, data in head.indexes:
         try:
             places = mpf.further_pictures(data, at)
-            for it in places:
-                if it.start < head.end or it.start + it.length > end or read_at(stream, it.start, 3) != START:
-                    raise Broken(f"no picture at {it.start}")
-            found.update(it.start for it in places)
+            for place in places:
+                if place.start < head.end or place.start + place.length > end or read_at(stream, place.start, 3) != START:
+                    raise Broken(f"no picture at {place.start}")
+            starts.update(it.start for it in places)
         except Broken as why:
             head.index_is_wrong = True
             head.blocks.leave(f"MPF index that does not fit the file ({why})", data)
-    return sorted(found)
+    return sorted(starts)
 
 
 def _read_after(stream: Stream, head: _Head, end: int, whole: bool) -> None:
     """Reads the part after a picture's first scan, up to the next picture or the end of the file."""
     if head.ends_at(end):
         return
-    found = tail(stream, head.end, end, whole) if head.has_scan else Tail([], min(head.end, end), True)
-    for at, length in found.segments:
+    rest = tail(stream, head.end, end, whole) if head.has_scan else Tail([], min(head.end, end), True)
+    for at, length in rest.segments:
         what = f"metadata segment behind the first scan{head.of}"
         head.blocks.not_read.append(NotRead(what, digest_of(stream, at, min(at + length, end))))
-    if not found.is_read:
+    if not rest.is_read:
         head.blocks.not_read.append(NotRead(f"what follows the first scan{head.of}, {end - head.end:,} bytes", ""))
         return
-    if found.has_mark and found.end >= end:
+    if rest.has_mark and rest.end >= end:
         return
     trailer = known_trailer(stream, end)
-    start = found.end if found.has_mark or trailer is None else max(head.end, end - WINDOW)
+    start = rest.end if rest.has_mark or trailer is None else max(head.end, end - WINDOW)
     digest = digest_of_rest(stream, start, end) if start < end else None
     if digest is None:
         return

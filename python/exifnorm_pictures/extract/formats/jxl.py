@@ -27,12 +27,12 @@ def read(stream: Stream, whole: bool = False) -> Blocks:
     blocks = Blocks(type="JXL", budget=budget_of(stream))
     if read_at(stream, 0, len(BARE)) == BARE:
         return blocks
-    for it in boxes_of_file(blocks, stream, _is_whole):
-        if it.kind == b"ftyp":
-            if read_at(stream, it.start, min(4, it.end - it.start)) != _BRAND:
+    for box in boxes_of_file(blocks, stream, _is_whole):
+        if box.kind == b"ftyp":
+            if read_at(stream, box.start, min(4, box.end - box.start)) != _BRAND:
                 raise Broken("the JPEG XL has the brand of another format")
-        elif it.at and it.kind not in _WITHOUT:  # the first one is the signature
-            _take(blocks, stream, it)
+        elif box.at and box.kind not in _WITHOUT:  # the first one is the signature
+            _take(blocks, stream, box)
     return blocks
 
 

@@ -31,10 +31,10 @@ def further_pictures(data: bytes, base: int) -> List[Place]:
         at = struct.unpack_from(order + "I", data, 4)[0]
         count = struct.unpack_from(order + "H", data, at)[0]
         entries = [struct.unpack_from(order + "HHII", data, at + 2 + 12 * it) for it in range(count)]
-        found = next((it for it in entries if it[0] == _MP_ENTRIES), None)
-        if found is None or found[2] % _ENTRY_LENGTH or found[3] + found[2] > len(data):
+        entry = next((it for it in entries if it[0] == _MP_ENTRIES), None)
+        if entry is None or entry[2] % _ENTRY_LENGTH or entry[3] + entry[2] > len(data):
             raise Broken("the MPF index has no list of pictures")
-        rows = [struct.unpack_from(order + "III", data, found[3] + it) for it in range(0, found[2], _ENTRY_LENGTH)]
+        rows = [struct.unpack_from(order + "III", data, entry[3] + it) for it in range(0, entry[2], _ENTRY_LENGTH)]
     except struct.error:
         raise Broken("the MPF index is cut") from None
     return [Place(base + offset, length) for _, length, offset in rows if offset]

@@ -31,12 +31,12 @@ def resources(data: bytes, most: int = LIMITS[RESOURCES]) -> Tuple[List[exifnorm
     ([Resource(number=1028, start=12, size=3)], b'')
     """
     try:
-        found = exifnorm.photoshop_resources(data, most)
+        rows = exifnorm.photoshop_resources(data, most)
     except exifnorm.TooMany:
         raise TooMuch(f"more than {most:,} {RESOURCES}") from None
-    end = found[-1].start + found[-1].size + found[-1].size % 2 if found else 0
+    end = rows[-1].start + rows[-1].size + rows[-1].size % 2 if rows else 0
     rest = data[end:]
-    return found, rest if rest.strip(b"\0") else b""
+    return rows, rest if rest.strip(b"\0") else b""
 
 
 def add_resources(blocks: Blocks, runs: Sequence[Tuple[str, bytes]], part: str = "") -> None:
@@ -46,10 +46,10 @@ def add_resources(blocks: Blocks, runs: Sequence[Tuple[str, bytes]], part: str =
     if len(runs) > 1 and any(resources(data, most)[1] for _, data in runs[:-1]):
         runs = [(runs[0][0], b"".join(data for _, data in runs))]
     for where, data in runs:
-        found, rest = resources(data, most)
-        if len(found) > FEW:
-            blocks.budget.spend(RESOURCES, len(found))
-        for number, start, size in found:
+        rows, rest = resources(data, most)
+        if len(rows) > FEW:
+            blocks.budget.spend(RESOURCES, len(rows))
+        for number, start, size in rows:
             if number in KEPT:
                 add_one(blocks, number, data[start : start + size], where, part)
         if rest:

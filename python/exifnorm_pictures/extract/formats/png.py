@@ -108,13 +108,13 @@ class _Reader:
             raise _Unreadable("its compression is not known")
         opened = zlib.decompressobj()
         try:
-            found = opened.decompress(data, self.budget.left[CHUNK_BYTES] + 1)
+            inflated = opened.decompress(data, self.budget.left[CHUNK_BYTES] + 1)
         except zlib.error:
             raise _Unreadable("its compressed data is damaged") from None
-        self.budget.spend(CHUNK_BYTES, len(found))
+        self.budget.spend(CHUNK_BYTES, len(inflated))
         if not opened.eof:
             raise _Unreadable("its compressed data is cut")
-        return found
+        return inflated
 
     def _profile(self, kind: bytes, data: bytes, where: str) -> None:
         if kind in (b"exif", b"app1"):

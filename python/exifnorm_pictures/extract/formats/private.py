@@ -104,9 +104,9 @@ class Private:
         """The digest of Sony's private directory; none if it leads to more than the encrypted one. Raises `Broken`."""
         self._reaches(directory.end, directory.at)
         digest = hashlib.sha256()
-        for one in directory.entries:
-            if one.tag != _SR2[0]:
-                digest.update(b"%d %d %d " % (one.tag, one.type, one.elements) + self._value(one))
+        for entry in directory.entries:
+            if entry.tag != _SR2[0]:
+                digest.update(b"%d %d %d " % (entry.tag, entry.type, entry.elements) + self._value(entry))
         inner = [one for tag in _SR2 for one in directory.entries if one.tag == tag]
         if any(one.tag in _IDC for one in directory.entries) or [one.tag for one in inner] not in ([], list(_SR2)):
             return ""

@@ -34,17 +34,17 @@ class _Header(NamedTuple):
 def read(stream: Stream, whole: bool = False) -> Blocks:
     """The blocks of a PSD or PSB. Raises `Broken`."""
     head = read_at(stream, 0, 26)
-    it = _Header(*struct.unpack(">4xH6xHIIH2x", head))
-    if it.version not in (1, _BIG) or any(head[6:12]):
+    header = _Header(*struct.unpack(">4xH6xHIIH2x", head))
+    if header.version not in (1, _BIG) or any(head[6:12]):
         raise Broken("the file has another version than Photoshop's 1 and 2")
-    blocks = Blocks(type="PSB" if it.version == _BIG else "PSD", budget=budget_of(stream))
-    size, wide = size_of(stream), 8 if it.version == _BIG else 4
+    blocks = Blocks(type="PSB" if header.version == _BIG else "PSD", budget=budget_of(stream))
+    size, wide = size_of(stream), 8 if header.version == _BIG else 4
     at = _end(stream, 26, 4, size, "colour table")
     start, at = at + 4, _end(stream, at, 4, size, "image resources")
     _add_resources(blocks, stream, start, at)
     start, at = at + wide, _end(stream, at, wide, size, "layers")
     leave(blocks, "Photoshop's layers", stream, start, at)
-    _leave_trailer(blocks, stream, _end_of_picture(it, stream, at, size), size)
+    _leave_trailer(blocks, stream, _end_of_picture(header, stream, at, size), size)
     return blocks
 
 
@@ -82,15 +82,15 @@ def _sum(data: bytes, wide: int, code: str) -> int:
 _LENGTHS: Dict[int, Callable[[bytes], int]] = {2: lambda it: _sum(it, 2, "H"), 4: lambda it: _sum(it, 4, "I")}
 
 
-def _end_of_picture(it: _Header, stream: Stream, at: int, size: int) -> Optional[int]:
+def _end_of_picture(header: _Header, stream: Stream, at: int, size: int) -> Optional[int]:
     """The end of the merged picture, which is the last part of a file; None if it isn't known."""
     compression = int.from_bytes(read_at(stream, at, 2), "big")
-    rows = it.channels * it.height
+    rows = header.channels * header.height
     start = at + 2
     if compression == _RAW:
-        end = start + rows * ((it.width * it.depth + 7) // 8)
+        end = start + rows * ((header.width * header.depth + 7) // 8)
     elif compression == _PACKED and rows <= STRIPS:
-        wide = 4 if it.version == _BIG else 2
+        wide = 4 if header.version == _BIG else 2
         table = start + rows * wide  # of the lengths of the rows, which follow it
         end = table + sum(map(_LENGTHS[wide], pieces(stream, start, table)))
     else:

@@ -68,14 +68,14 @@ def _add_own(blocks: Blocks, stream: Window, start: int) -> None:
     directories = Directories(stream)
     first = directories.read(directories.first)
     pointers = [it for it in first.entries if it.tag == _FUJI]
-    found = [(first, "Fujifilm's TIFF")]
+    own = [(first, "Fujifilm's TIFF")]
     if first.following or len(pointers) > 1 or not all(map(is_pointer, pointers)):
         raise Broken(f"Fujifilm's directory at {start} has another form than is known")
-    found += [(directories.read(directories.number(it.last)), "Fujifilm's directory of pixels") for it in pointers]
-    if not all(is_pointer(it) for one, _ in found for it in one.entries if it.tag in _PIXELS):
+    own += [(directories.read(directories.number(it.last)), "Fujifilm's directory of pixels") for it in pointers]
+    if not all(is_pointer(it) for one, _ in own for it in one.entries if it.tag in _PIXELS):
         raise Broken(f"Fujifilm's directory at {start} has pixels without an offset")
-    for one, part in found:
-        kept = [it for it in one.entries if it.tag not in _PIXELS and it not in pointers]
+    for directory, part in own:
+        kept = [it for it in directory.entries if it.tag not in _PIXELS and it not in pointers]
         if kept:
-            add_directory(blocks, directories, one, kept, f"directory at {start + one.at}", part)
+            add_directory(blocks, directories, directory, kept, f"directory at {start + directory.at}", part)
     directories.check()

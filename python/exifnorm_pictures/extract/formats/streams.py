@@ -125,10 +125,10 @@ def digest_of(stream: Stream, start: int, end: int) -> str:
     >>> digest_of(io.BytesIO(b"xabcx"), 1, 4)[:8]
     'ba7816bf'
     """
-    found = hashlib.sha256()
-    for it in pieces(stream, start, end):
-        found.update(it)
-    return found.hexdigest()
+    digest = hashlib.sha256()
+    for piece in pieces(stream, start, end):
+        digest.update(piece)
+    return digest.hexdigest()
 
 
 def is_blank(stream: Stream, start: int, end: int) -> bool:
@@ -152,24 +152,24 @@ def digest_of_rest(stream: Stream, start: int, end: int) -> Optional[str]:
     """
     if not budget_of(stream).may_digest(end - start):
         return ""
-    found, blank = hashlib.sha256(), True
-    for it in pieces(stream, start, end):
-        found.update(it)
-        blank = blank and not it.strip(b"\0")
-    return None if blank else found.hexdigest()
+    digest, blank = hashlib.sha256(), True
+    for piece in pieces(stream, start, end):
+        digest.update(piece)
+        blank = blank and not piece.strip(b"\0")
+    return None if blank else digest.hexdigest()
 
 
 def digest_of_parts(stream: Stream, parts: Iterable[Tuple[int, int]]) -> str:
     """SHA-256 of some parts of a file, joined, which may share bytes; empty if they are more than may be read. Raises `TooMuch`."""
-    budget, found, length = budget_of(stream), hashlib.sha256(), 0
+    budget, digest, length = budget_of(stream), hashlib.sha256(), 0
     for start, end in parts:
         length += end - start
         if not budget.may_digest(length):
             return ""
         budget.spend(BYTES_READ, end - start)
-        for it in pieces(stream, start, end):
-            found.update(it)
-    return found.hexdigest()
+        for piece in pieces(stream, start, end):
+            digest.update(piece)
+    return digest.hexdigest()
 
 
 def leave(blocks: Blocks, what: str, stream: Stream, start: int, end: int) -> None:

@@ -122,12 +122,12 @@ class Reader:
         waiting: Deque[_Place] = deque(self._named(page, part))
         while waiting:
             at, name, number = waiting.popleft()
-            it = self._read(at)
+            directory = self._read(at)
             part = name if number == 1 else f"{name}, directory {number}"
-            yield _Page(it, part)
-            waiting += self._named(it, part)
-            if it.following:
-                waiting.appendleft((it.following, name, number + 1))
+            yield _Page(directory, part)
+            waiting += self._named(directory, part)
+            if directory.following:
+                waiting.appendleft((directory.following, name, number + 1))
 
     def _named(self, directory: Directory, part: str) -> List[_Place]:
         entries = [entry for entry in directory.entries if entry.tag == _SUB_IFDS]
@@ -139,16 +139,16 @@ class Reader:
         return [(place, f"SubIFD {number} of {part}", 1) for number, place in enumerate(places, 1)]
 
     def _read(self, at: int) -> Directory:
-        it = self.directories.read(at)
-        if any(entry.tag == _DNG_VERSION for entry in it.entries):
+        directory = self.directories.read(at)
+        if any(entry.tag == _DNG_VERSION for entry in directory.entries):
             self.blocks.type = "DNG"
-        self._reaches(it.end, at)
-        for entry in it.entries:
+        self._reaches(directory.end, at)
+        for entry in directory.entries:
             place = self.directories.place_of(entry) if entry.size > 4 else None
             if place:
                 self._reaches(place[1], place[0])
-        self._pixels_reach(it)
-        return it
+        self._pixels_reach(directory)
+        return directory
 
     def _reaches(self, end: int, start: Optional[int] = None) -> None:
         self._covered.append((end if start is None else start, end))
@@ -172,17 +172,17 @@ class Reader:
         """Adds the blocks of a page."""
         left_out: Set[str] = set()
         kept: List[Entry] = []
-        for it in page.directory.entries:
-            if it.tag in self._private.tags and self._private.takes(it, page.part or "page 1"):
+        for entry in page.directory.entries:
+            if entry.tag in self._private.tags and self._private.takes(entry, page.part or "page 1"):
                 continue
-            if (it.tag in self._pixels or it.tag == _SUB_IFDS) and not self._is_whole(it):
-                raise Broken(f"the list of tag {it.tag:04x} of {page.part or 'page 1'} isn't whole")
-            if it.tag in self._pixels:
-                left_out.add(self._pixels[it.tag])
-            elif it.tag == _SUB_IFDS:
+            if (entry.tag in self._pixels or entry.tag == _SUB_IFDS) and not self._is_whole(entry):
+                raise Broken(f"the list of tag {entry.tag:04x} of {page.part or 'page 1'} isn't whole")
+            if entry.tag in self._pixels:
+                left_out.add(self._pixels[entry.tag])
+            elif entry.tag == _SUB_IFDS:
                 left_out.add("SubIFDs")
-            elif not self._is_block(it, page.part):
-                kept.append(it)
+            elif not self._is_block(entry, page.part):
+                kept.append(entry)
         if not kept:
             return
         layout = Layout(self.directories, self._table(kept, _POINTERS))
@@ -222,14 +222,14 @@ class Reader:
 
     def _table(self, entries: List[Entry], pointers: _Pointers) -> Table:
         below: Dict[int, Table] = {}
-        for it in entries:
-            if it.tag in pointers and is_directory(it) and it.tag not in below:
-                directory = self.directories.read(self.directories.number(it.last))
+        for entry in entries:
+            if entry.tag in pointers and is_directory(entry) and entry.tag not in below:
+                directory = self.directories.read(self.directories.number(entry.last))
                 self._reaches(directory.end, directory.at)
                 self._has_note = self._has_note or any(one.tag == _MAKER_NOTE and one.size > 4 for one in directory.entries)
-                below[it.tag] = self._table(directory.entries, pointers[it.tag])
-        for it in entries:
-            place = self.directories.place_of(it) if it.size > 4 else None
+                below[entry.tag] = self._table(directory.entries, pointers[entry.tag])
+        for entry in entries:
+            place = self.directories.place_of(entry) if entry.size > 4 else None
             if place:
                 self._reaches(place[1], place[0])
         return Table(entries, below)
@@ -248,14 +248,14 @@ class Reader:
         program may move both."""
         stream, end, count = self.directories.stream, 0, 0
         (first,) = self._notes if len(self._notes) == 1 else (0,)
-        found = hashlib.sha256()
+        digest = hashlib.sha256()
         for start, stop in sorted(self._covered):
             at = end
             for data in pieces(stream, end, min(start, self.directories.size)) if start > end else ():
                 at += len(data)
                 if bare := data.lstrip(b"\0"):
-                    found.update(placed(at - len(bare) - first, bare.rstrip(b"\0")))
+                    digest.update(placed(at - len(bare) - first, bare.rstrip(b"\0")))
                     count += len(bare) - bare.count(0)
             end = max(end, stop)
         if count:
-            self.blocks.not_read.append(NotRead(counted(count, "the MakerNote"), found.hexdigest()))
+            self.blocks.not_read.append(NotRead(counted(count, "the MakerNote"), digest.hexdigest()))

@@ -44,16 +44,16 @@ class Layout:
     def __init__(self, directories: Directories, table: Table) -> None:
         self._directories = directories
         self._tables = [table]
-        for it in self._tables:  # which grows meanwhile
-            self._tables += it.below.values()
+        for table in self._tables:  # which grows meanwhile
+            self._tables += table.below.values()
         self._parts = _joined(
             [place for it in self._tables for entry in it.entries if entry.size > 4 and (place := directories.place_of(entry)) is not None]
         )
         self._places: Dict[int, int] = {}
         self.length = 8
-        for it in self._tables:
-            self._places[id(it)] = self.length
-            self.length += 6 + 12 * len(it.entries)
+        for table in self._tables:
+            self._places[id(table)] = self.length
+            self.length += 6 + 12 * len(table.entries)
         self._offsets: List[int] = []
         for start, end in self._parts:
             self._offsets.append(self.length)
@@ -63,11 +63,11 @@ class Layout:
         """The bytes of the block."""
         order = self._directories.order
         written = [b"II*\0" if order == "<" else b"MM\0*", struct.pack(order + "I", 8)]
-        for it in self._tables:
-            written.append(struct.pack(order + "H", len(it.entries)))
-            for entry in it.entries:
-                kind = LONG if is_ifd(it, entry) else entry.type
-                written.append(struct.pack(order + "HHI", entry.tag, kind, entry.elements) + self._last_field(it, entry))
+        for table in self._tables:
+            written.append(struct.pack(order + "H", len(table.entries)))
+            for entry in table.entries:
+                kind = LONG if is_ifd(table, entry) else entry.type
+                written.append(struct.pack(order + "HHI", entry.tag, kind, entry.elements) + self._last_field(table, entry))
             written.append(bytes(4))
         written += [self._directories.part(start, end) for start, end in self._parts]
         return b"".join(written)
@@ -106,10 +106,10 @@ def _joined(places: List[Tuple[int, int]]) -> List[Tuple[int, int]]:
     >>> _joined([(20, 30), (8, 12), (25, 40), (12, 20)])
     [(8, 12), (12, 20), (20, 40)]
     """
-    found: List[Tuple[int, int]] = []
+    joined: List[Tuple[int, int]] = []
     for start, end in sorted(places):
-        if found and start < found[-1][1]:
-            found[-1] = (found[-1][0], max(end, found[-1][1]))
+        if joined and start < joined[-1][1]:
+            joined[-1] = (joined[-1][0], max(end, joined[-1][1]))
         else:
-            found.append((start, end))
-    return found
+            joined.append((start, end))
+    return joined
