@@ -24,21 +24,7 @@ TYPE_CHECKING = False  # that of `typing`, which isn't imported here: a program 
 if TYPE_CHECKING:
     from typing import List
 
-    from .api import (
-        Block,
-        Caption,
-        Comparison,
-        Difference,
-        Field,
-        NoPicture,
-        NotReadable,
-        Picture,
-        Position,
-        Refusal,
-        compare,
-        read,
-        read_bytes,
-    )
+    from .api import *  # noqa: F403 (type checkers take the names of __all__)
     from .many import read_all
 
 __all__ = [

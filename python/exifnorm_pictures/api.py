@@ -3,17 +3,18 @@
 from __future__ import annotations
 
 import contextlib
-import hashlib
+import io
 import os
 import re
 from datetime import datetime, timedelta, timezone
 from fractions import Fraction
-from typing import BinaryIO, Dict, Iterator, List, NamedTuple, Optional, Tuple, Union
+from typing import BinaryIO, Callable, Dict, Iterator, List, NamedTuple, Optional, Tuple, Union
 
-from .comparison import differing
+from .comparison import differing, proved
 from .comparison.conflicts import chosen, conflicts
 from .extract import coded_picture, extraction, programs
-from .extract.formats.streams import File, Memory, digest_of_file
+from .extract.file_objects import FileObject, seekable
+from .extract.formats.streams import File, Parts, digest_of
 from .fields import labels, listing, plain_values, typed
 from .fields.block_fields import fields_of
 from .fields.plain_names import exact_key, group_name
@@ -27,22 +28,6 @@ from .model.problems import Problem
 from .model.records import WORDS, Block as Judged, Picture as Record, Stamp, is_marked_as
 from .model.texts import described
 from .model.verdicts import ACCEPTED, SAME
-
-__all__ = [
-    "Block",
-    "Caption",
-    "Comparison",
-    "Difference",
-    "Field",
-    "NoPicture",
-    "NotReadable",
-    "Picture",
-    "Position",
-    "Refusal",
-    "compare",
-    "read",
-    "read_bytes",
-]
 
 Value = typed.Value
 PathLike = Union[str, bytes, "os.PathLike[str]", "os.PathLike[bytes]"]
@@ -280,22 +265,33 @@ class Block:
         return f"Block(name={self.name!r}, status={self.status!r}, where={self.where!r})"
 
 
-class _Digests(NamedTuple):
+class _Whole(NamedTuple):
     """What is compared of a file besides its metadata."""
 
     coded: coded_picture.CodedPicture
     sha256: str
+    head: Optional[bytes]  # of a JPEG
+
+    @classmethod
+    def of(cls, opened: Callable[[Budget], Parts]) -> "_Whole":
+        """That of a file, which is opened several times."""
+        with contextlib.closing(opened(Budget())) as file:
+            coded = coded_picture.of_stream(file, file.budget)
+        with contextlib.closing(opened(Budget())) as file:
+            head = proved.head_of(file)
+        with contextlib.closing(opened(Budget(whole=True))) as file:
+            return cls(coded, digest_of(file, 0, file.size), head)
 
 
 class Picture:
     """The metadata of a picture, as they were when it was read. `picture[name]` is the value of the first field with this name."""
 
-    __slots__ = ("_name", "_reading", "_path", "_stamp", "_digests", "_blocks", "_names", "_made")
+    __slots__ = ("_name", "_reading", "_path", "_stamp", "_whole", "_blocks", "_names", "_made")
 
     def __init__(
-        self, name: str, reading: Reading, path: bytes = b"", stamp: Optional[Stamp] = None, digests: Optional[_Digests] = None
+        self, name: str, reading: Reading, path: bytes = b"", stamp: Optional[Stamp] = None, whole: Optional[_Whole] = None
     ) -> None:
-        self._name, self._reading, self._path, self._stamp, self._digests = name, reading, path, stamp, digests
+        self._name, self._reading, self._path, self._stamp, self._whole = name, reading, path, stamp, whole
         self._blocks: Optional[Tuple[Block, ...]] = None
         self._names: Optional[Dict[str, List[Field]]] = None
         self._made: Optional[Record] = None
@@ -357,12 +353,13 @@ class Picture:
 
     def _whole_record(self) -> Record:
         """The same with the digests of the coded picture and of the file, if the file is still the one that was read."""
-        if self._digests is None and self._is_unchanged():
-            digests = _digests_of_file(self._path)
-            self._digests = digests if self._is_unchanged() else None
-        if self._digests is None:
+        if self._whole is None and self._is_unchanged():
+            with contextlib.suppress(OSError, TooMuch):
+                whole = _Whole.of(lambda budget: File(*opening.opened(self._path), budget))
+                self._whole = whole if self._is_unchanged() else None
+        if self._whole is None:
             return self._record()
-        (coded, beside, damage), sha256 = self._digests
+        (coded, beside, damage), sha256, _ = self._whole
         file = "" if all(it.digest for it in self._reading.read.not_read) else sha256
         return self._record()._replace(coded_picture=coded, beside=beside, damage=damage, sha256=sha256, file=file)
 
@@ -462,12 +459,15 @@ class Picture:
 
 
 def read(source: Source, *, whole: bool = False) -> Picture:
-    """Reads the metadata of a picture: of a path, or of a binary file object, which is read from where it is to its end.
+    """Reads the metadata of a picture: of a path, or of a binary file object, from where it is to its end.
+
+    Of a file object that can seek only some parts are read, and then it is where it was. Another, and one that decompresses, is first copied to
+    a temporary file, up to 1 GB. With `whole` every byte of a JPEG is read, and not only its head and tail. No file is changed.
 
     Raises OSError if the file can't be read, `NoPicture`, and `NotReadable`. A block that breaks the rules raises nothing: see
-    `Picture.refusals`. With `whole` every byte of a JPEG is read, and not only its head and tail. No file is changed.
+    `Picture.refusals`.
     """
-    return _read(source, whole, False)
+    return _read(source, whole)
 
 
 def read_bytes(data: bytes, *, name: str = "", whole: bool = False) -> Picture:
@@ -475,14 +475,20 @@ def read_bytes(data: bytes, *, name: str = "", whole: bool = False) -> Picture:
 
     The ending of a name helps with files that don't show what they are: sidecars of XMP and some raw pictures.
     """
-    return _read_bytes(data, name, whole, False)
+    if not isinstance(data, (bytes, bytearray, memoryview)):
+        raise TypeError(f"the bytes of a picture are expected, not {type(data).__name__}")
+    return _read_object(io.BytesIO(data), name or "(bytes)", whole, False)
 
 
-def _read(source: Source, whole: bool, pixels: bool, session: Optional[Session] = None) -> Picture:
+def _read(source: Source, whole: bool, session: Optional[Session] = None, compares: bool = False) -> Picture:
+    """Reads a picture. With `compares` what is compared of a file object besides its metadata is read too."""
     if not isinstance(source, (str, bytes, os.PathLike)):
         if not hasattr(source, "read"):
             raise TypeError(f"a path or a binary file is expected, not {type(source).__name__}; of bytes read_bytes reads a picture")
-        return _read_bytes(source.read(), str(getattr(source, "name", "")), whole, pixels)
+        if not isinstance(source.read(0), (bytes, type(None))):
+            raise TypeError("a binary file is expected: open it in binary mode")
+        name = getattr(source, "name", "")
+        return _read_object(source, os.fsdecode(name) if name and isinstance(name, (str, bytes)) else "(file)", whole, compares)
     path = os.fsencode(source)
     try:
         number, size = opening.opened(path)
@@ -490,37 +496,24 @@ def _read(source: Source, whole: bool, pixels: bool, session: Optional[Session] 
         error.filename = os.fspath(source)  # as open() has it
         raise
     stamp = Stamp.of(os.fstat(number))
-    return _picture(File(number, size, Budget(whole)), path, os.fsdecode(path), whole, stamp, session)
+    return Picture(os.fsdecode(path), _reading(File(number, size, Budget(whole)), path, os.fsdecode(path), whole, session), path, stamp)
 
 
-def _read_bytes(data: bytes, name: str, whole: bool, pixels: bool) -> Picture:
-    if not isinstance(data, (bytes, bytearray, memoryview)):
-        raise TypeError(f"the bytes of a picture are expected, not {type(data).__name__}: open files in binary mode")
-    octets = bytes(data)
-    picture = _picture(Memory(octets, Budget(whole)), b"", name or "(bytes)", whole, None)
-    if pixels:
-        with contextlib.closing(Memory(octets)) as stream:
-            coded = coded_picture.of_stream(stream, Budget())
-            picture._digests = _Digests(coded, hashlib.sha256(octets).hexdigest())
-    return picture
-
-
-def _digests_of_file(path: bytes) -> Optional[_Digests]:
-    """None if the file can't be read."""
+def _read_object(source: BinaryIO, name: str, whole: bool, compares: bool) -> Picture:
     try:
-        return _Digests(coded_picture.of_file(path, Budget()), digest_of_file(path, 1 << 62))
-    except OSError:
-        return None
+        with seekable(source, Budget(whole)) as file:
+            reading = _reading(FileObject(file, Budget(whole)), os.fsencode(name), name, whole)
+            return Picture(name, reading, whole=_Whole.of(lambda budget: FileObject(file, budget)) if compares else None)
+    except TooMuch as why:
+        raise NotReadable(Problem.TOO_MUCH, str(why), name) from None
 
 
-def _picture(
-    file: Union[File, Memory], path: bytes, name: str, whole: bool, stamp: Optional[Stamp], session: Optional[Session] = None
-) -> Picture:
+def _reading(file: Parts, path: bytes, name: str, whole: bool, session: Optional[Session] = None) -> Reading:
     try:
-        blocks = extraction.blocks_in(file, path or os.fsencode(name), whole, session)
+        blocks = extraction.blocks_in(file, path, whole, session)
         if blocks.problem:
             raise _error(blocks, name)
-        return Picture(name, Reading(os.fsencode(name), blocks, judge_all(blocks)), path, stamp)
+        return Reading(os.fsencode(name), blocks, judge_all(blocks))
     except (OSError, MemoryError, NoPicture, NotReadable):
         raise
     except TooMuch as why:
@@ -573,6 +566,9 @@ class Comparison(NamedTuple):
     - `differences`: the fields that differ
     - `picture`: "the same", "other", "damaged" or "damaged before and after", by the data from which the pixels are decoded; "not compared"
       if there is no reader for these, the formats differ, or the file isn't there any more
+    - `proved`: what the proved comparison of `exifnorm.jpeg_same` says of the Exif and IPTC in the heads of two JPEGs: "same", "different", or
+      "not wholly read" (the same as far as they were read); None if it has no answer, because one is no JPEG, its head is damaged, or a block
+      is refused, or if a file isn't there any more
 
     A comparison has no truth value, because "not known" would be taken for one of the others.
     """
@@ -582,6 +578,7 @@ class Comparison(NamedTuple):
     note: str
     differences: Tuple[Difference, ...]
     picture: str
+    proved: Optional[str]
 
     def __bool__(self) -> bool:
         raise TypeError("a comparison has three results: look at .same, which is True, False or None")
@@ -596,14 +593,16 @@ def compare(before: Union[Picture, Source], after: Union[Picture, Source], *, as
     """
     from .comparison import changed, coded, two_pictures  # which not every program needs
 
-    first, second = (it if isinstance(it, Picture) else _read(it, False, True) for it in (before, after))
+    first, second = (it if isinstance(it, Picture) else _read(it, False, compares=True) for it in (before, after))
     records = first._whole_record(), second._whole_record()
-    if records[0].sha256 and records[0].sha256 == records[1].sha256:
-        return Comparison(True, SAME, "the two files are identical, byte for byte", (), coded.SAME)
+    heads = first._whole and first._whole.head, second._whole and second._whole.head
     with Session() as session:
-        compared = two_pictures.compared_records(*records, session if ask_exiftool and first._path and second._path else None)
-    differences = tuple(_difference(it) for it in compared.changes)
-    return Comparison(changed.decided(compared.result), compared.result, compared.note, differences, compared.picture)
+        comparison = two_pictures.compare(*records, session if ask_exiftool and first._path and second._path else None, heads=heads)
+    compared = comparison.found
+    if comparison.is_identical:
+        return Comparison(True, SAME, "the two files are identical, byte for byte", (), coded.SAME, comparison.proved)
+    differences = tuple(map(_difference, compared.changes))
+    return Comparison(changed.decided(compared.result), compared.result, compared.note, differences, compared.picture, comparison.proved)
 
 
 def _difference(change: differing.Difference) -> Difference:

@@ -43,7 +43,7 @@ def _here(paths: Iterable[PathLike]) -> Iterator[Tuple[PathLike, Result]]:
 
 def _result(path: PathLike, session: Session) -> Result:
     try:
-        return _read(path, False, False, session)
+        return _read(path, False, session)
     except LibraryMissing:  # an OSError too, but not of this file
         raise
     except (OSError, NoPicture, NotReadable) as error:

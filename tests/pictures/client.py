@@ -27,6 +27,8 @@ def main(before: str, after: str) -> None:
     print(f"{'; '.join(picture.texts('title'))}: {', '.join(keywords)}")
     comparison = pictures.compare(picture, after)
     same: Optional[bool] = comparison.same
+    proved: Optional[str] = comparison.proved
+    assert proved == ("same" if same else "different")
     print(comparison.result if same else f"{comparison.result}: {', '.join(it.name for it in comparison.differences)}")
     print(*(type(found).__name__ for _, found in pictures.read_all([before, after], jobs=2)))
 

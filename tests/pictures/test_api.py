@@ -129,13 +129,6 @@ def test_a_path_bytes_and_a_file_are_read_alike(ending, tmp_path):
     assert list(found[0].fields)
 
 
-def test_a_file_is_read_from_where_it_is():
-    data = (BEFORE / BOWL).read_bytes()
-    stream = io.BytesIO(b"a header" + data)
-    stream.seek(8)
-    assert pictures.read(stream).key == pictures.read(BEFORE / BOWL).key
-
-
 def test_a_broken_block_is_a_sentence_and_no_key():
     broken = pictures.read(BEFORE / PHONE)
     assert [str(it) for it in broken.refusals] == ["Exif: A directory has no entry (byte 442)."]
@@ -201,7 +194,7 @@ def test_compare_finds_what_the_command_finds(name, after, called):
     them = json.loads(printed)
     read = pictures.read(before), pictures.read(after)
     for ours in (pictures.compare(before, after), pictures.compare(*read), pictures.compare(io.BytesIO(before.read_bytes()), after)):
-        assert (ours.result, ours.picture) == (them["result"], them["coded_picture"])
+        assert (ours.result, ours.picture, ours.proved) == (them["result"], them["coded_picture"], them["proved"])
         assert ours.note == them["note"] or them["identical_files"]
         assert {it.name for it in ours.differences} == {it["name"] for it in them["fields"]}
         assert ours.same is {0: True, 1: False, 2: None}[status]
@@ -219,7 +212,7 @@ def test_compare_looks_at_the_pixels(tmp_path):
         found = pictures.compare(*sources)
         assert (found.same, found.result, found.picture) == (False, "other picture, the same metadata", "other")
     found = pictures.compare(pictures.read_bytes(before), pictures.read_bytes(after))
-    assert (found.same, found.picture) == (True, "not compared")
+    assert (found.same, found.picture, found.proved) == (True, "not compared", None)
     other.write_bytes(after[:-200])
     assert pictures.compare(one, other).picture == "damaged"
 

@@ -13,6 +13,7 @@ from studio import SMALL_JPEG, TOP, needs, tool
 from test_jpeg_heads import COMPARED
 from test_never_the_same import damages, parts, reached, segments, texts
 
+from exifnorm_pictures.comparison.proved import head_of_file
 from exifnorm_pictures.comparison.two_pictures import compare, read
 from exifnorm_pictures.files.session import Session
 from exifnorm_pictures.model.found import EXIF, IPTC
@@ -57,7 +58,7 @@ def test_the_proved_comparison_says_the_same(folder):
         for name, octets in (("a.jpg", before), ("b.jpg", after)):
             (folder / name).write_bytes(octets)
             sides.append(read(os.fsencode(folder / name), How(1), Session()))
-        found = compare(*sides, False, None)
+        found = compare(*sides, None, heads=tuple(head_of_file(it.path) for it in sides))
         results = [it.result for it in found.found.verdicts if it.kind in (EXIF, IPTC)]
         met[found.proved] += 1
         if found.proved == "different":

@@ -9,7 +9,8 @@ from collections import Counter
 from typing import Iterator, List, Optional, Sequence
 
 from ..comparison import changed as changes, coded
-from ..comparison.two_pictures import Comparison, Row, compare, read, with_position
+from ..comparison.proved import head_of_file
+from ..comparison.two_pictures import Comparison, Row, compare, read, rows_of, with_position
 from ..comparison.wording import NONE, tag_of
 from ..fields.block_fields import fields_of
 from ..fields.choosing import Choice
@@ -36,8 +37,10 @@ def run(arguments: argparse.Namespace) -> int:
     how = How(1, whole=arguments.whole, pixels=True, seconds=arguments.limit, debug=arguments.session.debug)
     old, new = (read(os.fsencode(it), how, arguments.session) for it in (arguments.before, arguments.after))
     choice = _choice(arguments, old, new)
-    comparison = compare(old, new, arguments.exact, None if arguments.no_exiftool else arguments.session, choice)
-    rows = comparison.rows if arguments.exact else with_position(comparison.rows, old, new)
+    heads = (None, None) if choice else (head_of_file(old.path), head_of_file(new.path))
+    comparison = compare(old, new, None if arguments.no_exiftool else arguments.session, choice, heads)
+    rows = rows_of(comparison, arguments.exact)
+    rows = rows if arguments.exact else with_position(rows, old, new)
     names = [os.fsencode(it) for it in (arguments.before, arguments.after)]
     choice.add_left_out(comparison.left_out)
     if arguments.json:

@@ -7,29 +7,43 @@ from typing import Optional
 
 import exifnorm
 
+from ..extract.formats.jpeg import START
 from ..extract.formats.jpeg_segments import read_head
-from ..extract.formats.streams import File
+from ..extract.formats.streams import File, Parts
 from ..files.opening import opened
 from ..model.budgets import Budget, TooMuch
-from ..model.records import Picture
 from ..model.verdicts import DIFFERENT, NOT_WHOLLY_READ, SAME
 
 
-def answer(picture: Picture, other: Picture) -> Optional[str]:
+def answer(head: Optional[bytes], other: Optional[bytes]) -> Optional[str]:
     """`SAME`, `DIFFERENT`, or `NOT_WHOLLY_READ`: the same as far as it was read. None if the library has no answer: one of the two is no JPEG,
     has a damaged head or a block that is refused, or can't be read."""
-    if not picture.type == other.type == "JPEG":
+    if head is None or other is None:
         return None
     try:
-        result = exifnorm.jpeg_same(_head(picture.path), _head(other.path))
-    except (exifnorm.PictureRefused, OSError, TooMuch):
+        result = exifnorm.jpeg_same(head, other)
+    except exifnorm.PictureRefused:
         return None
     if isinstance(result, exifnorm.NotRead):
         return NOT_WHOLLY_READ
     return SAME if result else DIFFERENT
 
 
-def _head(path: bytes) -> bytes:
-    """The first bytes of a JPEG, which have all of its head."""
-    with closing(File(*opened(path), Budget())) as stream:
-        return read_head(stream, 0, stream.budget).octets
+def head_of(picture: Parts) -> Optional[bytes]:
+    """The first bytes of a JPEG, which have all of its head; None of another file, and of a head that goes over a limit."""
+    picture.seek(0)
+    if picture.read(len(START)) != START:
+        return None
+    try:
+        return read_head(picture, 0, picture.budget).octets
+    except TooMuch:
+        return None
+
+
+def head_of_file(path: bytes) -> Optional[bytes]:
+    """The same of a file by its path; None if it can't be read."""
+    try:
+        with closing(File(*opened(path), Budget())) as file:
+            return head_of(file)
+    except OSError:
+        return None

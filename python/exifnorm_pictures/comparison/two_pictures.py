@@ -3,11 +3,11 @@
 from __future__ import annotations
 
 import contextlib
-import filecmp
 import os
-from dataclasses import dataclass, field
-from typing import Dict, List, NamedTuple, Optional, Sequence, Tuple
+from dataclasses import dataclass
+from typing import Dict, List, NamedTuple, Optional, Tuple
 
+from ..extract.formats.streams import digest_of_file
 from ..fields.block_fields import fields_of
 from ..fields.choosing import EVERYTHING, Choice
 from ..fields.listing import MAKER_NOTE, Field
@@ -28,6 +28,9 @@ from .differing import Difference, exact
 from .pairs import Pair
 
 
+Heads = Tuple[Optional[bytes], Optional[bytes]]
+
+
 class Row(NamedTuple):
     """A field that differs; a side is None if the field isn't there."""
 
@@ -45,14 +48,13 @@ class Row(NamedTuple):
 
 @dataclass
 class Comparison:
-    """Two pictures, what `changed` finds, and the rows of a table."""
+    """Two pictures, and what `changed` finds."""
 
     records: Tuple[Picture, Picture]
     found: Compared
-    is_identical: bool
-    rows: List[Row] = field(default_factory=list)
-    has_only_fields: bool = False  # whether only some fields were compared, and no pictures
-    proved: Optional[str] = None  # of the Exif and IPTC in the heads of two JPEGs: see `proved.answer`
+    is_identical: bool  # whether the files have the same bytes
+    has_only_fields: bool  # whether only some fields were compared, and no pictures
+    proved: Optional[str]  # of the Exif and IPTC in the heads of two JPEGs: see `proved.answer`
 
     @property
     def result(self) -> str:
@@ -76,59 +78,51 @@ class Comparison:
 
 
 def read(name: bytes, how: How, session: Session) -> Picture:
-    """Reads a picture, as `index` does."""
+    """Reads a picture as `index --pixels` does, always with the digest of its file, if it can be read."""
     path = os.path.abspath(name)
     stamp = None
     with contextlib.suppress(OSError):
         stamp = Stamp.of(os.stat(path))
     if stamp is None and not os.path.lexists(path):
         return Picture.of(path, b"", problem=Problem.NO_FILE, detail=Problem.NO_FILE.text)
-    return look(FoundFile(path, os.path.dirname(path), stamp), how, session, packs=False)
+    picture = look(FoundFile(path, os.path.dirname(path), stamp), how, session, packs=False)
+    with contextlib.suppress(OSError):
+        if picture.sha256 is None:  # as of one for which ExifTool is needed
+            return picture._replace(sha256=digest_of_file(path, 1 << 62))
+    return picture
 
 
-def compare(picture: Picture, other: Picture, each: bool, session: Optional[Session], choice: Choice = EVERYTHING) -> Comparison:
-    """Compares two pictures that were read, by the fields that count. In a session ExifTool is asked for the values of MakerNotes; `each` has a row for
-    each that differs."""
-    compared = compared_records(picture, other, session, choice)
-    result = Comparison((picture, other), compared, is_identical(picture.path, other.path), has_only_fields=bool(choice.only))
-    if not choice:
-        result.proved = _proved(compared, picture, other)
-    if not result.is_identical and compared.changes:
-        result.rows = _rows(compared.changes)
-    if not result.is_identical and each:
-        result.rows += _note_rows(compared)
-    return result
+def compare(
+    picture: Picture, other: Picture, session: Optional[Session], choice: Choice = EVERYTHING, heads: Heads = (None, None)
+) -> Comparison:
+    """Compares two pictures that were read with the digests of their files, by the fields that count. In a session ExifTool is asked for the
+    values of MakerNotes. `heads` are the heads of two JPEGs, for the proved comparison."""
+    by_metadata = compared(Pair(os.path.basename(picture.path), picture, other, None), Fresh(), session, choice)
+    is_identical = bool(picture.sha256) and picture.sha256 == other.sha256
+    answer = None if choice else _proved(by_metadata, heads)
+    return Comparison((picture, other), by_metadata, is_identical, bool(choice.only), answer)
 
 
-def _proved(comparison: Compared, picture: Picture, other: Picture) -> Optional[str]:
+def _proved(comparison: Compared, heads: Heads) -> Optional[str]:
     """The answer of the library's proved comparison, of which the result must not say otherwise."""
-    answer = proved.answer(picture, other)
+    answer = proved.answer(*heads)
     kinds = [it.result for it in comparison.verdicts if it.kind in (EXIF, IPTC)]
     if answer == DIFFERENT and kinds and all(it in (SAME, ABSENT) for it in kinds):
         raise AssertionError("the Exif or the IPTC of the two differ by the proved comparison, and are the same by the tested one")
     return answer
 
 
-def compared_records(picture: Picture, other: Picture, session: Optional[Session], choice: Choice = EVERYTHING) -> Compared:
-    """What `changed` finds of two pictures that were read."""
-    return compared(Pair(os.path.basename(picture.path), picture, other, None), Fresh(), session, choice)
-
-
-def is_identical(octets: bytes, other: bytes) -> bool:
-    """Whether two files have the same bytes."""
-    with contextlib.suppress(OSError):
-        return os.path.getsize(octets) == os.path.getsize(other) and filecmp.cmp(octets, other, shallow=False)
-    return False
-
-
 # The rows of the table
 
 
-def _rows(changes: Sequence[Difference]) -> List[Row]:
-    """A row for each change; those of equal numbers at the end."""
-    rows = list(map(_row, changes))
+def rows_of(comparison: Comparison, each: bool) -> List[Row]:
+    """A row for each change; those of equal numbers at the end, and then, with `each`, one for each value of a MakerNote that ExifTool reads
+    otherwise."""
+    if comparison.is_identical:
+        return []
+    rows = list(map(_row, comparison.found.changes))
     rows.sort(key=lambda row: (row.is_equal_number, _place(row)))
-    return rows
+    return rows + (_note_rows(comparison.found) if each else [])
 
 
 def _note_rows(comparison: Compared) -> List[Row]:

@@ -5,7 +5,7 @@ from __future__ import annotations
 import contextlib
 import errno
 import os
-from typing import Optional, Union
+from typing import Optional
 
 from exifnorm import LibraryMissing
 
@@ -17,7 +17,7 @@ from ..model.problems import Problem
 from ..model.texts import described
 from .exiftool import add_trailers, by_others
 from .formats import jpeg
-from .formats.streams import File, Memory
+from .formats.streams import File, Parts
 
 
 def blocks_of(path: bytes, whole: bool = False, session: Optional[Session] = None) -> Blocks:
@@ -44,7 +44,7 @@ def blocks_of(path: bytes, whole: bool = False, session: Optional[Session] = Non
         return Blocks(problem=Problem.UNREADABLE, detail=(error.strerror or str(error)).lower())
 
 
-def blocks_in(file: Union[File, Memory], path: bytes, whole: bool = False, session: Optional[Session] = None) -> Blocks:
+def blocks_in(file: Parts, path: bytes, whole: bool = False, session: Optional[Session] = None) -> Blocks:
     """The blocks of a file that is open, which is closed then. The ending of its name shows what a sidecar or a raw picture is.
 
     Raises what `blocks_of` raises, `OSError` and `TooMuch`.
@@ -56,17 +56,12 @@ def blocks_in(file: Union[File, Memory], path: bytes, whole: bool = False, sessi
         try:
             blocks = _read(file, path, whole)
         except LeftToOthers as why:
-            return by_others(session, _name(file, path), file, whole, str(why))
+            return by_others(session, file.as_file(path), file, whole, str(why))
         except Broken as why:
-            return by_others(session, _name(file, path), file, True, f"{BROKEN}{why}")
+            return by_others(session, file.as_file(path), file, True, f"{BROKEN}{why}")
         if blocks.has_more:
-            add_trailers(session, blocks, _name(file, path))
+            add_trailers(session, blocks, file.as_file(path))
         return blocks
-
-
-def _name(file: Union[File, Memory], path: bytes) -> bytes:
-    """The path of a file that other programs can open."""
-    return path if isinstance(file, File) else file.as_file(path)
 
 
 def failed_here(error: Exception, session: Optional[Session]) -> Blocks:
@@ -81,7 +76,7 @@ def too_much(why: TooMuch) -> Blocks:
     return Blocks(problem=Problem.TOO_MUCH, detail=str(why))
 
 
-def _read(stream: Union[File, Memory], path: bytes, whole: bool) -> Blocks:
+def _read(stream: Parts, path: bytes, whole: bool) -> Blocks:
     """Reads a file by the reader of its format, which its first bytes show. Raises `Broken` and `LeftToOthers`."""
     if stream.read(len(jpeg.START)) == jpeg.START:
         return jpeg.read(stream, whole)

@@ -17,6 +17,7 @@ SECONDS = 5.0  # of a processor, looked at between two steps, of which the longe
 
 # The limits of a picture, by the words that a message has.
 BYTES_READ = "bytes read"
+COPIED_BYTES = "bytes of a temporary copy"
 BLOCKS = "blocks"
 NOT_READ = "parts that are not read"
 SEGMENTS, SEGMENT_BYTES = "segments", "bytes of segments"
@@ -29,6 +30,7 @@ XMP_BYTES, XMP_TAGS, XMP_ATTRIBUTES, RARE_ELEMENTS = "bytes of XMP", "tags of XM
 
 LIMITS: Dict[str, int] = {
     BYTES_READ: 1 << 30,  # bytes that are read twice count twice. About 3 seconds of SHA-256; need 6.8 MB
+    COPIED_BYTES: 1 << 30,  # of a file object that can't seek, or that another program reads
     BLOCKS: 20_000,  # two for each page of a TIFF; need 15
     NOT_READ: 10_000,  # need 358
     SEGMENTS: 100_000,  # of a JPEG; need 37, and a profile of 16 MB has 256

@@ -4,10 +4,8 @@ another program shortens ends the process with a signal."""
 from __future__ import annotations
 
 import hashlib
-import io
 import os
-import tempfile
-from typing import IO, Iterable, Iterator, Optional, Protocol, Tuple
+from typing import Iterable, Iterator, Optional, Protocol, Tuple
 
 from ...files import opening
 from ...model.budgets import BYTES_READ, Budget, budget_of
@@ -28,19 +26,26 @@ class Stream(Protocol):
         ...
 
 
-class File:
-    """A regular file that is open, with as many bytes as it had then. Its first bytes are in memory, so that a picture whose metadata are
-    there takes few calls of the system."""
+class Parts:
+    """A file that is read in parts, with as many bytes as it had when it was opened. Its first bytes are in memory, so that a picture whose
+    metadata are there takes few calls."""
 
-    def __init__(self, number: int, size: int, budget: Optional[Budget] = None) -> None:
-        """Takes over the file of this number."""
-        self.number, self.size, self.budget = number, size, budget or Budget()
+    def __init__(self, size: int, budget: Optional[Budget] = None) -> None:
+        self.size, self.budget = size, budget or Budget()
         self._at = 0
-        try:
-            self._head = os.pread(number, min(size, HEAD), 0)
-        except BaseException:
-            os.close(number)
-            raise
+        self._head = self._part(0, min(size, HEAD))
+
+    def _part(self, at: int, length: int) -> bytes:
+        """Some of these bytes, or all; none if the file has been shortened."""
+        raise NotImplementedError
+
+    def as_file(self, name: bytes) -> bytes:
+        """The path of a file that other programs can open, for a picture of this name."""
+        raise NotImplementedError
+
+    def close(self) -> None:
+        """Closes the file."""
+        raise NotImplementedError
 
     def seek(self, at: int, whence: int = os.SEEK_SET) -> int:
         """Sets the offset at which the next bytes are read."""
@@ -52,7 +57,7 @@ class File:
         at = self._at
         data = self._head[at : at + length]
         while len(data) < length and at + len(data) < self.size:
-            more = os.pread(self.number, min(length, self.size - at) - len(data), at + len(data))
+            more = self._part(at + len(data), min(length, self.size - at) - len(data))
             if not more:  # the file has been shortened
                 break
             data += more
@@ -60,32 +65,28 @@ class File:
         self._at = at + len(data)
         return data
 
-    def close(self) -> None:
-        """Closes the file."""
-        os.close(self.number)
 
+class File(Parts):
+    """A regular file that is open."""
 
-class Memory(io.BytesIO):
-    """A picture in memory."""
+    def __init__(self, number: int, size: int, budget: Optional[Budget] = None) -> None:
+        """Takes over the file of this number."""
+        self.number = number
+        try:
+            super().__init__(size, budget)
+        except BaseException:
+            os.close(number)
+            raise
 
-    def __init__(self, data: bytes, budget: Optional[Budget] = None) -> None:
-        super().__init__(data)
-        self.budget = budget or Budget()
-        self._copy: Optional[IO[bytes]] = None
+    def _part(self, at: int, length: int) -> bytes:
+        return os.pread(self.number, length, at)
 
     def as_file(self, name: bytes) -> bytes:
-        """The path of a copy, for programs that read files only. It is gone once this is closed."""
-        if self._copy is None:
-            self._copy = tempfile.NamedTemporaryFile(prefix="exifnorm-picture-", suffix=os.path.splitext(os.fsdecode(name))[1])
-            self._copy.write(self.getbuffer())
-            self._copy.flush()
-        return os.fsencode(self._copy.name)
+        """Its own path."""
+        return name
 
     def close(self) -> None:
-        """Frees the memory, and removes the copy."""
-        if self._copy is not None:
-            self._copy.close()
-        super().close()
+        os.close(self.number)
 
 
 def size_of(stream: Stream) -> int:
