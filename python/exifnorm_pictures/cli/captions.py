@@ -27,7 +27,7 @@ _WIDTH = max(map(len, WORDS)) + 1
 def run(arguments: argparse.Namespace) -> int:
     """Lists captions of Exif, IPTC and XMP."""
     worst = SUCCESS
-    table = Table(["picture", *WORDS, "camera's text", "contradicts itself", "not read"]) if arguments.csv else None
+    table = Table(arguments, ["picture", *WORDS, "camera's text", "contradicts itself", "not read"]) if arguments.csv else None
     has_heads = is_list(arguments, arguments.pictures) or is_of_many(os.fsencode(arguments.pictures[0]))
     for reading in pictures(arguments):
         worst = max(worst, status_of(reading))

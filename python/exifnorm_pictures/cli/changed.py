@@ -59,7 +59,7 @@ def run(arguments: argparse.Namespace) -> int:
         comparisons = _then_noted(comparisons, choice, before, after)
         listed = (it for it in comparisons if it.result not in changes.UNCHANGED or arguments.all)
         if arguments.csv:
-            changed_tables.print_table(listed, choice)
+            changed_tables.print_table(arguments, listed, choice)
             for text in notes.of_pictures():
                 signals.say(f"exifnorm-pictures: note: {text}")
         elif arguments.json:

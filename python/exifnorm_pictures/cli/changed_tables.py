@@ -2,6 +2,7 @@
 
 from __future__ import annotations
 
+import argparse
 from collections import Counter
 from typing import Iterable, Optional, Sequence, Tuple
 
@@ -25,9 +26,9 @@ _MAKER_NOTE = group_name(*MAKER_NOTE)
 _HEADS = ("picture", "result", "moved to", "field", "before", "after", "exact before", "exact after", "note", "coded picture")
 
 
-def print_table(comparisons: Found, choice: Choice) -> None:
+def print_table(arguments: argparse.Namespace, comparisons: Found, choice: Choice) -> None:
     """A row for each field that differs, and one for each other picture."""
-    table = Table(_HEADS)
+    table = Table(arguments, _HEADS)
     for comparison in comparisons:
         about = (comparison.name, comparison.result, comparison.moved_to)
         for change in comparison.changes:

@@ -46,7 +46,7 @@ def run(arguments: argparse.Namespace) -> int:
     if arguments.json:
         print_object("compare", "comparison", _members(comparison, rows, names, choice))
     elif arguments.csv:
-        _print_table(comparison, rows, names, list(lines(choice)))
+        _print_table(arguments, comparison, rows, names, list(lines(choice)))
     else:
         for line in _lines(comparison, rows, names, arguments.exact, list(lines(choice))):
             print_line(line)
@@ -188,9 +188,11 @@ def _cells(row: Row, exact: bool) -> Sequence[str]:
 # --csv
 
 
-def _print_table(comparison: Comparison, rows: Sequence[Row], names: Sequence[bytes], notes: Sequence[str]) -> None:
+def _print_table(
+    arguments: argparse.Namespace, comparison: Comparison, rows: Sequence[Row], names: Sequence[bytes], notes: Sequence[str]
+) -> None:
     """A row for each field that differs, and at the end one for each reason why the answer isn't whole."""
-    table = Table(["field", "before", "after", "exact before", "exact after", "note"])
+    table = Table(arguments, ["field", "before", "after", "exact before", "exact after", "note"])
     for row in rows:
         table.row(row.name, *row.plain, *row.exact, row.note or ("equal number" if row.is_equal_number else None))
     problems = [f"{shown_path(name)}: {it.problem}: {it.detail}" for name, it in zip(names, comparison.records) if it.problem]

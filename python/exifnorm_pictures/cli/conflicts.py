@@ -48,7 +48,7 @@ class _Counts:
 def run(arguments: argparse.Namespace) -> int:
     """Lists contradictions inside pictures."""
     counts, chosen = _Counts(), _chosen(arguments)
-    table = Table(["picture", "label", "kind", "detail", *STANDARDS]) if arguments.csv else None
+    table = Table(arguments, ["picture", "label", "kind", "detail", *STANDARDS]) if arguments.csv else None
     for reading in pictures(arguments):
         every = [one for one in conflicts(reading.texts) if one.kind != ALIKE]
         counted = [one for one in every if one.label in chosen]

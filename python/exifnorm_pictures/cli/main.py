@@ -52,7 +52,7 @@ def _run(words: Optional[Sequence[str]]) -> int:
         arguments = parsed(words)
         session.debug = session.debug or arguments.debug
         session.seconds = getattr(arguments, "limit", PROGRAM_SECONDS)
-        arguments.session = session
+        arguments.session, arguments.sheet = session, None
         # importing the modules of all commands would take longer than most commands do
         command = arguments.command
         module = importlib.import_module(f".{command}", __package__)
@@ -77,7 +77,7 @@ def _with_spreadsheet(module: ModuleType, arguments: argparse.Namespace) -> int:
     from . import sheets
 
     arguments.csv = True
-    with sheets.written(arguments.xlsx, arguments.session):
+    with sheets.written(arguments.xlsx, arguments.session) as arguments.sheet:
         return int(module.run(arguments))
 
 

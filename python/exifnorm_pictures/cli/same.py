@@ -36,7 +36,7 @@ def run(arguments: argparse.Namespace) -> int:
         catalogue = open_.enter_context(Catalogue(arguments.catalogue))
         only = None if chosen is None else catalogue.choose(chosen)
         has_keep = arguments.kind == "all" and not arguments.no_look
-        table = Table(_HEADS) if arguments.csv else None
+        table = Table(arguments, _HEADS) if arguments.csv else None
         choice = choice_of(arguments)
         refuse_unknown(choice, listings_of(catalogue))
         note_absent(choice, listings_of(catalogue), catalogue.with_maker_note() if choice.asks_for_private else 0)

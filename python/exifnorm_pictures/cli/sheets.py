@@ -6,15 +6,15 @@ from __future__ import annotations
 import contextlib
 import os
 import shutil
-from typing import Iterator, Optional, Sequence, Union
+from typing import Iterator, Sequence, Union
 
 from ..files import atomic
 from ..files.session import Session
 from ..model.errors import Failure
 from ..model.texts import escaped, shown_path
 from .output import print_line
+from .tables import Cell
 
-Cell = Union[str, bytes, int, None]
 ROWS, LONGEST = 1_048_576, 32_767  # of a sheet, and characters of a cell, of Excel and LibreOffice
 WIDTH, WIDEST = 24, 60  # of a column, in characters
 
@@ -79,34 +79,18 @@ def _fitting(text: str) -> str:
     return text[: LONGEST - len(end)] + end
 
 
-_open: Optional[Sheet] = None  # the sheet of the command that is running
-
-
-def current() -> Optional[Sheet]:
-    """The sheet that tables are written to, if --xlsx was given."""
-    return _open
-
-
 @contextlib.contextmanager
-def written(name: Optional[str], session: Session) -> Iterator[None]:
+def written(name: str, session: Session) -> Iterator[Sheet]:
     """Writes the table of a command to a file, which it makes at the end, and only if the command didn't fail. Raises `NoSpreadsheet`."""
-    global _open
-    if name is None:
-        yield
-        return
     if os.path.lexists(name):
         raise NoSpreadsheet(atomic.not_written(escaped(name), "it is there already, and may have somebody's work in it"))
     table = os.path.join(session.room, "table.xlsx")
-    _open = Sheet(table)
-    try:
-        yield
-        _open.close()
-        rows = _open.rows
-    finally:
-        _open = None
+    sheet = Sheet(table)
+    yield sheet
+    sheet.close()
     with open(table, "rb") as whole:
         try:
             atomic.replace(os.fsencode(name), lambda file: shutil.copyfileobj(whole, file), lambda _: False)
         except atomic.NotReplaced as error:
             raise atomic.NotReplaced(atomic.not_written(escaped(name), error)) from None
-    print_line(f"{escaped(name)}: {max(0, rows - 1):,} row{'s' * (rows != 2)}")
+    print_line(f"{escaped(name)}: {max(0, sheet.rows - 1):,} row{'s' * (sheet.rows != 2)}")

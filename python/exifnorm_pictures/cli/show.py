@@ -28,7 +28,9 @@ def run(arguments: argparse.Namespace) -> int:
     if not arguments.json and not arguments.csv:
         return each_block(arguments, lambda _, __, it: _described(it, arguments.exact))
     worst = SUCCESS
-    table = Table(["picture", "block", "field", "key", "type", "count", "value", "exact value", "note"]) if arguments.csv else None
+    table = (
+        Table(arguments, ["picture", "block", "field", "key", "type", "count", "value", "exact value", "note"]) if arguments.csv else None
+    )
     for reading in each_picture(arguments):
         worst = max(worst, status_of(reading))
         if table:

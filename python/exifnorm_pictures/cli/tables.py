@@ -7,14 +7,17 @@ of lines and tabs inside a text stay.
 
 from __future__ import annotations
 
+import argparse
 import re
 import sys
-from typing import Sequence
+from typing import TYPE_CHECKING, Optional, Sequence, Union
 
 from ..model.texts import escaped, shown_path
-from . import sheets
 
-Cell = sheets.Cell
+if TYPE_CHECKING:
+    from .sheets import Sheet
+
+Cell = Union[str, bytes, int, None]
 
 # Excel and LibreOffice take these as the beginning of a formula, the wide ones in East Asian settings
 _FORMULA = re.compile(r"\A(?=[=+\-@\t\n＝＋－＠])|(?<=[;\t\n])(?=[=+\-@＝＋－＠])")
@@ -31,11 +34,11 @@ def cell(text: str) -> str:
 
 
 class Table:
-    """A table on standard output, or in a spreadsheet file."""
+    """The table that --csv or --xlsx asks for: on standard output, or in a spreadsheet file."""
 
-    def __init__(self, heads: Sequence[str]) -> None:
+    def __init__(self, arguments: argparse.Namespace, heads: Sequence[str]) -> None:
         self._width = len(heads)
-        self._sheet = sheets.current()
+        self._sheet: Optional[Sheet] = arguments.sheet
         if self._sheet:
             self._sheet.heads(heads)
             return

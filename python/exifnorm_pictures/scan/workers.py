@@ -13,6 +13,7 @@ import time
 from collections import deque
 from concurrent.futures import Future, ProcessPoolExecutor, wait
 from concurrent.futures.process import BrokenProcessPool
+from contextvars import ContextVar
 from multiprocessing import util
 from typing import Deque, Iterable, Iterator, List, NamedTuple, Sequence, Set
 
@@ -79,10 +80,10 @@ def look_at_some(task: Task, how: How) -> Batch:
 
 def _look(file: FoundFile, how: How) -> Picture:
     """A process's result for a file."""
-    return look(file, how, _sessions[-1])
+    return look(file, how, _session.get())
 
 
-_sessions: List[Session] = []  # in a process of a pool its one session: a task of a pool is given nothing that its process has made
+_session: ContextVar[Session] = ContextVar("session")  # of a process of a pool, whose tasks can't be given what it has made
 
 _PR_SET_PDEATHSIG = 1
 
@@ -96,8 +97,9 @@ def _begin(how: How, parent: int, mask: Set[int]) -> None:
     signal.signal(signal.SIGHUP, signal.SIG_DFL)
     signal.signal(signal.SIGTERM, signal.SIG_DFL)
     signal.pthread_sigmask(signal.SIG_SETMASK, mask)
-    _sessions.append(Session(how.seconds, how.debug, how.room))
-    util.Finalize(None, _sessions[-1].close, exitpriority=10)  # the processes of a pool don't run atexit
+    session = Session(how.seconds, how.debug, how.room)
+    _session.set(session)
+    util.Finalize(None, session.close, exitpriority=10)  # the processes of a pool don't run atexit
 
 
 def _by_processes(chunks: Iterator[Sequence[FoundFile]], how: How, files: Iterator[str], unfinished: List[Task]) -> Iterator[Batch]:
