@@ -8,7 +8,9 @@ import sys
 from pathlib import Path
 
 import pytest
-from studio import TOP
+from studio import SMALL_JPEG, TOP
+
+from exifnorm_pictures.cli import parser
 
 SAMPLES = Path(TOP) / "samples/before"
 NAMES = [str(SAMPLES / it) for it in ("ceramics/1998-7-vase.jpg", "arrivals/IMG_20240502.jpg", "ceramics/2003-12-bowl.jpg")]
@@ -40,10 +42,10 @@ def opened():
 
 
 def answered(process, name, wanted, end=b"\n"):
-    """What a command prints for a name, up to some bytes."""
+    """What a command prints for a name, up to a line with some bytes."""
     process.stdin.write(os.fsencode(name) + end)
     printed = b""
-    while wanted not in printed:
+    while wanted not in printed[: printed.rfind(b"\n") + 1]:
         assert select.select([process.stdout], [], [], PATIENCE)[0], f"no answer to {name} while more names may come; so far: {printed!r}"
         piece = process.stdout.read(1 << 16)
         assert piece, f"ended with {process.wait()} after {printed!r}"
@@ -51,13 +53,28 @@ def answered(process, name, wanted, end=b"\n"):
     return printed
 
 
+ANSWER = sorted(
+    name for name, it in parser.parsers()[1].items() if {"pictures", "names"} & {action.dest for action in it._actions}
+)  # the commands that do something with each picture that is named
+
+
 @pytest.mark.parametrize("end", [b"\n", b"\0"], ids=["lines", "NUL"])
-@pytest.mark.parametrize("command", ["show", "captions"])
-def test_an_object_for_each_name(opened, command, end):
-    process = opened(command, "--json", end=end)
-    assert [json.loads(answered(process, name, b"\n", end))["path"] for name in [*NAMES, "nowhere.jpg"]] == [*NAMES, "nowhere.jpg"]
+@pytest.mark.parametrize("command", ANSWER)
+def test_an_object_for_each_name(opened, command, end, tmp_path):
+    """Whatever the picture is, also if it is asked for again: a program that waits for the answer would wait for ever."""
+    (tmp_path / "text.jpg").write_text("no picture")
+    (tmp_path / "plain.jpg").write_bytes(SMALL_JPEG)
+    (tmp_path / "cut.jpg").write_bytes(SMALL_JPEG[:15])
+    (tmp_path / "out").mkdir()
+    process = opened(command, "--json", *([str(tmp_path / "out")] if command == "mend" else []), end=end)
+    names = [*NAMES, *map(str, sorted(tmp_path.glob("*.jpg"))), "nowhere.jpg", NAMES[0]]
+    for at, name in enumerate(names):
+        lines = answered(process, name, json.dumps(name).encode(), end).split(b"\n")[:-1]
+        paths = {json.loads(it)["path"] for it in lines}
+        assert name in paths and paths <= set(names[: at + 1])
     process.stdin.close()
-    assert (process.stdout.read(), process.wait()) == (b"", 2)
+    process.stdout.read()
+    assert process.wait() in (2, 4)
 
 
 @pytest.mark.parametrize(
@@ -67,13 +84,6 @@ def test_lines_for_each_name(opened, words):
     process = opened(*words)
     for name in NAMES:
         assert os.fsencode(name) in answered(process, name, os.fsencode(name))
-
-
-def test_copies_for_each_name(opened, tmp_path):
-    process = opened("mend", "--json", str(tmp_path))
-    for name in NAMES:
-        assert json.loads(answered(process, name, b"\n"))["path"] == name
-        assert (tmp_path / name.lstrip("/")).exists()
 
 
 def test_a_name_in_pieces_and_the_last_one_without_an_end(opened):

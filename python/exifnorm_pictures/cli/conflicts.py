@@ -57,7 +57,7 @@ def run(arguments: argparse.Namespace) -> int:
         if table:
             _print_rows(table, reading, [one for one in counted if one.is_real or arguments.all])
         elif arguments.json:
-            if counted or reading.is_damaged:
+            if counted or reading.is_damaged or arguments.files_from:  # a program may wait for the answer to its name
                 print_object("conflicts", "picture", _members(reading, counted))
         else:
             _print(reading, [one for one in counted if one.is_real or arguments.all])

@@ -50,20 +50,18 @@ def say_unknown(names: Iterable[bytes], is_known: Callable[[bytes], bool]) -> No
 
 def named(arguments: argparse.Namespace, names: Sequence[str]) -> List[bytes]:
     """The names of the arguments and of the list together, each once; at least one."""
-    return list(each_name(arguments, names))
+    return list(dict.fromkeys(each_name(arguments, names)))
 
 
 def each_name(arguments: argparse.Namespace, names: Sequence[str]) -> Iterator[bytes]:
-    """The same, one by one: a name of standard input before the next one is read."""
+    """The same, one by one: a name of standard input before the next one is read. One that the list repeats is repeated, because a program may
+    ask again for a picture that it has changed."""
     if not names and not arguments.files_from:
         refuse(arguments.command, "no name was given")
-    known = set()
-    for name in chain(map(os.fsencode, names), each_of_list(arguments)):
+    for name in chain(map(os.fsencode, dict.fromkeys(names)), each_of_list(arguments)):
         if b"\0" in name:
             raise BadList("a name contains a NUL")
-        if name not in known:
-            known.add(name)
-            yield name
+        yield name
 
 
 def is_list(arguments: argparse.Namespace, names: Sequence[str]) -> bool:
