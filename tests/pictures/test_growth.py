@@ -201,6 +201,7 @@ COMMANDS = {
     "compare": ["A B --no-exiftool", "A B --json --exact --no-exiftool"],
     "show": ["A", "A --json", "A --csv"],
     "captions": ["P", "C --json"],
+    "list": ["C --without credit", "P --json --where title=x --jobs 1 --quiet", "C --count keywords"],
     "conflicts": ["P --all", "C --json"],
     "explain": ["A"],
     "report": ["--catalogue D --since C --html written.html"],

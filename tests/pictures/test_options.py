@@ -22,6 +22,7 @@ COMMANDS = {
     "compare": (BOWL, PHONE),
     "show": LISTED,
     "captions": LISTED,
+    "list": ("p",),
     "conflicts": LISTED,
     "explain": LISTED,
     "report": (*LISTED, "--catalogue", "c", "--html", "page"),

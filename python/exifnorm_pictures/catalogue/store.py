@@ -30,6 +30,9 @@ CACHE = 32_000  # kB of a catalogue that is written to: digests go into its inde
 PATIENCE = 200  # milliseconds that closing waits for other programs; while they read, the write-ahead log stays
 WAIT = 10  # seconds for other processes that set the journal's mode
 
+COMPARED = "ifnull(folded, lower(text))"  # in SQL: a text as questions compare it
+PREFIX = 40  # characters of it in the index
+
 _TABLES = f"""
 CREATE TABLE runs (
     id INTEGER PRIMARY KEY,
@@ -53,6 +56,15 @@ CREATE TABLE maker_notes (
     picture INTEGER PRIMARY KEY REFERENCES pictures(id) ON DELETE CASCADE,
     readings BLOB NOT NULL          -- what ExifTool reads of its MakerNotes: JSON, compressed by zlib
 );
+CREATE TABLE texts (
+    picture INTEGER NOT NULL REFERENCES pictures(id) ON DELETE CASCADE,
+    number INTEGER NOT NULL,
+    label TEXT NOT NULL,            -- a label of captions; position, serial or owner
+    text TEXT NOT NULL,             -- a text of the picture; those that cameras write by themselves are left out
+    folded TEXT,                    -- the same as it is compared: in small letters, composed, with single spaces; NULL: it is lower(text)
+    PRIMARY KEY (picture, number)
+) WITHOUT ROWID;
+CREATE INDEX texts_by_label ON texts (label, substr({COMPARED}, 1, {PREFIX}));
 CREATE INDEX pictures_by_content ON pictures (exif, iptc, xmp, not_read) WHERE problem IS NULL;
 CREATE INDEX pictures_by_coded_picture ON pictures (coded_picture) WHERE coded_picture != '';
 CREATE INDEX pictures_by_other_exif ON pictures (other_exif) WHERE other_exif != '';
@@ -70,6 +82,7 @@ _ADD_ROWS = (
     f"INSERT INTO main.blocks (picture, number, {BLOCK_COLUMNS}) SELECT picture + :pictures, number, {BLOCK_COLUMNS} FROM {{other}}.blocks",
     "INSERT INTO main.not_read SELECT picture + :pictures, number, what, digest FROM {other}.not_read",
     "INSERT INTO main.maker_notes SELECT picture + :pictures, readings FROM {other}.maker_notes",
+    "INSERT INTO main.texts SELECT picture + :pictures, number, label, text, folded FROM {other}.texts",
 )
 # The same tables without keys, for rows that are only written and read once
 _ROWS = (
@@ -77,6 +90,7 @@ _ROWS = (
     f"CREATE TABLE blocks (picture, number, {BLOCK_COLUMNS})",
     "CREATE TABLE not_read (picture, number, what, digest)",
     "CREATE TABLE maker_notes (picture, readings)",
+    "CREATE TABLE texts (picture, number, label, text, folded)",
 )
 
 # when it began and ended, the library's version, ExifTool's, exiv2's
@@ -548,6 +562,8 @@ def put_rows(base: sqlite3.Connection, run: int, first: int, entries: Iterable[P
     base.executemany("INSERT INTO maker_notes VALUES (?, ?)", [(number, it.notes) for number, it in numbered if it.notes])
     parts = [(number, at, part.what, part.digest) for number, it in numbered for at, part in enumerate(it.unread)]
     base.executemany("INSERT INTO not_read VALUES (?, ?, ?, ?)", parts)
+    texts = [(number, at, *row) for number, it in numbered for at, row in enumerate(it.texts)]
+    base.executemany("INSERT INTO texts VALUES (?, ?, ?, ?, ?)", texts)
 
 
 def root_of_row(row: Tuple[bytes]) -> bytes:

@@ -9,7 +9,6 @@ import json
 import os
 import shutil
 import sys
-import tempfile
 from collections import Counter
 from typing import Callable, Iterable, Iterator, List
 
@@ -24,13 +23,12 @@ from ..fields.plain_names import group_name
 from ..files import signals
 from ..model.errors import WrongUse
 from ..model.texts import shown_path
-from ..scan.index import IndexOptions, index
 from . import changed_tables
 from .choice import choice_of, listings_of, note_absent, refuse_unknown
 from .exit_codes import DIFFERENCE, SUCCESS, UNKNOWN
-from .looking import how_of
+from .looking import catalogue_of
 from .names import from_list, refuse_pictures, say_unknown
-from .output import closed_folder, print_line
+from .output import print_line
 from .summary import lines
 
 
@@ -50,7 +48,7 @@ def run(arguments: argparse.Namespace) -> int:
     notes = _Notes(arguments, pictures)
     with contextlib.ExitStack() as open_:
         _go_on_with_sidecars(arguments)
-        before, after = (open_.enter_context(_side(it, arguments)) for it in (arguments.before, arguments.after))
+        before, after = (open_.enter_context(catalogue_of(it, arguments)) for it in (arguments.before, arguments.after))
         choice = choice_of(arguments)
         refuse_unknown(choice, itertools.chain(listings_of(before), listings_of(after)))
         comparisons = changes.changed(
@@ -162,26 +160,6 @@ def _go_on_with_sidecars(arguments: argparse.Namespace) -> None:
                 if asked and not catalogue.has_sidecars() and not catalogue.is_empty():
                     raise NotRead(f"{catalogue.name} was made without --sidecars: leave it out, or make a new catalogue")
                 arguments.sidecars = arguments.sidecars or catalogue.has_sidecars()
-
-
-def _side(name: str, arguments: argparse.Namespace) -> Catalogue:
-    """A catalogue, or a new one of a folder."""
-    if not os.path.isdir(name):
-        return Catalogue(name)
-    room = tempfile.mkdtemp(dir=arguments.session.room)
-    catalogue = Catalogue(os.path.join(room, "catalogue"), make=True)
-    try:
-        closed: List[str] = []
-        quiet = arguments.quiet or not sys.stderr.isatty()
-        index(
-            IndexOptions([os.fsencode(name)], quiet=quiet, how=how_of(arguments, room, closed_folder), print_line=closed.append), catalogue
-        )
-        if closed:  # its pictures would seem to be missing
-            raise NoCatalogue("; ".join(closed))
-    except BaseException:
-        catalogue.close()
-        raise
-    return catalogue
 
 
 def _parts_of(comparison: changes.Compared, exact: bool) -> List[object]:

@@ -3,12 +3,36 @@
 from __future__ import annotations
 
 import argparse
-from typing import Optional
+import os
+import sys
+import tempfile
+from typing import List, Optional
 
+from ..catalogue.store import Catalogue, NoCatalogue
 from ..scan.batches import How, Lines
+from ..scan.index import IndexOptions, index
+from .output import closed_folder
 
 
 def how_of(arguments: argparse.Namespace, room: str, lines: Optional[Lines] = None) -> How:
     """How a command looks at pictures."""
     notes, pixels, sidecars = (getattr(arguments, it, False) for it in ("maker_notes", "pixels", "sidecars"))
     return How(arguments.jobs, notes, arguments.whole, pixels, sidecars, arguments.limit, room, arguments.session.debug, lines)
+
+
+def catalogue_of(name: str, arguments: argparse.Namespace) -> Catalogue:
+    """A catalogue, or a new one of a folder, which is removed with the session. Raises `NoCatalogue`, also if a folder below can't be read."""
+    if not os.path.isdir(name):
+        return Catalogue(name)
+    room = tempfile.mkdtemp(dir=arguments.session.room)
+    made = Catalogue(os.path.join(room, "catalogue"), make=True)
+    try:
+        closed: List[str] = []
+        quiet = arguments.quiet or not sys.stderr.isatty()
+        index(IndexOptions([os.fsencode(name)], quiet=quiet, how=how_of(arguments, room, closed_folder), print_line=closed.append), made)
+        if closed:  # its pictures would seem to be missing
+            raise NoCatalogue("; ".join(closed))
+    except BaseException:
+        made.close()
+        raise
+    return made

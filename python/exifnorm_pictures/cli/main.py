@@ -83,7 +83,10 @@ def _with_spreadsheet(module: ModuleType, arguments: argparse.Namespace) -> int:
 
 def _failed_by(error: Exception, debug: bool) -> int:
     if isinstance(error, errors.Failure):
-        return _failed(str(error), USAGE if isinstance(error, errors.WrongUse) else FAILURE)
+        status = _failed(str(error), USAGE if isinstance(error, errors.WrongUse) else FAILURE)
+        for line in error.lines:
+            signals.say(line)
+        return status
     if _is_expected(error):
         return _failed(str(error))
     if not isinstance(error, OSError):

@@ -9,7 +9,18 @@ from ..model.records import WORDS, Block, Picture
 from ..model.texts import Members, path_members
 
 # The version of a command's objects. It grows if a key is renamed or removed, or gets another meaning; a new key alone doesn't count.
-_VERSIONS = {"captions": 1, "changed": 1, "compare": 1, "conflicts": 1, "export": 1, "index": 1, "same": 1, "show": 1, "verify": 1}
+_VERSIONS = {
+    "captions": 1,
+    "changed": 1,
+    "compare": 1,
+    "conflicts": 1,
+    "export": 1,
+    "index": 1,
+    "list": 1,
+    "same": 1,
+    "show": 1,
+    "verify": 1,
+}
 
 
 def line_of(command: str, record: str, members: Members) -> str:

@@ -26,10 +26,11 @@ _STATUSES = """Statuses:
        explain: a block is refused or unreadable, a file is damaged, or a
        picture wasn't read; changed, compare: or a part of one wasn't; changed,
        compare, same: the same only after a repair, or but for a MakerNote;
-       same: or they may be so; index: a picture that should be readable isn't,
-       or a program failed at it, and not so at the last run; verify: a file
-       can't be read, or has no digest; mend: no remedy worked, the file is
-       damaged, or the picture wasn't read)
+       same: or they may be so; list: pictures that weren't wholly read may
+       fit; index: a picture that should be readable isn't, or a program failed
+       at it, and not so at the last run; verify: a file can't be read, or has
+       no digest; mend: no remedy worked, the file is damaged, or the picture
+       wasn't read)
   3    bad arguments; index: no name leads to a folder or a file
   4    the command itself failed: the catalogue, a stream, an output file, the
        disk or the memory
@@ -143,7 +144,7 @@ def parsers() -> "Tuple[_Parser, Dict[str, _Parser]]":
             forms.add_argument("--xlsx", type=_name, metavar="FILE", help=words)
         forms.add_argument("--json", action="store_true", help="print one JSON object for each line")
         parser.add_argument("--debug", action="store_true", help="print the traceback of an internal error, as EXIFNORM_DEBUG=1 does")
-        if name not in ("merge", "compare"):
+        if name not in ("merge", "compare", "list"):
             parser.add_argument(
                 "--files-from", metavar="LIST", help="read names from the file LIST, - for standard input: one for each line"
             )
@@ -202,9 +203,13 @@ def _jobs_argument(parser: argparse.ArgumentParser) -> None:
     parser.add_argument("--jobs", type=_positive, default=0, metavar="N", help="processes that look at pictures (as many as processors)")
 
 
-def _more_arguments(parser: argparse.ArgumentParser) -> None:
+def _sidecars_argument(parser: argparse.ArgumentParser) -> None:
     words = "XMP files beside a picture are blocks of it: NAME.EXT.xmp and NAME.xmp"
     parser.add_argument("--sidecars", action="store_true", help=words)
+
+
+def _more_arguments(parser: argparse.ArgumentParser) -> None:
+    _sidecars_argument(parser)
     words = "also a digest of each coded picture, which recognises pictures that were moved and edited, and is for same --kind pixels"
     parser.add_argument("--pixels", action="store_true", help=words)
 
@@ -347,6 +352,35 @@ def _captions_arguments(parser: argparse.ArgumentParser) -> None:
     _looking_arguments(parser)
 
 
+def _list_arguments(parser: argparse.ArgumentParser) -> None:
+    _example(parser, "list my.catalogue --without credit --columns title")
+    parser.add_argument("source", nargs="?", type=_name, metavar="CATALOGUE", help="a catalogue, or a folder, which is read then")
+    parser.add_argument("--catalogue", type=_name, metavar="FILE", help="the same, as other commands have it")
+    asked = parser.add_argument_group("the question", _QUESTIONS)
+    words = "pictures with a text of this label"
+    asked.add_argument("--with", dest="having", action="append", default=[], metavar="LABEL", help=words)
+    asked.add_argument("--without", action="append", default=[], metavar="LABEL", help="pictures without one")
+    asked.add_argument("--where", action="append", default=[], metavar="QUESTION", help="pictures that fit a question")
+    words = "pictures that were new or changed in a run of index since this day, or '2026-03-31 14:30'"
+    asked.add_argument("--since", metavar="DAY", help=words)
+    shown = parser.add_mutually_exclusive_group()
+    shown.add_argument("--columns", metavar="LABELS", help="also print the texts of these labels, as in title,creator")
+    words = "in place of pictures, list the texts of this label, how many pictures have each, and beside it what is spelled alike"
+    shown.add_argument("--count", metavar="LABEL", help=words)
+    parser.add_argument("-0", "--null", action="store_true", help="only the names, each with NUL after it, as for xargs -0")
+    _sidecars_argument(parser)
+    _many_arguments(parser)
+
+
+_QUESTIONS = """A label of captions, or position, serial or owner. A question compares labels
+by =, !=, has, like (with * and ?), and dates and numbers by <, <=, >, >=, and
+joins that by and, or, not and brackets:
+  keywords = clay and not creator like 'Otto*'
+  date created < 1950 or without credit
+Capitals, spaces and composed letters don't matter. Of several options all
+must hold. The text of a camera is none."""
+
+
 def _conflicts_arguments(parser: argparse.ArgumentParser) -> None:
     _example(parser, "conflicts pictures")
     parser.set_defaults(block=False)
@@ -394,6 +428,7 @@ _TABLES = {
     "compare": "a row for each field that differs",
     "show": "a row for each field",
     "captions": "a row for each picture, a column for each label",
+    "list": "a row for each picture, a column for each label of --columns",
     "conflicts": "a row for each label that differs in a picture",
 }
 
@@ -405,6 +440,7 @@ _COMMANDS: Tuple[Tuple[str, str, Callable[[argparse.ArgumentParser], None]], ...
     ("same", "list groups of pictures that mean the same", _same_arguments),
     ("changed", "list the differences between two catalogues or folders, with the fields", _changed_arguments),
     ("compare", "compare two pictures: what differs, side by side, in plain words", _compare_arguments),
+    ("list", "list the pictures whose captions, names, keywords or rights fit a question", _list_arguments),
     ("show", "print the fields of pictures", _show_arguments),
     ("captions", "print captions, names, keywords and rights of pictures, each with its fields", _captions_arguments),
     ("conflicts", "list pictures whose Exif, IPTC and XMP contradict each other", _conflicts_arguments),

@@ -51,7 +51,7 @@ class Sheet:
         if self.rows == ROWS:
             raise NoSpreadsheet(f"a sheet of a spreadsheet has no more than {ROWS:,} rows: use --csv")
         for at, cell in enumerate(cells):
-            if isinstance(cell, int):
+            if isinstance(cell, (int, float)):
                 self._sheet.write_number(self.rows, at, cell)
             elif cell:
                 self._sheet.write_string(self.rows, at, _fitting(_shown(cell)), self._text)

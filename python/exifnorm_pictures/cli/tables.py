@@ -17,7 +17,7 @@ from ..model.texts import escaped, shown_path
 if TYPE_CHECKING:
     from .sheets import Sheet
 
-Cell = Union[str, bytes, int, None]
+Cell = Union[str, bytes, int, float, None]
 
 # Excel and LibreOffice take these as the beginning of a formula, the wide ones in East Asian settings
 _FORMULA = re.compile(r"\A(?=[=+\-@\t\n＝＋－＠])|(?<=[;\t\n])(?=[=+\-@＝＋－＠])")
@@ -55,7 +55,7 @@ class Table:
 
 def _quoted(value: Cell) -> str:
     """A cell as a line of a table has it: in quotes if it has what separates cells, be it commas, semicolons or tabs."""
-    if value is None or isinstance(value, int):
+    if value is None or isinstance(value, (int, float)):
         return "" if value is None else str(value)
     text = cell(shown_path(value) if isinstance(value, bytes) else value)
     return '"' + text.replace('"', '""') + '"' if _SPECIAL.search(text) else text

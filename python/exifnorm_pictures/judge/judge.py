@@ -44,7 +44,7 @@ def _with_fields(block: Block, fields: Fields, packs: bool) -> Block:
     if not packs:
         return block._replace(made=fields)
     kept = packed(fields.all())
-    return block._replace(packed=kept.octets, but_note=kept.but_note)
+    return block._replace(packed=kept.octets, but_note=kept.but_note, made=fields)
 
 
 def _repaired(refused: Block, block: bytes, packs: bool, budget: Optional[Budget]) -> Block:
@@ -106,6 +106,7 @@ def judge_all(blocks: Blocks, packs: bool = False) -> List[Block]:
             if at.kind == EXIF and (block.digest or block.repaired):
                 block = _with_notes(block, at, blocks)
         if many:  # pages of a TIFF can share a value
+            block = block._replace(made=None) if packs else block
             blocks.budget.check_time()
             known[at.kind, at.data] = block
         kept += len(block.packed or b"")
@@ -116,7 +117,7 @@ def judge_all(blocks: Blocks, packs: bool = False) -> List[Block]:
 
 def _within(block: Block, kept: int) -> Block:
     """A block without its packed fields, if so many bytes are kept of a picture: its pages may share one long text."""
-    return block if kept <= KEPT_BYTES or block.packed is None else block._replace(packed=left_out(block.packed))
+    return block if kept <= KEPT_BYTES or block.packed is None else block._replace(packed=left_out(block.packed), made=None)
 
 
 def _all_within(blocks: List[Block]) -> List[Block]:

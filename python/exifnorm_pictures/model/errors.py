@@ -2,9 +2,19 @@
 
 from __future__ import annotations
 
+from typing import Tuple
+
 
 class Failure(Exception):
-    """An error whose text is for people. It ends the command."""
+    """An error whose text is for people. It ends the command. Further arguments are lines below the text."""
+
+    def __str__(self) -> str:
+        return str(self.args[0]) if self.args else ""
+
+    @property
+    def lines(self) -> Tuple[str, ...]:
+        """The lines below the text."""
+        return tuple(map(str, self.args[1:]))
 
 
 class WrongUse(Failure):

@@ -119,6 +119,14 @@ def is_marked_as(now: Stamp, marks: Sequence[Optional[int]]) -> bool:
     return tuple(now[:4]) == tuple(marks) if marks[2] != RACY else (now[0], now[1], now[3]) == (marks[0], marks[1], marks[3])
 
 
+class KeptText(NamedTuple):
+    """A text of a picture by its label, as questions compare it."""
+
+    label: str  # empty: some texts are too many or too long to be kept
+    text: str
+    folded: Optional[str]  # in small letters, composed, with single spaces; None: SQLite's `lower`, which knows ASCII alone, gives it
+
+
 class Picture(NamedTuple):
     """A picture and what is known of it: after it was looked at, or as a catalogue keeps it."""
 
@@ -157,6 +165,7 @@ class Picture(NamedTuple):
     blocks: Tuple[Block, ...] = ()
     unread: Tuple[NotRead, ...] = ()
     notes: Optional[bytes] = None  # what ExifTool reads of its MakerNotes, if it was asked
+    texts: Tuple[KeptText, ...] = ()  # for questions
     is_known: bool = False  # whether it had the same problem when it was looked at before
 
     @classmethod

@@ -8,14 +8,16 @@ from typing import Iterator, List, Optional, Sequence, Tuple
 
 from exifnorm import LibraryMissing
 
+from ..catalogue import label_texts
 from ..extract import extraction, programs, sidecars
 from ..extract.formats.streams import digest_of_file
+from ..fields.block_fields import fields_of
 from ..files.session import Session
 from ..judge import judge
 from ..model.budgets import WHOLE_FILE, TooMuch
 from ..model.found import Blocks
 from ..model.problems import NO_BYTES, Problem
-from ..model.records import RACY, Block, Picture, Stamp
+from ..model.records import RACY, Block, KeptText, Picture, Stamp
 from ..model.texts import reason
 from .batches import How
 from .walk import FoundFile
@@ -44,6 +46,7 @@ def _look(file: FoundFile, how: How, session: Session, packs: bool) -> Picture:
         if file.sidecars:
             whole_file = sidecars.with_sidecars(whole_file, file.path, file.sidecars)
         notes = _maker_notes(session, file.path, judged) if how.maker_notes else None
+        texts, judged = _kept(judged) if packs else ((), judged)
         pixels = _pixels(file.path, blocks) if how.pixels else (None, "", "", None)
     except LibraryMissing:  # an OSError too, but not of this file
         raise
@@ -58,7 +61,7 @@ def _look(file: FoundFile, how: How, session: Session, packs: bool) -> Picture:
     except Exception as error:  # an error of a reader affects only this file
         return Picture.found(file.path, file.root, file.stamp, extraction.failed_here(error, session))
     coded, beside, damage, whole = pixels
-    more = {"notes": notes, "coded_picture": coded, "beside": beside, "damage": damage, "sha256": whole, "sidecars": marks}
+    more = {"texts": texts, "notes": notes, "coded_picture": coded, "beside": beside, "damage": damage, "sha256": whole, "sidecars": marks}
     return Picture.found(file.path, file.root, _unless_changed(file, began), blocks, judged, file=whole_file, **more)
 
 
@@ -75,6 +78,12 @@ def _read(file: FoundFile, how: How, session: Session, packs: bool) -> Tuple[Blo
         return extraction.too_much(why), []
     except programs.TooSlow as error:
         return Blocks(problem=Problem.TOO_SLOW, detail=str(error)), []
+
+
+def _kept(judged: Sequence[Block]) -> Tuple[Tuple[KeptText, ...], List[Block]]:
+    """The texts that a catalogue keeps by label, and the blocks without the fields that were made of them."""
+    texts = label_texts.rows_of([(block, fields_of(block)) for block in judged])
+    return texts, [block._replace(made=None) for block in judged]
 
 
 def _maker_notes(session: Session, path: bytes, judged: Sequence[Block]) -> Optional[bytes]:

@@ -73,3 +73,12 @@ CREATE TABLE runs (
     exiv2 TEXT,
     sidecars INTEGER NOT NULL       -- 1: XMP files beside pictures are blocks of them
 );
+CREATE TABLE texts (
+    picture INTEGER NOT NULL REFERENCES pictures(id) ON DELETE CASCADE,
+    number INTEGER NOT NULL,
+    label TEXT NOT NULL,            -- a label of captions; position, serial or owner
+    text TEXT NOT NULL,             -- a text of the picture; those that cameras write by themselves are left out
+    folded TEXT,                    -- the same as it is compared: in small letters, composed, with single spaces; NULL: it is lower(text)
+    PRIMARY KEY (picture, number)
+) WITHOUT ROWID;
+CREATE INDEX texts_by_label ON texts (label, substr(ifnull(folded, lower(text)), 1, 40));

@@ -1,0 +1,71 @@
+"""The texts of pictures by label as rows of a catalogue, by which questions are answered without reading the fields of all pictures."""
+
+from __future__ import annotations
+
+from typing import Dict, Iterator, List, Sequence, Tuple
+
+from ..fields.folding import folded
+from ..fields.labels import POSITION, PRIVATE, decoded
+from ..fields.listing import LONGEST_TEXT, Field, is_rest
+from ..fields.places import position_of
+from ..model.records import Block, KeptText
+from ..model.xmp_values import texts
+from .texts import texts_of
+
+
+def kept_text(label: str, text: str) -> KeptText:
+    """A text as a catalogue keeps it.
+
+    >>> kept_text("creator", "Anna"), kept_text("creator", "Otto  Wei\u00df")
+    (KeptText(label='creator', text='Anna', folded=None), KeptText(label='creator', text='Otto  Weiß', folded='otto weiss'))
+    """
+    compared = folded(text)
+    return KeptText(label, text, None if text.isascii() and compared == text.lower() else compared)
+
+
+MORE = KeptText("", "", None)  # in place of texts that aren't kept
+_MOST_CHARACTERS = 1 << 20  # of the texts of a picture
+
+
+def rows_of(blocks: Sequence[Tuple[Block, List[Field]]]) -> Tuple[KeptText, ...]:
+    """The texts of a picture by its blocks, each with its fields: a text that several fields have once.
+
+    A camera's own caption is none of the picture's. The position is in degrees, north and east positive. `MORE` stands for texts that are
+    too many or too long.
+    """
+    known: Dict[Tuple[str, str], KeptText] = {}
+    left = _MOST_CHARACTERS
+    has_more = any(is_rest(field.where, field.key) for _, fields in blocks for field in fields)
+    for label, text in _texts(blocks):
+        if not text or (label, text) in known:
+            continue
+        left -= len(text)
+        if left < 0 or len(text) > LONGEST_TEXT:
+            has_more = True
+            break
+        known[label, text] = kept_text(label, text)
+    return (*known.values(), MORE) if has_more else tuple(known.values())
+
+
+def _texts(blocks: Sequence[Tuple[Block, List[Field]]]) -> Iterator[Tuple[str, str]]:
+    for labelled in texts_of(blocks).texts:
+        if not labelled.is_own:
+            yield from ((labelled.label, text) for text in labelled.texts)
+    fields = [field for _, of_block in blocks for field in of_block]
+    place = position_of(fields)
+    if place is not None:
+        yield POSITION, place.text
+    for field in fields:
+        label = _PRIVATE.get((field.where, field.key))
+        if label:
+            yield from ((label, text) for text in _of_field(field))
+
+
+_PRIVATE = {place: label for label, places in PRIVATE.items() for place in places}
+
+
+def _of_field(field: Field) -> Iterator[str]:
+    if isinstance(field.value, bytes):
+        yield decoded(field.value)[0].strip(" \0")
+    elif field.where == "xmp" and isinstance(field.value, tuple):
+        yield from (text.strip() for value in field.value for text in texts(value))  # type: ignore[arg-type]

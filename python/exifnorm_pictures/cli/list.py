@@ -1,0 +1,181 @@
+"""The command `list`: the pictures whose texts fit a question, and the texts of a label with how often each is there."""
+
+from __future__ import annotations
+
+import argparse
+import os
+import re
+import sys
+import time
+from datetime import datetime, timezone
+from itertools import groupby
+from typing import Iterator, List, Optional, Sequence, Tuple
+
+from ..catalogue.asking import Answer, Fitting, Scope
+from ..fields.labels import POSITION
+from ..fields.questions import All, Not, Question, With, WrongQuestion, given_label, labels_of, question_of
+from ..files import signals
+from ..model.texts import Members, escaped, path_members, shown_path
+from .exit_codes import SUCCESS, UNKNOWN
+from .looking import catalogue_of
+from .objects import print_object
+from .output import print_line
+from .parser import refuse
+from .tables import Cell, Table
+
+_WIDEST = 40  # characters in front of which the counts of --count stand
+
+
+def run(arguments: argparse.Namespace) -> int:
+    """Lists pictures by their texts."""
+    question = _question(arguments)
+    columns = _columns(arguments, question)
+    counted = given_label(arguments.count) if arguments.count else None
+    scope = Scope(_since(arguments.since) if arguments.since else None)
+    source = _source(arguments)
+    _refuse_for_catalogues(arguments, source)
+    with catalogue_of(source, arguments) as catalogue, catalogue.reading():
+        answer = Answer(catalogue, question, scope)
+        if counted is not None:
+            _print_counts(arguments, answer, counted)
+        else:
+            _print_pictures(arguments, answer, columns)
+        return UNKNOWN if answer.not_known() else SUCCESS
+
+
+def _source(arguments: argparse.Namespace) -> str:
+    """The catalogue or the folder, of which one is given."""
+    given = [name for name in (arguments.source, arguments.catalogue) if name is not None]
+    if len(given) != 1:
+        refuse(arguments.command, "give one catalogue or folder")
+    return str(given[0])
+
+
+def _refuse_for_catalogues(arguments: argparse.Namespace, source: str) -> None:
+    """Refuses options that say how pictures are read: a catalogue's were read by `index`."""
+    given = [option for option in ("whole", "sidecars") if getattr(arguments, option)]
+    if given and not os.path.isdir(source):
+        refuse(arguments.command, f"--{given[0]} is for folders: a catalogue has what index --{given[0]} read")
+
+
+def _question(arguments: argparse.Namespace) -> Optional[Question]:
+    """All that the options ask, together; None if they ask nothing."""
+    questions: List[Question] = [With(given_label(word)) for word in arguments.having]
+    questions += [Not(With(given_label(word))) for word in arguments.without]
+    questions += [question_of(text) for text in arguments.where]
+    return None if not questions else questions[0] if len(questions) == 1 else All(tuple(questions))
+
+
+def _columns(arguments: argparse.Namespace, question: Optional[Question]) -> List[str]:
+    """The labels whose texts are printed: those that are asked for, in a table at least those of the question."""
+    if arguments.columns is not None:
+        return [given_label(word) for word in arguments.columns.split(",")]
+    in_question = labels_of(question) if question else []
+    return list(dict.fromkeys(["title", *in_question])) if arguments.csv or arguments.json else []
+
+
+def _since(text: str) -> str:
+    """A day or a moment, in the local time, as a catalogue has it in UTC. Raises `WrongQuestion`."""
+    if re.fullmatch(r"\d{4}-\d\d-\d\d([ T]\d\d:\d\d(:\d\d)?)?", text):
+        try:
+            moment = datetime.fromisoformat(text).timestamp()
+            return datetime.fromtimestamp(moment, timezone.utc).strftime("%Y-%m-%dT%H:%M:%S")
+        except (ValueError, OverflowError):
+            pass
+    raise WrongQuestion(f"--since {text}: expected a day, such as {time.strftime('%Y-%m-%d')}, or '2026-03-31 14:30'")
+
+
+# Pictures
+
+
+def _print_pictures(arguments: argparse.Namespace, answer: Answer, columns: Sequence[str]) -> None:
+    table = Table(arguments, ["picture", *_heads(columns)]) if arguments.csv else None
+    listed = 0
+    for picture in answer.pictures():
+        listed += 1
+        texts = answer.texts_of(picture, columns) if columns else []
+        if table:
+            table.row(picture.path, *_cells(columns, texts))
+        elif arguments.json:
+            captions = {label: list(of_label) for label, of_label in zip(columns, texts)}
+            print_object("list", "picture", {**path_members(picture.path), "texts": captions})
+        elif arguments.null:
+            sys.stdout.buffer.write(picture.path + b"\0")
+        else:
+            for line in _lines(picture, columns, texts):
+                print_line(line)
+    _print_end(arguments, answer, listed)
+
+
+def _heads(columns: Sequence[str]) -> List[str]:
+    """The heads of a table, in which a position is two numbers, as maps take them."""
+    return [head for label in columns for head in (("latitude", "longitude") if label == POSITION else (label,))]
+
+
+def _cells(columns: Sequence[str], texts: Sequence[Tuple[str, ...]]) -> Iterator[Cell]:
+    for label, of_label in zip(columns, texts):
+        if label == POSITION:
+            yield from map(float, of_label[0].split(", ")) if of_label else (None, None)
+        else:
+            yield "; ".join(of_label)
+
+
+def _lines(picture: Fitting, columns: Sequence[str], texts: Sequence[Tuple[str, ...]]) -> Iterator[str]:
+    yield shown_path(picture.path)
+    width = max(map(len, columns), default=0)
+    for label, of_label in zip(columns, texts):
+        yield f"  {label:<{width}}  {escaped('; '.join(of_label)) or '(none)'}"
+
+
+def _print_end(arguments: argparse.Namespace, answer: Answer, listed: int) -> None:
+    """How many pictures were listed, and of how many that isn't known."""
+    if arguments.json:
+        numbers: Members = {"pictures": answer.count(), "listed": listed, "not_known": answer.not_known()}
+        print_object("list", "summary", numbers)
+        return
+    end = f"{listed:,} of {_pictures(answer.count())}{_of_unknown(answer)}"
+    if not (arguments.csv or arguments.null):
+        print_line(end)
+    elif answer.not_known():
+        signals.say(f"exifnorm-pictures: note: {end}")
+
+
+def _of_unknown(answer: Answer) -> str:
+    count = answer.not_known()
+    return f"; {count:,} more may fit: they were not wholly read" if count else ""
+
+
+def _pictures(count: int) -> str:
+    return f"{count:,} picture{'s' * (count != 1)}"
+
+
+# Counts
+
+
+def _print_counts(arguments: argparse.Namespace, answer: Answer, label: str) -> None:
+    """Each text of a label with the number of pictures that have it; those that are spelled otherwise below it."""
+    table = Table(arguments, [label, "pictures", "like"]) if arguments.csv else None
+    for _, spellings in groupby(answer.counted(label), lambda row: row[2]):
+        first = ""
+        for text, pictures, _ in spellings:
+            if table:
+                table.row(text, pictures, first)
+            elif arguments.json:
+                print_object("list", "text", {"label": label, "text": text, "pictures": pictures, "like": first or None})
+            else:
+                print_line(f"{pictures:>7,}  {escaped(text)}" + (f"   <- like {escaped(first)}?" if first else ""))
+            first = first or text
+    _print_end_of_counts(arguments, answer, label)
+
+
+def _print_end_of_counts(arguments: argparse.Namespace, answer: Answer, label: str) -> None:
+    having, without, not_known = answer.having(label)
+    if arguments.json:
+        print_object("list", "summary", {"pictures": having + without + not_known, "with": having, "not_known": not_known})
+        return
+    more = f"; {not_known:,} without one were not wholly read" if not_known else ""
+    end = f"{_pictures(having)} with a text of {label}, {without:,} without{more}"
+    if not arguments.csv:
+        print_line(end)
+    elif not_known:
+        signals.say(f"exifnorm-pictures: note: {end}")

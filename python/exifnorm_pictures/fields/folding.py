@@ -1,0 +1,29 @@
+"""Texts as people compare them: capitals, decomposed letters and spaces don't tell two texts apart."""
+
+from __future__ import annotations
+
+import unicodedata
+
+
+def folded(text: str) -> str:
+    """A text in which equal texts are alike: without capitals, with composed letters, single spaces between words and none around them.
+
+    Letters are folded by the canonical caseless matching of Unicode, section 3.13.
+
+    >>> folded(" Otto  WEISS "), folded("Otto Weiß"), folded("Zu\u0308rich") == folded("Z\u00fcrich")
+    ('otto weiss', 'otto weiss', True)
+    """
+    if text.isascii():
+        return " ".join(text.lower().split())
+    decomposed = unicodedata.normalize("NFD", unicodedata.normalize("NFD", text).casefold())
+    return " ".join(unicodedata.normalize("NFC", decomposed).split())
+
+
+def bare(text: str) -> str:
+    """A text without what spellings of one name differ in: capitals, accents, spaces and punctuation. Of signs alone, the text as it is.
+
+    >>> bare("Müller, Anna"), bare("muller anna"), bare("--")
+    ('mulleranna', 'mulleranna', '--')
+    """
+    letters = "".join(character for character in unicodedata.normalize("NFKD", folded(text)) if character.isalnum())
+    return letters or folded(text)

@@ -1,0 +1,257 @@
+"""Questions about labelled texts, as somebody types them: `keywords = clay and not (creator like "Otto*" or without credit)`.
+
+    question    alternative { "or" alternative }
+    alternative factor { "and" factor }
+    factor      "not" factor | "(" question ")" | ("with" | "without") label | label comparison value
+    comparison  "=" | "!=" | "has" | "like" | "<" | "<=" | ">" | ">="
+
+A value with `and`, `or`, `not`, brackets or quotes in it stands in quotes. Capitals don't matter in any of the words.
+"""
+
+from __future__ import annotations
+
+import difflib
+import re
+from dataclasses import dataclass
+from typing import List, NamedTuple, NoReturn, Tuple, Union
+
+from ..model.errors import WrongUse
+from .labels import DATE, fields_by_label, label_of
+
+COMPARISONS = ("=", "!=", "has", "like", "<", "<=", ">", ">=")
+ORDERED = ("<", "<=", ">", ">=")
+DEEPEST = 50  # brackets and `not` inside each other
+LONGEST = 4000  # characters of a question
+
+
+class WrongQuestion(WrongUse):
+    """A question that can't be understood. Its lines show where."""
+
+
+@dataclass(frozen=True)
+class With:
+    """Pictures with a text of this label."""
+
+    label: str
+
+
+@dataclass(frozen=True)
+class Compared:
+    """Pictures of which a text of this label compares so. `!=` is `Not` of `=`."""
+
+    label: str
+    comparison: str
+    value: str
+
+
+@dataclass(frozen=True)
+class Not:
+    """All other pictures."""
+
+    question: "Question"
+
+
+@dataclass(frozen=True)
+class All:
+    """Pictures for which each of these holds."""
+
+    questions: Tuple["Question", ...]
+
+
+@dataclass(frozen=True)
+class Any:
+    """Pictures for which one of these holds."""
+
+    questions: Tuple["Question", ...]
+
+
+Question = Union[With, Compared, Not, All, Any]
+
+
+def labels_of(question: Question) -> List[str]:
+    """The labels of a question, in its order, each once.
+
+    >>> labels_of(question_of("without credit and creator = Anna or credit = x"))
+    ['credit', 'creator']
+    """
+    if isinstance(question, (With, Compared)):
+        return [question.label]
+    parts = (question.question,) if isinstance(question, Not) else question.questions
+    return list(dict.fromkeys(label for part in parts for label in labels_of(part)))
+
+
+def question_of(text: str) -> Question:
+    """What a text asks. Raises `WrongQuestion`.
+
+    >>> question_of("keywords = clay or without credit")
+    Any(questions=(Compared(label='keywords', comparison='=', value='clay'), Not(question=With(label='credit'))))
+    >>> question_of("date created < 1950").value
+    '1950'
+    """
+    return _Reader(text).read()
+
+
+def given_label(text: str) -> str:
+    """The label that somebody names. Raises `WrongQuestion` with the nearest one.
+
+    >>> given_label("Date-Created")
+    'date created'
+    """
+    label = label_of(text.strip())
+    if label is None:
+        raise WrongQuestion(f"{text!r} is no label{_nearest(text)}")
+    return label
+
+
+def _nearest(text: str) -> str:
+    labels = list(fields_by_label())
+    near = difflib.get_close_matches(text.casefold(), labels, 1, 0.6)
+    return f" (perhaps {near[0]} is meant)" if near else f". The labels are {', '.join(labels)}"
+
+
+class _Token(NamedTuple):
+    text: str
+    start: int
+    end: int
+    is_quoted: bool = False
+
+    @property
+    def word(self) -> str:
+        """The word in lower case; empty of a text in quotes, which is never a word of a question."""
+        return "" if self.is_quoted else self.text.lower()
+
+
+_TOKEN = re.compile(r'"([^"]*)"|(?<![^\s(=<>])\'([^\']*)\'(?![^\s)])|(!=|<=|>=|[=<>()])|((?:[^\s()=<>!"]|!(?!=))+)')
+_JOINING = ("and", "or", ")", "")
+
+
+class _Reader:
+    """Reads a question from its tokens."""
+
+    def __init__(self, text: str) -> None:
+        self._text = text
+        if len(text) > LONGEST:
+            raise WrongQuestion(f"a question has at most {LONGEST:,} characters")
+        self._tokens = self._split()
+        self._at = 0
+        self._depth = 0
+
+    def _split(self) -> List[_Token]:
+        tokens: List[_Token] = []
+        at = 0
+        while True:
+            at = re.compile(r"\s*").match(self._text, at).end()  # type: ignore[union-attr]
+            if at == len(self._text):
+                return [*tokens, _Token("", at, at)]
+            match = _TOKEN.match(self._text, at)
+            if match is None:
+                self._fail(_Token("", at, at + 1), "the quotes have no end" if self._text[at] == '"' else "this can't be understood")
+            quoted = match[1] if match[1] is not None else match[2]
+            tokens.append(_Token(match[0] if quoted is None else quoted, match.start(), match.end(), quoted is not None))
+            at = match.end()
+
+    def _fail(self, token: _Token, why: str) -> NoReturn:
+        mark = " " * token.start + "^" * max(1, token.end - token.start)
+        raise WrongQuestion(why, f"  {' '.join(self._text.splitlines())}", f"  {mark}")
+
+    @property
+    def _next(self) -> _Token:
+        return self._tokens[self._at]
+
+    def _takes(self, word: str) -> bool:
+        """Whether the next token is this word, which is then passed."""
+        is_next = self._next.word == word and bool(self._next.text)
+        self._at += is_next
+        return is_next
+
+    def read(self) -> Question:
+        """The whole question."""
+        if not self._next.text and not self._next.is_quoted:
+            self._fail(self._next, "the question is empty")
+        question = self._read_any()
+        if self._next.start < len(self._text):
+            self._fail(self._next, "expected: and, or" + ("; there is no bracket to close" if self._next.word == ")" else ""))
+        return question
+
+    def _read_any(self) -> Question:
+        questions = [self._read_all()]
+        while self._takes("or"):
+            questions.append(self._read_all())
+        return questions[0] if len(questions) == 1 else Any(tuple(questions))
+
+    def _read_all(self) -> Question:
+        questions = [self._read_factor()]
+        while self._takes("and"):
+            questions.append(self._read_factor())
+        return questions[0] if len(questions) == 1 else All(tuple(questions))
+
+    def _read_factor(self) -> Question:
+        token = self._next
+        self._depth += 1
+        if self._depth > DEEPEST:
+            self._fail(token, "too many brackets inside each other")
+        if self._takes("not"):
+            question: Question = Not(self._read_factor())
+        elif self._takes("("):
+            question = self._read_any()
+            if not self._takes(")"):
+                self._fail(self._next, "expected: )")
+        elif self._takes("with"):
+            question = With(self._read_label())
+        elif self._takes("without"):
+            question = Not(With(self._read_label()))
+        else:
+            question = self._read_comparison()
+        self._depth -= 1
+        return question
+
+    def _read_label(self) -> str:
+        """The label up to a comparison, a word that joins, or the end."""
+        first = self._at
+        while self._next.word not in (*_JOINING, "(", *COMPARISONS) or self._next.is_quoted:
+            self._at += 1
+        tokens = self._tokens[first : self._at]
+        if not tokens:
+            self._fail(self._next, "expected: a label, such as keywords")
+        whole = _Token(self._text[tokens[0].start : tokens[-1].end], tokens[0].start, tokens[-1].end)
+        name = tokens[0].text if len(tokens) == 1 else whole.text
+        label = label_of(name)
+        if label is None:
+            self._fail(whole, f"{name!r} is no label{_nearest(name)}")
+        return label
+
+    def _read_comparison(self) -> Question:
+        label = self._read_label()
+        token = self._next
+        if token.word not in COMPARISONS:
+            self._fail(token, f"expected: one of {' '.join(COMPARISONS)} and a value after {label}, or `with {label}`")
+        self._at += 1
+        value = self._read_value()
+        if label == DATE and token.word in ("=", "!=", *ORDERED):
+            self._check_date(value)
+        elif token.word in ORDERED:
+            self._check_number(value)
+        if token.word == "!=":
+            return Not(Compared(label, "=", value.text))
+        return Compared(label, token.word, value.text)
+
+    def _read_value(self) -> _Token:
+        """A text in quotes, or all up to a word that joins."""
+        first = self._at
+        if self._next.is_quoted:
+            self._at += 1
+            return self._tokens[first]
+        while self._next.word not in (*_JOINING, "(") and not self._next.is_quoted:
+            self._at += 1
+        tokens = self._tokens[first : self._at]
+        if not tokens:
+            self._fail(self._next, "expected: a value; in quotes if it has brackets, and, or")
+        return _Token(self._text[tokens[0].start : tokens[-1].end], tokens[0].start, tokens[-1].end)
+
+    def _check_date(self, value: _Token) -> None:
+        if not re.fullmatch(r"\d{4}(-\d\d(-\d\d( \d\d(:\d\d(:\d\d(\.\d+)?)?)?)?)?)?", value.text):
+            self._fail(value, "expected: a date, such as 1950, 1950-03 or 1950-03-21")
+
+    def _check_number(self, value: _Token) -> None:
+        if not re.fullmatch(r"[+-]?\d+(\.\d+)?", value.text):
+            self._fail(value, "expected: a number")

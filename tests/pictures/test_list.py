@@ -1,0 +1,339 @@
+"""`list`: the pictures that fit a question, and the texts of a label with their number. The texts are known by how each picture was made."""
+
+import csv
+import fnmatch
+import io
+import json
+import random
+import re
+import struct
+import unicodedata
+
+import pytest
+from made_files import app1_xmp, app13, jpeg, png, png_xmp, resource, xmp
+from studio import needs, put, tool
+
+DATASETS = {"title": 5, "keywords": 25, "creator": 80, "credit": 110, "caption": 120, "city": 90, "date created": 55}
+WORDS = (
+    "clay",
+    "Clay",
+    "clay pot",
+    "Otto Weiß",
+    "otto  weiss",
+    "Zürich",
+    "Zu\u0308rich",
+    "1998.10",
+    "7",
+    "12",
+    "a*b",
+    "[x]",
+    "and",
+    "50% (new)",
+    "x" * 60,
+)
+DATES = ("19500321", "19491231", "19500000", "20010102")
+
+
+def record(texts):
+    """An IPTC record in UTF-8: pairs of a label and a text."""
+    sets = [(1, 90, b"\x1b%G"), *((2, DATASETS[label], text.encode()) for label, text in texts)]
+    return b"".join(struct.pack(">BBBH", 0x1C, number, dataset, len(octets)) + octets for number, dataset, octets in sets)
+
+
+def picture(texts, *more):
+    return jpeg(app13(resource(0x0404, record(texts))), *more)
+
+
+def shown(label, text):
+    """A date as a person writes it; other texts as they are."""
+    return re.sub(r"(....)(..)(..)", r"\1-\2-\3", text) if label == "date created" else text
+
+
+@pytest.fixture
+def asked(called):
+    """The names that `list` prints for some options, and its status and last object."""
+
+    def ask(*words):
+        status, printed, _ = called("list", "c", "--json", *words)
+        *listed, last = map(json.loads, printed.splitlines())
+        return [it["path"].rpartition("/")[2] for it in listed], status, last
+
+    return ask
+
+
+# An independent reading of questions: trees of tuples, their text, and whether the texts of a picture fit
+
+
+def folded(text):
+    return " ".join(unicodedata.normalize("NFC", unicodedata.normalize("NFD", text).casefold()).split())
+
+
+def drawn(rng, depth=0):
+    kind = rng.choice(("with", "=", "=", "!=", "has", "like", "<", ">", "not", "and", "or") if depth < 3 else ("with", "=", "has"))
+    if kind in ("and", "or"):
+        return (kind, *(drawn(rng, depth + 1) for _ in range(rng.choice((2, 2, 3)))))
+    if kind == "not":
+        return (kind, drawn(rng, depth + 1))
+    label = rng.choice(list(DATASETS))
+    if kind == "with":
+        return (kind, label)
+    if kind in "<>":
+        return (
+            (kind, "date created", rng.choice(("1950", "1950-03", "1950-03-21", "2001-01-02")))
+            if rng.random() < 0.6
+            else (kind, "title", "8")
+        )
+    word = rng.choice([*WORDS, "otto", "CLAY"]) if label != "date created" else "1950"
+    return (kind, label if kind in ("=", "!=") or label != "date created" else "title", f"*{word[:3]}*" if kind == "like" else word)
+
+
+def text_of(question):
+    kind, *parts = question
+    if kind in ("and", "or"):
+        return "(" + f" {kind} ".join(map(text_of, parts)) + ")"
+    if kind == "not":
+        return f"not {text_of(parts[0])}"
+    return f"with {parts[0]}" if kind == "with" else f'{parts[0]} {kind} "{parts[1]}"'
+
+
+def day(text):
+    """The first and the last day of a date that is known to the year, the month or the day."""
+    return text + "0000-01-01"[len(text) :] if len(text) == 4 else text + "-00"[: 10 - len(text)], text + "\uffff"
+
+
+def fits(question, texts):
+    kind, *parts = question
+    if kind == "and":
+        return all(fits(part, texts) for part in parts)
+    if kind == "or":
+        return any(fits(part, texts) for part in parts)
+    if kind == "not":
+        return not fits(parts[0], texts)
+    if kind == "!=":
+        return not fits(("=", *parts), texts)
+    ours = [folded(shown(label, text)) for label, text in texts if label == parts[0]]
+    if kind == "with":
+        return bool(ours)
+    value = folded(parts[1])
+    if parts[0] == "date created":
+        # each date here is a whole day: it lies in the given year, month or day, or before or after all of it
+        first = {
+            "=": lambda own: own.startswith(value),
+            "<": lambda own: own[: len(value)] < value,
+            ">": lambda own: own[: len(value)] > value,
+        }
+        return any(map(first[kind], ours))
+    if kind in "<>":
+        numbers = [float(own) for own in ours if re.fullmatch(r"[+-]?[0-9]+(\.[0-9]+)?", own)]
+        return any(number < 8 if kind == "<" else number > 8 for number in numbers)
+    tests = {
+        "=": lambda own: own == value,
+        "has": lambda own: value in own,
+        "like": lambda own: fnmatch.fnmatchcase(own, value.replace("[", "[[]")),
+    }
+    return any(map(tests[kind], ours))
+
+
+@pytest.mark.parametrize("seed", range(4))
+def test_questions(folder, called, asked, seed):
+    """Each drawn question lists exactly the pictures whose texts fit it, from a catalogue as from the folder."""
+    rng = random.Random(seed)
+    known = {}
+    for number in range(30):
+        labels = rng.sample(list(DATASETS), rng.randrange(len(DATASETS)))
+        texts = []
+        for label in labels:
+            count = rng.choice((1, 2, 3)) if label == "keywords" else 1
+            texts += [(label, rng.choice(DATES if label == "date created" else WORDS)) for _ in range(count)]
+        known[f"{number:02}.jpg"] = texts
+    put(folder / "p", {name: picture(texts) for name, texts in known.items()})
+    called("index", "p", "--catalogue", "c", "--quiet")
+    for _ in range(60):
+        question = drawn(rng)
+        listed, status, summary = asked("--where", text_of(question))
+        assert (listed, status) == ([name for name, texts in known.items() if fits(question, texts)], 0), text_of(question)
+        assert (summary["pictures"], summary["listed"], summary["not_known"]) == (30, len(listed), 0)
+    of_folder = called("list", "p", "--json", "--where", text_of(question))[1].splitlines()
+    assert [json.loads(it)["path"].rpartition("/")[2] for it in of_folder[:-1]] == listed
+
+
+def test_options_hold_together(folder, called, asked):
+    put(folder / "p", {"a.jpg": picture([("title", "A"), ("credit", "B")]), "b.jpg": picture([("title", "A")]), "c.jpg": picture([])})
+    called("index", "p", "--catalogue", "c", "--quiet")
+    assert asked("--with", "title", "--without", "credit")[0] == ["b.jpg"]
+    assert asked("--with", "Title", "--where", "credit = b")[0] == ["a.jpg"]
+    assert asked()[0] == ["a.jpg", "b.jpg", "c.jpg"]
+
+
+# Pictures that were not wholly read
+
+
+def test_what_was_not_read_is_counted_apart(folder, called, asked):
+    """A picture that has lost a part may have had the text there: it is neither with it nor without it."""
+    whole = picture([("title", "A")], app1_xmp(xmp("<dc:source>x</dc:source>")))
+    put(folder / "p", {"whole.jpg": whole, "cut.jpg": whole[:40], "none.jpg": picture([]), "text.txt": b"no picture"})
+    called("index", "p", "--catalogue", "c", "--quiet")
+    assert asked("--with", "title") == (["whole.jpg"], 2, {**asked("--with", "title")[2], "pictures": 3, "listed": 1, "not_known": 1})
+    listed, status, summary = asked("--without", "title")
+    assert (listed, status, summary["not_known"]) == (["none.jpg"], 2, 1)
+    assert asked("--where", "title = A or title != A")[2]["not_known"] <= 1
+    assert "1 more may fit" in called("list", "c", "--without", "title")[1]
+
+
+def test_texts_that_are_not_kept(folder, called, asked):
+    """A text that is too long for the catalogue may have the word that is asked for."""
+    put(
+        folder / "p", {"long.png": png(png_xmp(xmp(f"<photoshop:Source>{'x' * 70_000} clay</photoshop:Source>"))), "short.jpg": picture([])}
+    )
+    called("index", "p", "--catalogue", "c", "--quiet")
+    assert asked("--where", "source has clay")[1:] == (2, {**asked()[2], "listed": 0, "not_known": 1})
+    assert asked("--without", "source")[0] == ["short.jpg"]
+
+
+def test_cameras_texts_are_none(folder, called, asked):
+    put(folder / "p", {"a.jpg": picture([("caption", "OLYMPUS DIGITAL CAMERA")]), "b.jpg": picture([("caption", "Vase")])})
+    called("index", "p", "--catalogue", "c", "--quiet")
+    assert asked("--without", "caption")[0] == ["a.jpg"]
+    assert asked("--where", "caption has digital")[0] == []
+
+
+@needs("exiftool")
+def test_fields_of_each_standard(folder, called, asked):
+    """A label is the field of Exif, of IPTC and of XMP; serial, owner and position are found as ExifTool has written them."""
+    put(folder / "p", {f"{name}.jpg": jpeg() for name in "abcde"})
+    for name, *words in (
+        ("a", "-IFD0:Artist=Anna Wirth"),
+        ("b", "-XMP-dc:Creator=Anna Wirth", "-XMP-exif:GPSLatitude=33.5 S", "-XMP-exif:GPSLongitude=7.25 E"),
+        ("c", "-GPSLatitude=51.5", "-GPSLatitudeRef=N", "-GPSLongitude=0.12", "-GPSLongitudeRef=W", "-ExifIFD:SerialNumber=K-77"),
+        ("d", "-IPTC:By-line=anna  wirth", "-XMP-aux:OwnerName=Otto"),
+    ):
+        tool(folder, "exiftool", "-q", "-overwrite_original", *words, f"p/{name}.jpg")
+    called("index", "p", "--catalogue", "c", "--quiet")
+    assert asked("--where", "creator = anna wirth")[0] == ["a.jpg", "b.jpg", "d.jpg"]
+    assert asked("--with", "position")[0] == ["b.jpg", "c.jpg"]
+    assert asked("--where", "serial = k-77 or owner = OTTO")[0] == ["c.jpg", "d.jpg"]
+    printed = called("list", "c", "--csv", "--with", "position", "--columns", "position")[1]
+    assert [row[1:] for row in csv.reader(io.StringIO(printed))] == [["latitude", "longitude"], ["-33.5", "7.25"], ["51.5", "-0.12"]]
+
+
+# Counts
+
+
+def test_counts_of_a_label(folder, called):
+    names = ["Otto Weiß"] * 3 + ["otto weiss", "Müller, Anna", "Anna Müller", "Muller Anna"]
+    put(folder / "p", {f"{number}.jpg": picture([("creator", name)]) for number, name in enumerate(names)} | {"none.jpg": picture([])})
+    called("index", "p", "--catalogue", "c", "--quiet")
+    *texts, last = map(json.loads, called("list", "c", "--count", "creator", "--json")[1].splitlines())
+    assert [(it["text"], it["pictures"], it["like"]) for it in texts] == [
+        ("Otto Weiß", 3, None),
+        ("otto weiss", 1, "Otto Weiß"),
+        ("Muller Anna", 1, None),
+        ("Müller, Anna", 1, "Muller Anna"),
+        ("Anna Müller", 1, None),
+    ]
+    assert (last["pictures"], last["with"], last["not_known"]) == (8, 7, 0)
+    assert called("list", "c", "--count", "creator", "--where", "creator like otto*")[1].count("\n") == 3
+
+
+# Forms
+
+
+def test_forms_say_the_same(folder, called):
+    put(
+        folder / "p",
+        {"a.jpg": picture([("title", "1998.10"), ("keywords", "a"), ("keywords", "b")]), "b.jpg": picture([("keywords", "c")])},
+    )
+    called("index", "p", "--catalogue", "c", "--quiet")
+    rows = list(csv.reader(io.StringIO(called("list", "c", "--csv", "--columns", "title,keywords")[1])))
+    assert [row[1:] for row in rows] == [["title", "keywords"], ["1998.10", "a; b"], ["", "c"]]
+    printed = called("list", "c", "--columns", "title,keywords")[1].splitlines()
+    assert printed[1:3] == ["  title     1998.10", "  keywords  a; b"] and printed[4] == "  title     (none)"
+    assert printed[-1] == "2 of 2 pictures"
+    objects = [json.loads(it) for it in called("list", "c", "--json", "--columns", "title,keywords")[1].splitlines()]
+    assert [it["texts"] for it in objects[:-1]] == [{"title": ["1998.10"], "keywords": ["a", "b"]}, {"title": [], "keywords": ["c"]}]
+    assert called("list", "c", "-0")[1] == "".join(f"{row[0]}\0" for row in rows[1:])
+
+
+# Since
+
+
+def test_since(folder, called, asked, monkeypatch):
+    put(folder / "p", {"a.jpg": picture([("title", "A")])})
+    called("index", "p", "--catalogue", "c", "--quiet")
+    assert asked("--since", "1971-01-01")[0] == ["a.jpg"]
+    assert asked("--since", "2200-01-01")[0] == []
+
+
+# Wrong questions
+
+
+@pytest.mark.parametrize(
+    "words, marked",
+    [
+        (["--where", "creatr = Otto"], "creator"),
+        (["--where", "title = A and"], "label"),
+        (["--where", "title"], "="),
+        (["--where", "(title = A"], ")"),
+        (["--where", 'title = "A'], "quotes"),
+        (["--where", "date created < spring"], "date"),
+        (["--where", ""], "empty"),
+        (["--where", "(" * 200], "brackets"),
+        (["--with", "nothing"], "labels are"),
+        (["--columns", "title,creatr"], "creator"),
+        (["--since", "yesterday"], "day"),
+    ],
+)
+def test_wrong_questions_are_explained(folder, called, words, marked):
+    put(folder / "p", {"a.jpg": picture([])})
+    called("index", "p", "--catalogue", "c", "--quiet")
+    status, printed, messages = called("list", "c", *words)
+    assert (status, printed) == (3, "") and marked in messages and "Traceback" not in messages
+
+
+def test_the_place_of_a_mistake_is_marked(folder, called):
+    put(folder / "p", {"a.jpg": picture([])})
+    called("index", "p", "--catalogue", "c", "--quiet")
+    *_, text, mark = called("list", "c", "--where", "title = A and creatr = B")[2].splitlines()
+    assert text[mark.index("^") : mark.rindex("^") + 1] == "creatr"
+
+
+# Costs
+
+
+def test_a_question_visits_few_rows(folder, called):
+    """A text is looked up, however many pictures have others: SQLite's steps at ten times as many pictures."""
+    from exifnorm_pictures.catalogue.asking import Answer
+    from exifnorm_pictures.catalogue.store import Catalogue, put_rows
+    from exifnorm_pictures.fields.questions import question_of
+    from exifnorm_pictures.catalogue.label_texts import kept_text
+    from exifnorm_pictures.model.records import Picture
+
+    steps = {}
+    for count in (1_000, 10_000):
+        name = str(folder / f"c{count}")
+        with Catalogue(name, make=True) as catalogue:
+            run = catalogue.begin_run("2026-01-01T00:00:00Z")
+            empty = {"exif": "", "iptc": "", "xmp": "", "not_read": "", "other_not_read": ""}
+            pictures = [
+                Picture(
+                    path=b"/p/%06d" % number,
+                    root=b"/p",
+                    **empty,
+                    texts=(kept_text("creator", f"Name {number}"), kept_text("title", "Vase")),
+                )
+                for number in range(count)
+            ]
+            with catalogue.transaction():
+                put_rows(catalogue.base, run, 1, pictures)
+        with Catalogue(name) as catalogue:
+            counted = 0
+
+            def count_steps():
+                nonlocal counted
+                counted += 1
+
+            answer = Answer(catalogue, question_of("creator = 'name 77'"))
+            catalogue.base.set_progress_handler(count_steps, 1)
+            assert len(list(answer.pictures())) == 1
+            steps[count] = counted
+    assert steps[10_000] < 2 * steps[1_000], steps
