@@ -22,7 +22,7 @@ typedef uint32_t (*compare_call)(const unsigned char *, size_t, const unsigned c
 typedef uint32_t (*text_call)(const unsigned char *, size_t, unsigned char *, size_t, size_t *, struct exifnorm_fault *);
 typedef uint32_t (*parts_call)(const unsigned char *, size_t, struct exifnorm_jpeg_part *, size_t, size_t *, struct exifnorm_jpeg_fault *);
 typedef uint32_t (*resources_call)(const unsigned char *, size_t, struct exifnorm_photoshop_resource *, size_t, size_t *);
-typedef uint32_t (*same_call)(const unsigned char *, size_t, const unsigned char *, size_t, uint32_t *, struct exifnorm_jpeg_unread *,
+typedef uint32_t (*same_call)(const unsigned char *, size_t, const unsigned char *, size_t, uint32_t *, struct exifnorm_unread_part *,
                               struct exifnorm_picture_fault *);
 
 typedef uint32_t (*blocks_call)(const unsigned char *, size_t, struct exifnorm_jpeg_block *, size_t, unsigned char *, size_t,
@@ -303,7 +303,7 @@ static PyObject *jpeg_same(PyObject *capsule, PyObject *arguments)
 {
     struct calls *calls = PyCapsule_GetPointer(capsule, NULL);
     struct exifnorm_picture_fault fault = {0, 0, 0, 0};
-    struct exifnorm_jpeg_unread unread = {0, 0, 0};
+    struct exifnorm_unread_part unread = {0, 0, 0};
     struct bytes first, second;
     uint32_t status, same = 0;
 

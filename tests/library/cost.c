@@ -35,7 +35,7 @@ static uint32_t called(const char *name, struct block block, void *out, size_t r
     struct exifnorm_fault fault;
     struct exifnorm_jpeg_fault of_head;
     struct exifnorm_picture_fault of_picture;
-    struct exifnorm_jpeg_unread unread;
+    struct exifnorm_unread_part unread;
     uint32_t number;
     if (!strcmp(name, "check"))
         return exifnorm_check(block.bytes, block.length, &number, &fault);

@@ -355,9 +355,20 @@ def test_names_and_texts(folder, compiler):
 def test_every_warning_is_an_error_of_the_headers(folder, compiler):
     """Each header can be the first one, included twice, and nothing of it used."""
     need(compiler[0])
-    for name in ("exifnorm_fields.h", "exifnorm_names.h"):
+    for name in ("exifnorm.h", "exifnorm_fields.h", "exifnorm_names.h"):
         (folder / "unused.c").write_text(f"#include <{name}>\n#include <{name}>\nint main(void) {{ return 0; }}\n", encoding="ascii")
-        run(*compiler, *STRICT, "-Wundef", "-Wconversion", "-Wcast-qual", folder / "unused.c", "-o", folder / "unused")
+        run(
+            *compiler,
+            *STRICT,
+            "-Wundef",
+            "-Wshadow",
+            "-Wconversion",
+            "-Wsign-conversion",
+            "-Wcast-qual",
+            folder / "unused.c",
+            "-o",
+            folder / "unused",
+        )
 
 
 # ---- the program of the manual page

@@ -146,7 +146,7 @@ def test_python_has_the_same_numbers_and_structs_of_jpegs():
         "fault": _library.Fault,
         "jpeg_block": _library.Place,
         "jpeg_sizes": _library.Sizes,
-        "jpeg_unread": _library.Unread,
+        "unread_part": _library.Unread,
     }
     found = {
         f"exifnorm_{name}": [ctypes.sizeof(it), *(getattr(it, field).offset for field, _ in it._fields_)] for name, it in structs.items()
@@ -172,7 +172,7 @@ IN_PYTHON = {
     "struct exifnorm_picture_fault *": "LP_PictureFault",
     "struct exifnorm_jpeg_block *": "LP_Place",
     "struct exifnorm_jpeg_sizes *": "LP_Sizes",
-    "struct exifnorm_jpeg_unread *": "LP_Unread",
+    "struct exifnorm_unread_part *": "LP_Unread",
 }
 
 

@@ -128,8 +128,8 @@ uint32_t exifnorm_photoshop_resources(const unsigned char *bytes, size_t length,
 }
 
 uint32_t exifnorm_jpeg_same(const unsigned char *first, size_t first_length, const unsigned char *second, size_t second_length, uint32_t *same,
-                            struct exifnorm_jpeg_unread *unread, struct exifnorm_picture_fault *fault) {
-    uint32_t (*call)(const unsigned char *, size_t, const unsigned char *, size_t, uint32_t *, struct exifnorm_jpeg_unread *,
+                            struct exifnorm_unread_part *unread, struct exifnorm_picture_fault *fault) {
+    uint32_t (*call)(const unsigned char *, size_t, const unsigned char *, size_t, uint32_t *, struct exifnorm_unread_part *,
                      struct exifnorm_picture_fault *);
     uint32_t status;
     count_call(9);
@@ -151,8 +151,8 @@ uint32_t exifnorm_jpeg_blocks(const unsigned char *bytes, size_t length, struct 
     return has_status(&status) ? status : call(bytes, length, blocks, room, out, out_length, sizes, fault);
 }
 
-uint32_t exifnorm_jpeg_unread(const unsigned char *bytes, size_t length, struct exifnorm_jpeg_unread *unread, struct exifnorm_jpeg_fault *fault) {
-    uint32_t (*call)(const unsigned char *, size_t, struct exifnorm_jpeg_unread *, struct exifnorm_jpeg_fault *);
+uint32_t exifnorm_jpeg_unread(const unsigned char *bytes, size_t length, struct exifnorm_unread_part *unread, struct exifnorm_jpeg_fault *fault) {
+    uint32_t (*call)(const unsigned char *, size_t, struct exifnorm_unread_part *, struct exifnorm_jpeg_fault *);
     uint32_t status;
     count_call(11);
     need(bytes, unread, fault, fault);

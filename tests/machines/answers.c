@@ -96,7 +96,7 @@ static void print_resources(octets block, size_t room) {
 }
 
 static void print_unread(octets picture) {
-    struct exifnorm_jpeg_unread unread = {9, 9, 9};
+    struct exifnorm_unread_part unread = {9, 9, 9};
     struct exifnorm_jpeg_fault fault = {0, 0};
     uint32_t status = exifnorm_jpeg_unread(picture.bytes, picture.length, &unread, &fault);
     printf("unread %u %u %u %lu %u %lu\n", (unsigned)status, (unsigned)unread.found, (unsigned)unread.joined, (unsigned long)unread.start,
@@ -106,7 +106,7 @@ static void print_unread(octets picture) {
 static void print_comparison(octets first, octets second) {
     struct exifnorm_fault fault = {0, 0};
     struct exifnorm_picture_fault picture = {0, 0, 0, 0};
-    struct exifnorm_jpeg_unread unread = {9, 9, 9};
+    struct exifnorm_unread_part unread = {9, 9, 9};
     uint32_t same = 9, status = exifnorm_compare(first.bytes, first.length, second.bytes, second.length, &same, &fault);
     printf("compare %u %u %u %u\n", (unsigned)status, (unsigned)same, (unsigned)fault.cause, (unsigned)fault.place);
     same = 9;

@@ -270,7 +270,7 @@ struct exifnorm_picture_fault {
 };
 
 /* A place in a picture that isn't read. */
-struct exifnorm_jpeg_unread {
+struct exifnorm_unread_part {
     uint32_t found;  /* 1 if there is one, else 0 */
     uint32_t joined; /* 0: it is in the picture; 1: it is in the bytes that exifnorm_jpeg_blocks joins */
     size_t start;    /* the byte offset */
@@ -297,7 +297,7 @@ struct exifnorm_jpeg_unread {
 uint32_t exifnorm_jpeg_same(const unsigned char *first, size_t first_length,   /* a picture, or its first bytes */
                             const unsigned char *second, size_t second_length, /* the other picture */
                             uint32_t *same,                                    /* is set to 1 or 0 */
-                            struct exifnorm_jpeg_unread *unread,               /* is set to the first place that isn't read */
+                            struct exifnorm_unread_part *unread,               /* is set to the first place that isn't read */
                             struct exifnorm_picture_fault *fault);             /* is set to the cause of a refusal */
 
 /* Finds the first place in a picture at which something is that other programs read as Exif or IPTC, or may, and exifnorm_jpeg_same
@@ -311,7 +311,7 @@ uint32_t exifnorm_jpeg_same(const unsigned char *first, size_t first_length,   /
  *   NO_MEMORY  nothing is set.
  */
 uint32_t exifnorm_jpeg_unread(const unsigned char *bytes, size_t length, /* the picture, or its first bytes */
-                              struct exifnorm_jpeg_unread *unread,       /* is set to the place */
+                              struct exifnorm_unread_part *unread,       /* is set to the place */
                               struct exifnorm_jpeg_fault *fault);        /* is set to the cause of a refusal */
 
 /* Writes the name of a cause, as "Overlap" or "JpegCut", and a zero byte to the beginning of out. A number that is no cause has the

@@ -12,7 +12,7 @@ use Rattle.px_pictures.specs.Same.{IsComparison}
 use Rattle.px_pictures.specs.declared.faults.Comparison.{Comparison}
 use Rattle.px_pictures.specs.declared.faults.Comparison.TheVariants.{Same, Different, NotRead}
 use Rattle.px_c.specs.declared.pictures.ExifnormPictureFault.{ExifnormPictureFault}
-use Rattle.px_c.specs.declared.unread.ExifnormJpegUnread.{ExifnormJpegUnread}
+use Rattle.px_c.specs.declared.unread.ExifnormUnreadPart.{ExifnormUnreadPart}
 use Rattle.px_c.specs.Jpeg.{head_cause}
 use Rattle.px_c.specs.Unread.{seen_unread}
 
@@ -43,5 +43,5 @@ abbrev pub ArePicturesCompared : List ℕ → List ℕ → ℕ → Type 0
 ArePicturesCompared f g n = (n ≤ 1) × IsComparison f g (answer_of n)
 
 -- the meanings are the same, and the picture of this side has this first place that isn't read; if that is the second, the first has none
-abbrev pub LeavesUnread : Side → List ℕ → List ℕ → ExifnormJpegUnread → Type 0
+abbrev pub LeavesUnread : Side → List ℕ → List ℕ → ExifnormUnreadPart → Type 0
 LeavesUnread side f g seen = (u : Unread) × IsComparison f g (NotRead side u) × (seen ≡ seen_unread (Some u))

@@ -6,16 +6,16 @@ use Rattle.px_pictures.specs.declared.unread.Unread.{Unread}
 use Rattle.px_pictures.specs.Faults.{IsHeadFault}
 use Rattle.px_pictures.specs.Unread.{IsUnread}
 use Rattle.px_c.specs.declared.jpeg.ExifnormJpegFault.{ExifnormJpegFault}
-use Rattle.px_c.specs.declared.unread.ExifnormJpegUnread.{ExifnormJpegUnread}
+use Rattle.px_c.specs.declared.unread.ExifnormUnreadPart.{ExifnormUnreadPart}
 use Rattle.px_c.specs.Jpeg.{head_cause}
 
 -- a place in C
-abbrev pub seen_unread : Option Unread → ExifnormJpegUnread
+abbrev pub seen_unread : Option Unread → ExifnormUnreadPart
 seen_unread None = record { found = 0; joined = 0; start = 0 }
 seen_unread (Some u) = record { found = 1; joined = if u.joined then 1 else 0; start = u.start }
 
 -- the picture's first place that isn't read, or that there is none
-abbrev pub ShowsUnread : List ℕ → ExifnormJpegUnread → Type 0
+abbrev pub ShowsUnread : List ℕ → ExifnormUnreadPart → Type 0
 ShowsUnread b seen = (u : Option Unread) × IsUnread b u × (seen ≡ seen_unread u)
 
 -- a fault of a head in C

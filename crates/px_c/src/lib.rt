@@ -52,7 +52,7 @@ use px_engine::VERSION;
 use px_jpeg::{find_resources, read_head};
 use statuses::{DONE, NO_MEMORY, REFUSED, SECOND_REFUSED, TOO_LITTLE_ROOM, TOO_LONG};
 use std::alloc::Global;
-pub use unread::ExifnormJpegUnread;
+pub use unread::ExifnormUnreadPart;
 
 /// Stores the kind of the block in a file in `kind`: 1 for Exif, 2 for IIM. It keeps nothing of the block.
 /// Allocates a bit for each byte of an Exif block, and the fields of its thumbnail directory.
@@ -263,7 +263,7 @@ pub extern "C" fn exifnorm_jpeg_same(
     first: &[u8],
     second: &[u8],
     same: &mut u32,
-    unread: &mut ExifnormJpegUnread,
+    unread: &mut ExifnormUnreadPart,
     fault: &mut ExifnormPictureFault,
 ) -> u32
     ensures known { (result ≡ status.done) ⊎ (result ≡ status.refused) ⊎ (result ≡ status.no_memory) ⊎ (result ≡ status.second_refused)
@@ -292,7 +292,7 @@ pub extern "C" fn exifnorm_jpeg_same(
 pub extern "C" fn exifnorm_jpeg_unread(
     alloc: Global,
     bytes: &[u8],
-    unread: &mut ExifnormJpegUnread,
+    unread: &mut ExifnormUnreadPart,
     fault: &mut ExifnormJpegFault,
 ) -> u32
     ensures known { (result ≡ status.done) ⊎ (result ≡ status.refused) ⊎ (result ≡ status.no_memory) }

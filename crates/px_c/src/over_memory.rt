@@ -22,7 +22,7 @@ use crate::pictures::{ExifnormPictureFault, TOO_LONG as JOINED_TOO_LONG, seen_fa
 use crate::statuses::{
     DONE, NO_MEMORY, NOT_READ, REFUSED, SECOND_NOT_READ, SECOND_REFUSED, TOO_LITTLE_ROOM, TOO_LONG,
 };
-use crate::unread::{ExifnormJpegUnread, seen_unread};
+use crate::unread::{ExifnormUnreadPart, seen_unread};
 use px_bytes::Memory;
 use px_engine::{BlockKind, Fault, Given, Side};
 use px_pictures::{Comparison, Fault as HeadFault, Side as PictureSide};
@@ -218,7 +218,7 @@ pub(crate) fn jpeg_same_in(
     first: &[u8],
     second: &[u8],
     same: &mut u32,
-    unread: &mut ExifnormJpegUnread,
+    unread: &mut ExifnormUnreadPart,
     fault: &mut ExifnormPictureFault,
 ) -> u32
     ensures known { (result ≡ status.done) ⊎ (result ≡ status.refused) ⊎ (result ≡ status.no_memory) ⊎ (result ≡ status.second_refused)
@@ -270,7 +270,7 @@ pub(crate) fn jpeg_same_in(
 pub(crate) fn jpeg_unread_in(
     memory: &mut Memory,
     bytes: &[u8],
-    unread: &mut ExifnormJpegUnread,
+    unread: &mut ExifnormUnreadPart,
     fault: &mut ExifnormJpegFault,
 ) -> u32
     ensures known { (result ≡ status.done) ⊎ (result ≡ status.refused) ⊎ (result ≡ status.no_memory) }

@@ -8,7 +8,7 @@ use px_pictures::Unread;
 /// `exifnorm_jpeg_same` doesn't read.
 #[repr(C)]
 #[derive(Clone, Copy, Drop)]
-pub struct ExifnormJpegUnread {
+pub struct ExifnormUnreadPart {
     /// 1 if there is such a place, otherwise 0.
     pub found: u32,
     /// 0 if it is one of the picture, 1 if it is one of the joined bytes of `exifnorm_jpeg_blocks`.
@@ -18,16 +18,16 @@ pub struct ExifnormJpegUnread {
 }
 
 // A place in C.
-pub(crate) fn seen_unread(found: Option<Unread>) -> ExifnormJpegUnread
+pub(crate) fn seen_unread(found: Option<Unread>) -> ExifnormUnreadPart
     ensures { result ≡ seen_unread found }
 {
     match found {
-        None => ExifnormJpegUnread {
+        None => ExifnormUnreadPart {
             found: 0,
             joined: 0,
             start: 0,
         },
-        Some(place) => ExifnormJpegUnread {
+        Some(place) => ExifnormUnreadPart {
             found: 1,
             joined: u32::from(place.joined),
             start: place.start,

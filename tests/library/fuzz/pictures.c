@@ -80,7 +80,7 @@ static struct picture made(int which, int is_record, unsigned copies, const unsi
 
 static struct result compared(struct picture one, struct picture two) {
     struct result it = {UNSET, UNSET, NO_FAULT};
-    struct exifnorm_jpeg_unread unread;
+    struct exifnorm_unread_part unread;
     it.status = exifnorm_jpeg_same(one.bytes, one.length, two.bytes, two.length, &it.same, &unread, &it.fault);
     return it;
 }

@@ -103,7 +103,7 @@ typedef uint32_t Text(const unsigned char *, size_t, unsigned char *, size_t, si
 typedef uint32_t Parts(const unsigned char *, size_t, struct exifnorm_jpeg_part *, size_t, size_t *, struct exifnorm_jpeg_fault *);
 typedef uint32_t Resources(const unsigned char *, size_t, struct exifnorm_photoshop_resource *, size_t, size_t *);
 typedef uint32_t Compare(const unsigned char *, size_t, const unsigned char *, size_t, uint32_t *, struct exifnorm_fault *);
-typedef uint32_t Same(const unsigned char *, size_t, const unsigned char *, size_t, uint32_t *, struct exifnorm_jpeg_unread *, struct exifnorm_picture_fault *);
+typedef uint32_t Same(const unsigned char *, size_t, const unsigned char *, size_t, uint32_t *, struct exifnorm_unread_part *, struct exifnorm_picture_fault *);
 
 static Check *right_check;
 static Text *right_normalise, *right_show, *right_captions;
@@ -486,7 +486,7 @@ uint32_t exifnorm_photoshop_resources(const unsigned char *bytes, size_t length,
     return status;
 }
 
-uint32_t exifnorm_jpeg_same(const unsigned char *first, size_t first_length, const unsigned char *second, size_t second_length, uint32_t *same, struct exifnorm_jpeg_unread *unread, struct exifnorm_picture_fault *fault) {
+uint32_t exifnorm_jpeg_same(const unsigned char *first, size_t first_length, const unsigned char *second, size_t second_length, uint32_t *same, struct exifnorm_unread_part *unread, struct exifnorm_picture_fault *fault) {
     if (is_right("jpeg_same"))
         return right_same(first, first_length, second, second_length, same, unread, fault);
     if (wrong == NONE_OF_THEM_ANSWERS)
