@@ -294,7 +294,8 @@ def module_in_c(source: Path) -> str:
     functions = functions_of(lines)
     heads = "".join(f"{head};\n" for head in re.findall(r"(?m)^(static \w+ w2c_\w+\([^;{]*\)) \{$", functions))
     stack = -(-stack_of(functions) // 16) * 16 + 16
-    about = "/* Made by packaging/c_source.py of the library's module; exifnorm.c includes it. */"
+    mark = guard.MARK if guard.MARK.encode() in one.data else ""  # a constant is written in pieces, so the mark can't be seen there
+    about = f"/* Made by packaging/c_source.py of the library's module{mark}; exifnorm.c includes it. */"
     size = f"#define STACK {stack} /* bytes that the deepest call needs */"
     return "\n".join([about, size, "", constants(one.data, other.data), heads, functions, all_calls()])
 

@@ -10,6 +10,7 @@ from pathlib import Path
 from typing import List
 
 import c_source
+import guard
 import pytest
 from machines import HERE, MACHINES, VERSION, Builds, Machine
 
@@ -107,6 +108,18 @@ def test_what_was_compiled_without_proofs_is_refused(folder: Path, monkeypatch: 
     with pytest.raises(c_source.Failed, match="ends with -unproved"):
         c_source.make(VERSION, 0, folder / "c", True)
     assert not (folder / "c").exists()
+
+
+@pytest.mark.parametrize("version, is_refused", [(b"1.0.0\0", False), (b"1.0.0-unproved\0", True)])
+def test_the_source_of_a_module_without_proofs_is_refused(
+    folder: Path, monkeypatch: pytest.MonkeyPatch, version: bytes, is_refused: bool
+) -> None:
+    """Also if the version is in two pieces of the constants, as each 80 bytes are a string of their own."""
+    module = c_source.Written(bytes(70) + version, ["static u32 w2c_f1(Z_exifnorm_instance_t* instance) {", "}"])
+    for name, result in (("compile_module", None), ("in_c", ""), ("written", module)):
+        monkeypatch.setattr(c_source, name, lambda *_, result=result: result)
+    (folder / "module.c").write_text(c_source.module_in_c(folder), encoding="ascii")
+    assert bool(guard.refused(folder / "module.c")) == is_refused
 
 
 # ---- C of a kind that isn't expected
