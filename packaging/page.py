@@ -11,6 +11,7 @@ compiled without proofs has the mark by which build/guard.py refuses it.
 from __future__ import annotations
 
 import base64
+import gzip
 import hashlib
 import json
 import re
@@ -111,7 +112,7 @@ def page(wasm: bytes) -> str:
         "SCRIPT": script,
         "WORKER": joined(),
         "TABLES": json_of(tables()),
-        "MODULE": base64.b64encode(wasm).decode(),
+        "MODULE": base64.b64encode(gzip.compress(wasm, mtime=0)).decode(),
         "MARK": guard.MARK if guard.MARK.encode() in wasm else "",
     }
     for name, text in parts.items():

@@ -13,8 +13,13 @@ const counted = (number) => number.toLocaleString("en");
 const many = (number, noun) => `${counted(number)} ${noun}${number === 1 ? "" : "s"}`;
 const listed = (words) => words.length < 2 ? words.join("") : `${words.slice(0, -1).join(", ")} and ${words.at(-1)}`;
 
+const escaped = (character) => `\\u${character.codePointAt(0).toString(16).padStart(4, "0")}`;
+
 /** A text without characters that control how it is shown, such as marks of direction. */
-const safe = (text) => text.replace(/[^\P{C}\n\t]|[\u2028\u2029]/gu, (character) => `\\u${character.codePointAt(0).toString(16).padStart(4, "0")}`);
+const safe = (text) => text.replace(/[^\P{C}\n\t]|[\u2028\u2029]/gu, escaped);
+
+/** A name or a path, in one line. */
+const safeName = (name) => safe(name).replace(/[\n\t]/g, escaped);
 
 /** An element with its class, and its children: texts or elements; what is empty is left out. */
 function element(tag, name, ...children) {
@@ -106,7 +111,8 @@ async function filesBelow(folder, inside, fileOf) {
       if (files.size > MOST_FILES) throw new Error(`It has more than ${counted(MOST_FILES)} files.`);
       if (files.size % 500 === 0) say(`Reading the folder: ${counted(files.size)} files ..`);
     } else {
-      for (const child of await inside(entry)) open.push([child, path ? `${path}/${child.name}` : child.name]);
+      const named = (await inside(entry)).filter(({ name }) => name); // Chromium has none for a name that isn't in UTF-8
+      for (const child of named) open.push([child, path ? `${path}/${child.name}` : child.name]);
     }
   }
   return files;
@@ -128,8 +134,8 @@ async function entriesIn(folder) {
 }
 
 /**
- * What was dropped as one item. On a file: address Chromium lists folders by handles alone, and these leave out names with some characters,
- * as `:`; then the folder is `isPartial`.
+ * What was dropped as one item. On a file: address Chromium lists folders by handles alone, and these leave out names that Windows doesn't
+ * allow, or with characters that can't be seen; then the folder is `isPartial`.
  */
 async function itemOf({ handle, entry, file }) {
   const root = await handle?.catch(() => null);
@@ -152,7 +158,7 @@ function choose(side, item) {
   chosen[side] = item;
   $(`slot-${side}`).classList.toggle("full", !!item);
   const invitation = ["Drop a picture or a folder here", "Drop the other one here, or both at once"][side];
-  $(`name-${side}`).textContent = !item ? invitation : safe(item.name) + (item.files ? `/ (${many(item.files.size, "file")})` : "");
+  $(`name-${side}`).textContent = !item ? invitation : safeName(item.name) + (item.files ? `/ (${many(item.files.size, "file")})` : "");
   $("anew").hidden = !chosen.some(Boolean);
 }
 
@@ -238,16 +244,18 @@ function titleOf({ verdict, sides, sameXmp }) {
 /** What the verdict means, in a sentence or two. */
 function meaningOf(look) {
   const [differing, equal] = look.counts, isPair = look.sides.length === 2, hasNone = look.sides.every(({ blocks }) => !blocks.length);
+  const fields = (count, noun = "field") => (look.isCut ? "at least " : "") + many(count, noun);
   const kinds = [...new Set(look.sides.flatMap(({ blocks }) => blocks.map(({ kind }) => KINDS[kind])))];
   if (look.verdict === "same" || look.verdict === "partly") {
     if (hasNone) return "Neither picture has Exif or IPTC that is read here, so nothing was compared.";
     const layout = look.sameBytes ? "Even their bytes are equal." : "Their bytes differ, because programs arranged them differently.";
-    return `The ${listed(kinds)} of both pictures ${kinds.length > 1 ? "mean" : "means"} the same: ${many(equal, "field")}. ${layout}`;
+    return `The ${listed(kinds)} of both pictures ${kinds.length > 1 ? "mean" : "means"} the same: ${fields(equal)}. ${layout}`;
   }
   if (look.verdict === "different") {
     const names = look.differing.slice(0, 4).map(({ name }) => name);
     if (!differing) return "The difference is behind the fields that are listed here.";
-    return `${many(differing, "field")} ${differing === 1 ? "differs" : "differ"}: ${listed(differing > 4 ? [...names, many(differing - 4, "other")] : names)}. ${many(equal, "other field")} ${equal === 1 ? "is" : "are"} equal.`;
+    const differ = `${fields(differing)} ${differing === 1 ? "differs" : "differ"}: ${listed(differing > 4 ? [...names, many(differing - 4, "other")] : names)}`;
+    return [differ, `${fields(equal, "other field")} ${equal === 1 ? "is" : "are"} equal`].map((text) => `${text[0].toUpperCase()}${text.slice(1)}.`).join(" ");
   }
   if (look.verdict === "refused") {
     const what = "A block breaks the rules, so it has no certain meaning";
@@ -255,7 +263,7 @@ function meaningOf(look) {
   }
   if (look.verdict === "valid") {
     const next = chosen[0]?.files || chosen[1] ? "" : " Choose a second picture to compare it with.";
-    return (hasNone ? "The picture has no Exif and no IPTC that is read here." : `The picture has valid ${listed(kinds)}: ${many(differing, "field")}.`) + next;
+    return (hasNone ? "The picture has no Exif and no IPTC that is read here." : `The picture has valid ${listed(kinds)}: ${fields(differing)}.`) + next;
   }
   return isPair ? "The pictures are not compared." : "";
 }
@@ -267,24 +275,31 @@ function doubts({ sides, sameXmp }, names) {
   return found.length > 0 && element("p", "", element("strong", "", "Not decided: "), found.join(" "), ...withCode(" The program `exifnorm-pictures compare` reads more."));
 }
 
-/** What this page doesn't read, of these pictures. */
-function unreadOf({ sides, sameXmp }) {
+/** Which of the pictures have XMP; empty if one isn't read. */
+function xmpOf({ sides, sameXmp }) {
   const has = sides.map(({ xmp }) => xmp > 0);
-  const both = `both pictures have it, ${sameXmp ? "with the same bytes" : "and its bytes differ"}`;
-  const xmp = !has.some(Boolean) ? "there is none" : has.length === 1 ? "the picture has it" : has.every(Boolean) ? both : `only the ${SIDES[has.indexOf(true)]} picture has it`;
-  return `Not read: XMP (${xmp}), what is inside a MakerNote, and what follows the head of a JPEG: pixels, previews, trailers.`;
+  if (sides.some(({ problem }) => problem)) return "";
+  if (!has.some(Boolean)) return " (there is none)";
+  if (!has.every(Boolean)) return ` (only the ${SIDES[has.indexOf(true)]} picture has it)`;
+  return has.length === 1 ? " (the picture has it)" : ` (both pictures have it, ${sameXmp ? "with the same bytes" : "and its bytes differ"})`;
+}
+
+/** What this page doesn't read, of these pictures. */
+function unreadOf(look) {
+  const xmp = xmpOf(look), cut = look.isCut ? " Of a block the first 20,000 fields are listed; all of them are compared." : "";
+  return `Not read: XMP${xmp}, what is inside a MakerNote, and what follows the head of a JPEG: pixels, previews, trailers.${cut}`;
 }
 
 /** Why a picture isn't read, and what helps. */
 function problemOf(name, { name: problem, cause, place, format }) {
-  const [sentence, remedy] = tables.heads[cause] ?? [];
+  const [sentence, remedy] = tables.heads[cause] ?? [], isCut = cause === "JpegCut"; // of which all was given
   const [what, help] = {
     format: [`${name} is ${format ? `of the format ${format}` : "no JPEG"}.`, "This page reads JPEG pictures only. `exifnorm-pictures` reads other formats too."],
     empty: [`${name} is empty.`, "Use another copy of the picture."],
     unreadable: [`${name} can’t be read: the browser gave no bytes of it.`, "Choose it again, or copy it to another folder first."],
     many: [`${name} has more segments than this page reads.`, "No camera writes so many: look where the file comes from."],
     long: [`The metadata of ${name} are longer than this page reads.`, "`exifnorm-pictures` has no such limit."],
-    head: [`${name} is a damaged JPEG. ${sentence} (${cause} at byte ${counted(place ?? 0)})`, remedy ?? ""],
+    head: [`${name} is a damaged JPEG. ${sentence} (${cause} at byte ${counted(place ?? 0)})`, isCut ? "The picture isn’t whole: use another copy." : remedy ?? ""],
   }[problem];
   return element("p", "", what, " ", ...withCode(help));
 }
@@ -297,6 +312,8 @@ function refusalOf(name, { kind, index, size, refusal: { cause, place, about: [s
     element("p", "small", `${cause} at byte ${counted(place)} of ${counted(size)}.`));
 }
 
+const WAYS = "The touch: ExifTool adds a field and removes it. The rebuild: ExifTool writes all fields that it knows into a new block. “4 of 6” counts real pictures with this fault.";
+
 /** The problems and refusals of both pictures. If both have the same bytes, they are refused for the same. */
 function faultsOf(look, names) {
   const isOnce = look.sides.length === 2 && look.sameBytes, faults = [];
@@ -307,8 +324,9 @@ function faultsOf(look, names) {
       faults.push(refusalOf(isOnce ? "both" : names[i], block, blocks.filter(({ kind }) => kind === block.kind).length > 1));
     }
   });
-  const left = faults.length - MOST_REFUSALS;
-  return left > 0 ? [...faults.slice(0, MOST_REFUSALS), element("p", "", `${many(left, "further refusal")}.`)] : faults;
+  const left = faults.length - MOST_REFUSALS, shown = faults.slice(0, MOST_REFUSALS);
+  const hasWays = shown.some((node) => node.className === "refusal" && /touch|rebuild|\d of \d/.test(node.textContent));
+  return [...shown, left > 0 && element("p", "", `${many(left, "further refusal")}.`), hasWays && element("p", "small", WAYS)];
 }
 
 const ENDINGS = { exif: "exif", iim: "iptc" };
@@ -327,7 +345,7 @@ function downloadsOf(look, names, files) {
     button(`${KINDS[block.kind]}${block.index ? ` ${block.index + 1}` : ""} of ${names[i]}`, () => download(files[i], block))));
   if (!buttons.length) return null;
   const about = "The one form of all blocks that mean the same, for a program or an archive. It is no picture.";
-  return element("section", "", element("h2", "", "Normal forms"), element("p", "small", about), element("div", "downloads", ...buttons));
+  return element("section", "forms", element("h2", "", "Normal forms"), element("p", "small", about), element("div", "downloads", ...buttons));
 }
 
 const ofAll = (count, rows) => count > rows.length ? ` (the first ${counted(rows.length)} of ${counted(count)})` : "";
@@ -344,8 +362,8 @@ function show(look, names, files) {
   const isOne = look.sides.length === 1, alike = !isOne && names[0] === names[1];
   const called = alike ? SIDES.map((side) => `the ${side}`) : names, heads = isOne ? ["Value"] : alike ? names.map((name, i) => `${name}, ${SIDES[i]}`) : names;
   const hasNone = look.sides.every(({ blocks }) => !blocks.length), verdict = hasNone && (look.verdict === "same" || look.verdict === "valid") ? "none" : look.verdict;
-  const main = card(verdict, SIGNS[verdict], titleOf(look), element("p", "", meaningOf(look)),
-    !isOne && look.verdict === "partly" && doubts(look, called), ...faultsOf(look, called), element("p", "small", unreadOf(look)));
+  const isUnread = look.sides.every(({ problem }) => problem), main = card(verdict, SIGNS[verdict], titleOf(look), element("p", "", meaningOf(look)),
+    !isOne && look.verdict === "partly" && doubts(look, called), ...faultsOf(look, called), !isUnread && element("p", "small", unreadOf(look)));
   const [differing, equal] = look.counts, isDifferent = look.verdict === "different";
   const cells = (row) => isOne ? [cell(row.cells[0], heads[0])] : row.cells.map((value, i) => cell(value, heads[i], true));
   const title = isOne ? "Fields" : isDifferent ? "What differs" : "Fields that could be read";
@@ -362,7 +380,7 @@ function show(look, names, files) {
 
 /** Compares two pictures, or looks at one. */
 async function pictures(files, names, isFocused = false) {
-  const mine = turn, shown = names.map(safe);
+  const mine = turn, shown = names.map(safeName);
   let look;
   say("Reading ..");
   try {
@@ -393,9 +411,11 @@ const wordOf = (row) => row.verdict === "missing" ? `only in the ${SIDES[row.sid
 
 function detailOf(row) {
   if (row.verdict === "moved") return `to ${row.to}`;
+  if (row.verdict === "different" && !row.count) return "behind the first 20,000 fields";
   if (row.verdict === "different") return `${many(row.count, "field")}: ${row.names.join(", ")}${row.count > row.names.length ? " .." : ""}`;
   const also = row.verdict === "missing" && row.candidates ? `the same Exif and IPTC as ${many(row.candidates, "picture")} only in the ${SIDES[1 - row.side]}` : "";
-  return [row.why, also, row.verdict === "partly" && !row.sameXmp ? "XMP is not read, and its bytes differ" : ""].filter(Boolean).join("; ");
+  const bytes = row.verdict === "refused" && row.sameBytes ? "both pictures have the same bytes of Exif and IPTC" : "";
+  return [row.why, bytes, also, row.verdict === "partly" && !row.sameXmp ? "XMP is not read, and its bytes differ" : ""].filter(Boolean).join("; ");
 }
 
 const nameOf = (path) => path.slice(path.lastIndexOf("/") + 1);
@@ -412,7 +432,7 @@ function pairMoved(rows) {
   }
   const arrived = new Set();
   const pair = (first, second) => {
-    Object.assign(first, { verdict: "moved", to: safe(second.path), files: [first.files[0], second.files[1]] });
+    Object.assign(first, { verdict: "moved", to: safeName(second.path), files: [first.files[0], second.files[1]] });
     arrived.add(second);
   };
   for (const [left, right] of groups.values()) {
@@ -474,30 +494,33 @@ async function folders(both) {
 const csvCell = (text) => `"${safe(text).replace(/^(?=[=+\-@\t\n＝＋－＠])|(?<=[;\t\n])(?=[=+\-@＝＋－＠])/g, "'").replaceAll('"', '""')}"`;
 
 function saveCsv(rows) {
-  const lines = [["path", "verdict", "details"], ...rows.map((row) => [row.path, wordOf(row), detailOf(row)])];
+  const lines = [["path", "verdict", "details"], ...rows.map((row) => [safeName(row.path), wordOf(row), detailOf(row)])];
   save("pictures.csv", lines.map((cells) => `${cells.map(csvCell).join(",")}\r\n`).join(""), "text/csv");
 }
 
-const PARTIAL = "this browser leaves out names with one of \" * : < > ? | when a folder is dropped. Choose the folders by their buttons to have all.";
+const PARTIAL = "when a folder is dropped, this browser leaves out names such as those with \" * : < > ? | or with characters that can’t be seen, as in some emoji. Choose the folders by their buttons to have all.";
 
-/** The card over the list: the counts, and what isn't read. */
+/** The card over the list: the counts, and what isn't read. Its title has the worst verdicts, and that pictures are not read. */
 function summaryCard(rows, counts, others, isPair, stoppedOf) {
-  const words = VERDICTS.filter((verdict) => counts[verdict]).map((verdict) => `${counted(counts[verdict])} ${LABELS[verdict]}`);
-  const isWhole = rows.length > 0 && (counts.same === rows.length || counts.valid === rows.length) && !stoppedOf;
-  const worst = VERDICTS.find((verdict) => counts[verdict]), look = isWhole ? worst : ["different", "refused"].includes(worst) ? worst : "unread";
-  const title = !rows.length ? "No pictures" : isWhole ? (isPair ? "All have the same Exif and IPTC" : "All valid") : words.slice(0, 2).join(", ");
+  const there = VERDICTS.filter((verdict) => counts[verdict]), worst = there[0], isPartial = chosen.some((item) => item?.isPartial);
+  const words = there.map((verdict) => `${counted(counts[verdict])} ${LABELS[verdict]}`);
+  const isWhole = there.length === 1 && ["same", "valid"].includes(worst) && !stoppedOf && !isPartial;
+  const look = isWhole ? worst : ["different", "refused"].includes(worst) ? worst : "unread";
+  const heads = words.filter((_, i) => i < 2 || there[i] === "unread").join(", ");
+  const title = !rows.length ? "No pictures" : isWhole ? (isPair ? "All have the same Exif and IPTC" : "All valid") : heads;
   const rest = `${words.length > 1 ? `: ${listed(words)}` : ""}${others ? `; ${many(others, "other file")} left out` : ""}.`;
+  const none = counts.unread ? "" : " (there is none)";
   const stopped = stoppedOf ? ` Stopped before the end: there are ${many(stoppedOf, "file")}.` : "", xmp = rows.filter((row) => row.xmp).length;
   return card(look, SIGNS[look], title,
     element("p", "", `${many(rows.length, "picture")}${isPair ? ", paired by path" : ""}${rest}${stopped}`),
-    chosen.some((item) => item?.isPartial) && element("p", "small", element("strong", "", "Perhaps not all: "), PARTIAL),
+    isPartial && element("p", "small", element("strong", "", "Perhaps not all: "), PARTIAL),
     counts.moved > 0 && element("p", "small", "Moved: the same Exif, IPTC and bytes of XMP are at another path. Pixels are not compared."),
-    element("p", "small", `Not read: XMP (${xmp ? `${many(xmp, "picture")} with it` : "there is none"}), other formats than JPEG, what is inside a MakerNote, and what follows the head of a JPEG.`));
+    element("p", "small", `Not read: XMP${xmp ? ` (${many(xmp, "picture")} with it)` : none}, other formats than JPEG, what is inside a MakerNote, and what follows the head of a JPEG.`));
 }
 
 /** The link of a row to the comparison of its pictures. */
 function linkOf(row) {
-  const files = row.files.filter(Boolean), name = safe(row.path);
+  const files = row.files.filter(Boolean), name = safeName(row.path);
   if (row.files.includes(null)) return name;
   return button(name, () => pictures(files, row.verdict === "moved" ? [row.path, row.to] : files.map(() => row.path), true));
 }
@@ -597,5 +620,5 @@ ask("version").then((version) => {
   $("about").textContent = about(version);
   document.body.dataset.ready = "yes";
 }, (error) => {
-  $("about").textContent = `The engine can’t start in this browser: ${error.message}. A browser of 2022 or later is needed.`;
+  $("about").textContent = `The engine can’t start in this browser: ${error.message}. A browser of 2023 or later is needed.`;
 });

@@ -11,8 +11,8 @@ import { guessed, plain } from "./values.js";
 // A head is read in steps, so that a large file costs what its head does.
 const FIRST_READ = 1 << 18, MOST_READ = 1 << 26;
 const MOST_PARTS = 100_000; // of a head
-const MOST_FIELDS = 20_000; // of a block, that are listed
-const MOST_ROWS = 3_000, MOST_NAMES = 6, MOST_CAPTIONS = 1_000; // that are sent to the page
+const MOST_FIELDS = 20_000; // of a block, that are listed; so many captions, too
+const MOST_ROWS = 3_000, MOST_NAMES = 6; // that are sent to the page
 const LONGEST = 2_000; // characters of a value
 const KINDS = ["exif", "iim"], NAMES = { exif: "Exif", iim: "IPTC" };
 const FORMATS = [
@@ -76,11 +76,16 @@ async function read(file) {
 
 // ---- fields and captions side by side
 
-/** The fields of a valid block by their places: a DataSet that is repeated is one field with several values. */
-function byPlace(block) {
+const UNREAD = { isUnread: true }; // in place of a block of a picture that isn't read
+const isValid = (block) => !!block && !block.refusal && !block.isUnread;
+
+/** The first fields of a valid block. */
+const firstFields = (block) => isValid(block) ? fieldsOf(engine.show(block.data), MOST_FIELDS) : [];
+
+/** Fields by their places: a DataSet that is repeated is one field with several values. */
+function byPlace(fields) {
   const places = new Map();
-  if (!block || block.refusal) return places;
-  for (const field of fieldsOf(engine.show(block.data), MOST_FIELDS)) {
+  for (const field of fields) {
     const place = `${field.where} ${field.key}`, group = places.get(place);
     if (group) group.push(field); else places.set(place, [field]);
   }
@@ -108,27 +113,31 @@ function apart(first, second) {
   return [one, other].map(({ raw }) => `byte ${at.toLocaleString("en")}: .. ${raw.slice(2 * start, 2 * at + 16)} ..`);
 }
 
-/** What is shown where a block has no value: nothing, or that the block is refused. */
-const absent = (block) => block?.refusal ? { text: "refused", isAbsent: true } : null;
+/** What is shown where a block has no value: nothing, or that it is refused or not read. */
+function absent(block) {
+  if (!block || isValid(block)) return null;
+  return { text: block.isUnread ? "not read" : "refused", isAbsent: true };
+}
 
-/** The rows of fields of two blocks, or of one and none. */
+/** The rows of fields of two blocks, or of one and none; and whether a block may have more fields than are listed. */
 function rowsOf(first, second, suffix) {
-  const both = [first, second].map(byPlace), groups = [...new Map([...both[0], ...both[1]])];
+  const fields = [first, second].map(firstFields), both = fields.map(byPlace), groups = [...new Map([...both[0], ...both[1]])];
   groups.sort(([, [one]], [, [other]]) => orderOf(one) - orderOf(other));
-  return groups.map(([place, [field]]) => {
+  const rows = groups.map(([place, [field]]) => {
     const [one, other] = both.map((places) => places.get(place)), cells = [one, other].map((group, i) => group ? { text: valueOf(group), exact: "" } : absent([first, second][i]));
     const isEqual = !!one && !!other && one.length === other.length && one.every((value, i) => isSame(value, other[i]));
     if (one && other && !isEqual && cells[0].text === cells[1].text) apart(one, other).forEach((text, i) => { cells[i].exact = text; });
     return { name: nameOf(tables, field) + suffix, isEqual, cells };
   });
+  return { rows, isCut: fields.some(({ length }) => length === MOST_FIELDS) };
 }
 
 /** The captions of a valid block by label, as texts. */
 function captionsOf(block) {
   const labels = new Map();
-  if (!block || block.refusal) return labels;
+  if (!isValid(block)) return labels;
   let charset = "";
-  for (const line of engine.captions(block.data).split("\n", MOST_CAPTIONS).slice(1)) {
+  for (const line of engine.captions(block.data).split("\n", MOST_FIELDS).slice(1)) {
     const colon = line.indexOf(": ");
     if (colon < 0) continue;
     const label = line.slice(0, colon), text = line.slice(colon + 2);
@@ -145,7 +154,7 @@ function captionsOf(block) {
 }
 
 function captionRows(first, second) {
-  const blocks = [first, second], both = blocks.map(captionsOf), kind = NAMES[(first ?? second).kind];
+  const blocks = [first, second], both = blocks.map(captionsOf), kind = NAMES[first?.kind ?? second?.kind];
   return [...new Set([...both[0].keys(), ...both[1].keys()])].map((label) => ({
     label: `${label} (${kind})`,
     cells: both.map((labels, i) => labels.has(label) ? { text: shortened(labels.get(label).join("; ")) } : absent(blocks[i])),
@@ -156,8 +165,8 @@ function captionRows(first, second) {
 function pairsOf(heads) {
   return KINDS.flatMap((kind) => {
     const blocks = heads.map((head) => head.blocks.filter((block) => block.kind === kind));
-    const count = Math.max(...blocks.map(({ length }) => length));
-    return Array.from({ length: count }, (_, i) => [blocks[0][i], blocks[1]?.[i], count > 1 ? ` (${i + 1})` : ""]);
+    const count = Math.max(...blocks.map(({ length }) => length)), blockOf = (side, i) => heads[side]?.problem ? UNREAD : blocks[side]?.[i];
+    return Array.from({ length: count }, (_, i) => [blockOf(0, i), blockOf(1, i), count > 1 ? ` (${i + 1})` : ""]);
   });
 }
 
@@ -205,7 +214,7 @@ function reason({ problem: why, blocks, unread }) {
     const words = { format: why.format || "no JPEG", empty: "empty", unreadable: "can't be read", many: "too many segments", long: "its head is too long" };
     return words[why.name] ?? `damaged JPEG: ${why.cause} at ${why.place}`;
   }
-  const refused = blocks.filter(({ refusal }) => refusal).map(({ kind, refusal }) => `${NAMES[kind]}: ${refusal.cause} at ${refusal.place}`);
+  const refused = blocks.filter(({ refusal }) => refusal).map(({ kind, refusal: { cause, place } }) => `${NAMES[kind]}: ${tables.causes[cause][0]} (${cause} at ${place})`);
   return [...refused, unread ? "more metadata that isn't read" : ""].filter(Boolean).join("; ");
 }
 
@@ -215,11 +224,12 @@ const CALLS = {
   /** Two pictures, or one and null: the verdict, and the fields and captions of both. */
   async look(first, second) {
     const heads = await Promise.all([first, second].filter(Boolean).map(read)), pairs = pairsOf(heads);
-    const rows = pairs.flatMap(([one, other, suffix]) => rowsOf(one, other, suffix));
+    const lists = pairs.map((words) => rowsOf(...words)), rows = lists.flatMap((list) => list.rows);
     const [differing, equal] = [false, true].map((isEqual) => rows.filter((row) => row.isEqual === isEqual));
     return {
       verdict: heads.length === 2 ? verdict(...heads) : single(heads[0]),
       differing: differing.slice(0, MOST_ROWS), equal: equal.slice(0, MOST_ROWS), counts: [differing.length, equal.length],
+      isCut: lists.some(({ isCut }) => isCut),
       captions: pairs.flatMap(([one, other]) => captionRows(one, other)),
       sameBytes: haveSameBytes(heads), sameXmp: haveSameXmp(heads),
       sides: heads.map(({ problem: why = null, blocks, xmp, unread }) => ({
@@ -233,12 +243,12 @@ const CALLS = {
   async brief(first, second) {
     const heads = await Promise.all([first, second].filter(Boolean).map(read)), isPair = heads.length === 2;
     const found = isPair ? verdict(...heads) : single(heads[0]), reasons = heads.map(reason), sides = ["first: ", "second: "];
-    const differing = found === "different" ? pairsOf(heads).flatMap(([one, other]) => rowsOf(one, other, "")).filter((row) => !row.isEqual) : [];
+    const differing = found === "different" ? pairsOf(heads).flatMap(([one, other]) => rowsOf(one, other, "").rows).filter((row) => !row.isEqual) : [];
     return {
       verdict: found, names: differing.slice(0, MOST_NAMES).map(({ name }) => name), count: differing.length,
       why: reasons[0] === reasons[1] ? reasons[0] : reasons.map((text, i) => text && (isPair ? sides[i] : "") + text).filter(Boolean).join("; "),
       isOther: heads.every(({ problem: why }) => why?.name === "format" || why?.name === "empty"),
-      xmp: heads.some(({ xmp }) => xmp.length), sameXmp: haveSameXmp(heads), identity: isPair ? "" : identity(heads[0]),
+      xmp: heads.some(({ xmp }) => xmp.length), sameXmp: haveSameXmp(heads), sameBytes: haveSameBytes(heads), identity: isPair ? "" : identity(heads[0]),
     };
   },
 
@@ -254,9 +264,15 @@ const CALLS = {
   },
 };
 
+/** The module, which the page has as gzip in base64. */
+async function unpacked() {
+  const octets = Uint8Array.from(atob(self.MODULE), (character) => character.charCodeAt(0));
+  return new Response(new Blob([octets]).stream().pipeThrough(new DecompressionStream("gzip"))).arrayBuffer();
+}
+
 self.onmessage = async ({ data: { id, call, words } }) => {
   try {
-    engine ??= await load(Uint8Array.from(atob(self.MODULE), (character) => character.charCodeAt(0)));
+    engine ??= await load(unpacked());
     tables ??= JSON.parse(self.TABLES);
     self.postMessage({ id, answer: await CALLS[call](...words) });
   } catch (error) {

@@ -6,6 +6,7 @@ import os
 import re
 import shutil
 import time
+from itertools import combinations, product
 from pathlib import Path
 from random import Random
 
@@ -14,17 +15,19 @@ import page
 import pytest
 
 import exifnorm
+import exifnorm_pictures
 import jpegs
 from changed import changed
 from commands import TOP
-from test_jpeg_same import XMP, exif, iptc, photoshop, picture, segment
+from test_jpeg_same import XMP, exif, iptc, photoshop, picture, resource, segment
+from test_plain_words import exif_block, record_block
 
 pytestmark = pytest.mark.xdist_group("page")
 SAMPLES = TOP / "samples"
 BOWL, BOWL_AFTER = (SAMPLES / side / "ceramics/2003-12-bowl.jpg" for side in ("before", "after"))
 VASE, VASE_AFTER = (SAMPLES / side / "ceramics/1998-7-vase.jpg" for side in ("before", "after"))
 REFUSED, PLAN = SAMPLES / "before/arrivals/IMG_20240502.jpg", SAMPLES / "before/prints/1931-4-plan.png"
-SEED, PAIRS, MANY = 3, 120, 5000
+SEED, PAIRS, MADE, MANY = 3, 120, 15, 5000
 MOST_MEMORY = 150 << 20  # bytes of JavaScript's heap, for two folders of MANY pictures
 ONE = bytes.fromhex("4d4d002a00000008 0001 0112 0003 00000001 00060000 00000000")
 
@@ -134,11 +137,44 @@ def test_values_that_look_alike_are_told_apart(browser, folder):
     assert rows(browser, "What differs") == [["IFD0:ExposureTime", "1/125 s10/1250", "1/125 s1/125"]]
 
 
+def differences(comparison):
+    """The rows of fields of Exif and IPTC that differ by exifnorm_pictures, as the page has them."""
+    for found in comparison.differences:
+        if not found.name.startswith("XMP"):
+            yield [found.name, *("; ".join(field.text for field in side) if side else "not there" for side in (found.before, found.after))]
+
+
+def test_pairs_of_samples_are_answered_as_by_exifnorm_pictures(browser, checks):
+    """The same fields differ, with the same words. A refused picture is compared by exifnorm_pictures after a repair, and never here."""
+    for first, second in combinations(sorted(SAMPLES.glob("*/*/*.jpg")), 2):
+        browser.ask("document.getElementById('anew').click()")
+        title, expected = compare(browser, first, second), [*differences(exifnorm_pictures.compare(first, second))]
+        if REFUSED.name in (first.name, second.name):
+            checks.equal(f"{first} {second}", title, "Refused")
+            continue
+        checks.equal(f"{first} {second}", rows(browser, "What differs"), expected)
+        checks.equal(f"{first} {second}", title == "Different", bool(expected))
+
+
+def test_made_pairs_differ_in_the_fields_that_exifnorm_pictures_has(browser, folder, checks):
+    """Their blocks have fields of each directory, tag and type."""
+    chance = Random(SEED)
+    for number in range(MADE):
+        first, second = ([exif_block(chance), record_block(chance)] for _ in range(2))
+        second = [first[0], second[1]] if number % 3 == 0 else [second[0], first[1]] if number % 3 == 1 else second
+        paths = put(folder, *(picture(exif(block), iptc(record)) for block, record in (first, second)))
+        browser.ask("document.getElementById('anew').click()")
+        checks.equal(number, compare(browser, *paths), "Different")
+        due = [name for name, *_ in differences(exifnorm_pictures.compare(*paths))]
+        checks.equal(number, [row[0] for row in rows(browser, "What differs")], due)
+
+
 def test_refused_with_its_remedy(browser):
     assert compare(browser, REFUSED, VASE) == "Refused"
     cause = page.causes.CAUSES["EmptyDirectory"]
     shown = text(browser)
     assert cause.sentence in shown and cause.remedy.replace("`", "") in shown and "EmptyDirectory at byte 442" in shown
+    assert "The touch: ExifTool" in shown, "what REFUSALS explains at its beginning"
     assert ["IFD0:Make", "refused", "NIKON CORPORATION"] in rows(browser, "Fields that could be read")
 
 
@@ -164,6 +200,10 @@ def test_pictures_that_are_not_read(browser, folder):
     for given, words in ((PLAN, "of the format PNG"), (cut, "JpegCut"), (empty, "is empty")):
         browser.ask("document.getElementById('anew').click()")
         assert compare(browser, given, VASE) == "Not read" and words in text(browser)
+        assert ["IFD0:Make", "not read", "NIKON CORPORATION"] in rows(browser, "Fields that could be read"), "nobody knows what it has"
+        assert "not there" not in text(browser) and "none" not in text(browser)
+        browser.ask("document.getElementById('anew').click()")
+        assert compare(browser, given) == "Not read" and words in text(browser) and "XMP" not in text(browser)
 
 
 def test_normal_forms(browser, folder):
@@ -194,8 +234,10 @@ def test_folders(browser, is_dropped):
         heading(browser)
         browser.choose("#folder-1", SAMPLES / "after")
         browser.wait("document.querySelector('#summary h2')?.textContent.includes('different')")
-    assert heading(browser) == "1 different, 1 refused"
+    assert heading(browser) == "1 different, 1 refused, 3 not read"
     browser.ask("document.querySelector('[data-filter=all]').click()")
+    refused = next(row for row in rows(browser, "All pictures") if row[1] == "refused")
+    assert page.causes.CAUSES["EmptyDirectory"].sentence in refused[2] and "the same bytes" in refused[2]
     assert [row[:2] for row in rows(browser, "All pictures")] == [
         ["arrivals/DSC_0042.jpg", "moved"],
         ["arrivals/IMG_20240502.jpg", "refused"],
@@ -340,7 +382,15 @@ def test_a_question_that_takes_too_long(browser):
 
 
 def test_names_are_text(browser, folder):
-    names = ["<img src=x onerror=alert(1)>.jpg", "\"'&lt;b&gt;.jpg", "`code`.jpg", "=1+1.jpg", "a\u202egpj.exe.jpg", "\x1b[31m.jpg"]
+    names = [
+        "<img src=x onerror=alert(1)>.jpg",
+        "\"'&lt;b&gt;.jpg",
+        "`code`.jpg",
+        "=1+1.jpg",
+        "a\u202egpj.exe.jpg",
+        "\x1b[31m.jpg",
+        "two\nlines.jpg",
+    ]
     for side, source in (("first", VASE), ("second", BOWL)):
         (folder / side / "<b>").mkdir(parents=True)
         for name in names:
@@ -350,7 +400,7 @@ def test_names_are_text(browser, folder):
     browser.choose("#folder-1", folder / "second")
     browser.wait("document.querySelector('#summary h2')?.textContent.includes('different')")
     assert heading(browser) == f"{len(names)} different"
-    escaped = {f"<b>/{name}".replace("\u202e", "\\u202e").replace("\x1b", "\\u001b") for name in names}
+    escaped = {f"<b>/{name}".replace("\u202e", "\\u202e").replace("\x1b", "\\u001b").replace("\n", "\\u000a") for name in names}
     assert {row[0] for row in rows(browser, "Different")} == escaped
     browser.ask("document.querySelector('.list button').click()")
     browser.wait("!document.getElementById('result').hidden")
@@ -358,13 +408,17 @@ def test_names_are_text(browser, folder):
 
 
 def test_names_that_the_browser_leaves_out(browser, folder):
-    """Chromium lists a dropped folder without them, so the page says that some may be missing."""
+    """Chromium lists a dropped folder without some names, so the page never says that all are the same, unless all of them are listed."""
+    names = [b"a:b.jpg", b"c.jpg", "family\u200d.jpg".encode(), b"~d.jpg", b"latin-\xe4.jpg"]
     for side in ("first", "second"):
         (folder / side).mkdir()
-        for name in ("a:b.jpg", "c.jpg"):
-            shutil.copyfile(BOWL, folder / side / name)
-    compare_folders(browser, folder / "first", folder / "second")
-    assert "2 pictures" in text(browser) or "Perhaps not all" in text(browser)
+        for name in names:
+            shutil.copyfile(BOWL, os.path.join(os.fsencode(folder / side), name))
+    title, shown = compare_folders(browser, folder / "first", folder / "second"), text(browser)
+    assert "c.jpg" in [row[0] for row in rows(browser, "The same")]
+    if f"{len(names)} pictures" not in shown:
+        assert not title.startswith("All") and "Perhaps not all" in shown
+    assert all(row[0] for row in rows(browser, "The same"))
 
 
 def test_values_are_text(browser, folder):
@@ -421,6 +475,63 @@ def test_a_picture_of_millions_of_parts(browser, folder):
     for octets, title in ((b"\xff\xd8" + parts + b"\xff\xd9", "Not read"), (many, "Valid")):
         browser.ask("document.getElementById('anew').click()")
         assert compare(browser, *put(folder, octets)) == title
+
+
+def many_fields(last):
+    """A picture with all 65,536 DataSets once, of which the last has a value. Its record is in several segments."""
+    names = [bytes(name) for name in product(range(256), repeat=2)]
+    record = b"".join(b"\x1c" + name + b"\0\0" for name in names[:-1]) + b"\x1c\xff\xff\0\1" + last
+    whole = resource(0x0404, record)
+    return picture(*(photoshop(whole[start : start + 60_000]) for start in range(0, len(whole), 60_000)))
+
+
+def test_a_block_with_more_fields_than_are_listed(browser, folder):
+    """The engine compares all of them, and the page says that it lists the first."""
+    first, same, second = put(folder, many_fields(b"a"), many_fields(b"a") + b"\0", many_fields(b"b"))
+    assert compare(browser, first, same) == "Same Exif and IPTC"
+    assert "at least 20,000 fields" in text(browser) and "the first 20,000 fields are listed" in text(browser)
+    browser.ask("document.getElementById('anew').click()")
+    assert compare(browser, first, second) == "Different"
+    assert "behind the fields that are listed" in text(browser) and not rows(browser, "What differs")
+    for side, path in (("first", first), ("second", second)):
+        (folder / side).mkdir()
+        path.rename(folder / side / "a.jpg")
+    browser.ask("document.getElementById('anew').click()")
+    compare_folders(browser, folder / "first", folder / "second")
+    assert rows(browser, "Different") == [["a.jpg", "different", "behind the first 20,000 fields"]]
+
+
+def test_more_differences_than_are_sent(browser, folder):
+    """The number is that of all."""
+    datasets = [bytes(name) for name in product(range(2, 20), range(256))]
+    both = [b"".join(b"\x1c" + name + b"\0\1" + value for name in datasets) for value in (b"a", b"b")]
+    assert compare(browser, *put(folder, *(picture(iptc(record)) for record in both))) == "Different"
+    assert f"{len(datasets):,} fields differ" in text(browser) and len(rows(browser, "What differs")) == 3000
+    assert f"What differs (the first 3,000 of {len(datasets):,})" in text(browser)
+
+
+def test_a_head_that_is_longer_than_is_read(browser, folder):
+    padding = segment(0xFE, bytes(65_533))
+    first, second = put(folder, picture(padding * 1030, exif(ONE)), picture(exif(ONE)))
+    assert compare(browser, first, second) == "Not read" and "longer than this page reads" in text(browser)
+
+
+def test_a_long_value_is_cut_and_so_marked(browser, folder):
+    (path,) = put(folder, picture(iptc(b"\x1c\x02\x78\x27\x10" + b"a" * 9_999 + b"b")))
+    compare(browser, path)
+    assert rows(browser, "Fields") == [["IPTC:Caption-Abstract", "a" * 2000 + " .."]]
+
+
+def test_more_files_than_are_listed(browser):
+    listing = "Array.from({ length: 600_000 }, (_, i) => ({ name: String(i), isFile: true }))"
+    said = browser.ask(f"filesBelow({{ name: 'f' }}, async () => {listing}, async () => null).then(() => '', (error) => error.message)")
+    assert "more than 500,000 files" in said
+
+
+def test_nothing_is_stored(browser):
+    compare_folders(browser, SAMPLES / "before", SAMPLES / "after")
+    stored = "indexedDB.databases().then((bases) => [bases.length, localStorage.length, sessionStorage.length, document.cookie.length])"
+    assert browser.ask(stored) == [0, 0, 0, 0]
 
 
 def test_no_request_is_allowed(browser):
@@ -536,6 +647,6 @@ def test_a_page_without_proofs_is_refused(folder, module, is_refused):
 
 
 def test_a_page_that_is_too_long_is_refused(folder, capsys):
-    (folder / "wasm").write_bytes(bytes(200_000))
+    (folder / "wasm").write_bytes(Random(SEED).randbytes(200_000))
     assert page.main([str(folder / "wasm"), str(folder / "page.html")]) == 1
     assert "more than 250000" in capsys.readouterr().err and not Path(folder, "page.html").exists()
