@@ -8,17 +8,18 @@ from __future__ import annotations
 
 import functools
 from dataclasses import dataclass
-from typing import Callable, Iterator, List, NamedTuple, Optional, Sequence, Tuple
+from typing import Callable, Dict, Iterator, List, NamedTuple, Optional, Sequence, Tuple
 
 from ..fields.folding import bare, folded
 from ..fields.labels import DATE
 from ..fields.questions import All, Any, Compared, Not, Question, With
 from ..model.problems import NOT_THERE, Problem
 from ..model.records import has
-from .store import COMPARED, PREFIX, Catalogue
+from .store import HEAD, Catalogue
 
-_HEAD = f"substr({COMPARED}, 1, {PREFIX})"  # as in the index
-_AFTER = "\U0010ffff"  # sorts after each other character
+_LONG = f"length(head) = {HEAD}"  # as an index has it
+_WHOLE = "ifnull(folded, lower(text))"  # in SQL: a text of which the head isn't all
+_LAST = "\U0010ffff"  # sorts after each other character
 
 # Files that are no pictures, or that are gone, are none of the pictures that a question is about
 _LEFT_OUT = (Problem.NO_PICTURE, *NOT_THERE)
@@ -48,59 +49,75 @@ def _condition(question: Question, is_sure: bool) -> _Part:
         return _Part(f"NOT {part.sql}", part.values)
     if isinstance(question, (All, Any)):
         return _joined("AND" if isinstance(question, All) else "OR", [_condition(it, is_sure) for it in question.questions])
-    texts = _with(question.label) if isinstance(question, With) else _compared(question)
-    found = _Part(f"p.id IN (SELECT picture FROM texts WHERE {texts.sql})", texts.values)
+    texts = [_Part("label = ?", (question.label,))] if isinstance(question, With) else _compared(question)
+    found = _Part(f"p.id IN ({' UNION ALL '.join(map(_rows, texts))})", tuple(value for part in texts for value in part.values))
     return found if is_sure else _Part(f"({found.sql} OR {_OPEN})", found.values)
 
 
-def _with(label: str) -> _Part:
-    return _Part("label = ?", (label,))
+def _rows(texts: _Part) -> str:
+    """The pictures of some texts. SQLite wouldn't take the index of long texts by itself."""
+    index = " INDEXED BY long_texts_by_label" if _LONG in texts.sql else ""
+    return f"SELECT picture FROM texts{index} WHERE {texts.sql}"
 
 
-def _compared(question: Compared) -> _Part:
-    """The texts of a comparison, as conditions that the index can answer."""
+def _compared(question: Compared) -> List[_Part]:
+    """The texts of a comparison, as conditions that the index can answer; one of them has to hold."""
     value = folded(question.value)
     if question.label == DATE and question.comparison in _DATES:
-        part = _DATES[question.comparison](value)
-        part = _joined("AND", [part, _Part(f"{_HEAD} GLOB '[0-9][0-9][0-9][0-9]*'")])
-    elif question.comparison in ("=", "has", "like"):
-        part = _WORDS[question.comparison](value)
+        parts = [part._replace(sql=f"{part.sql} AND head GLOB '[0-9][0-9][0-9][0-9]*'") for part in _DATES[question.comparison](value)]
+    elif question.comparison in _WORDS:
+        parts = _WORDS[question.comparison](value)
     else:
-        number = f"CAST({_HEAD} AS REAL) {question.comparison} ?"
-        part = _Part(f"({number} AND {_HEAD} GLOB '[-+0-9]*' AND {_HEAD} NOT GLOB '?*[^0-9.]*')", (float(value),))
-    return _Part(f"label = ? AND {part.sql}", (question.label, *part.values))
+        number = f"CAST(head AS REAL) {question.comparison} ?"
+        parts = [_Part(f"{number} AND head GLOB '[-+0-9]*' AND head NOT GLOB '?*[^0-9.]*'", (float(value),))]
+    return [_Part(f"label = ? AND {part.sql}", (question.label, *part.values)) for part in parts]
 
 
-def _equal(value: str) -> _Part:
-    return _joined("AND", [_Part(f"{_HEAD} = ?", (value[:PREFIX],)), *[_Part(f"{COMPARED} = ?", (value,))] * (len(value) >= PREFIX)])
+def _equal(value: str) -> List[_Part]:
+    if len(value) < HEAD:
+        return [_Part("head = ?", (value,))]
+    return [_Part(f"head = ? AND {_WHOLE} = ?", (value[:HEAD], value))]
 
 
-def _has(value: str) -> _Part:
-    # of a short text the index has all, and its row needn't be looked up
-    short = _Part(f"(length({_HEAD}) < {PREFIX} AND instr({_HEAD}, ?))", (value,))
-    return _joined("OR", [short, _Part(f"(length({_HEAD}) = {PREFIX} AND instr({COMPARED}, ?))", (value,))])
+def _has(value: str) -> List[_Part]:
+    return _in_all("instr({}, ?)", value)
 
 
-def _like(value: str) -> _Part:
-    pattern = "".join({"[": "[[]"}.get(character, character) for character in value)
-    return _Part(f"{COMPARED} GLOB ?", (pattern,))
+def _like(value: str) -> List[_Part]:
+    return _in_all("{} GLOB ?", value.replace("[", "[[]"))
 
 
-_WORDS: "dict[str, Callable[[str], _Part]]" = {"=": _equal, "has": _has, "like": _like}
+def _in_all(test: str, value: str) -> List[_Part]:
+    """A test of whole texts. The index has short ones, so that their rows needn't be looked up."""
+    return [
+        _Part(f"length(head) < {HEAD} AND {test.format('head')}", (value,)),
+        _Part(f"{_LONG} AND {test.format(_WHOLE)}", (value,)),
+    ]
 
 
-def _before(value: str, last: str) -> _Part:
+_WORDS: Dict[str, Callable[[str], List[_Part]]] = {"=": _equal, "has": _has, "like": _like}
+
+
+def _within(value: str) -> List[_Part]:
+    return [_Part("head >= ? AND head < ?", (value, value + _LAST))]
+
+
+def _before(value: str) -> List[_Part]:
     # a date that is known less exactly, as 1950 for 1950-03, is neither before nor after it
-    return _Part(f"({_HEAD} < ? AND substr(?, 1, length({_HEAD})) != {_HEAD})", (value + last, value))
+    return [_Part("head < ? AND substr(?, 1, length(head)) != head", (value, value))]
+
+
+def _after(value: str) -> List[_Part]:
+    return [_Part("head > ?", (value + _LAST,))]
 
 
 # Dates are compared as far as the given one goes: 1950-03-21 is in 1950, and not after it
-_DATES: "dict[str, Callable[[str], _Part]]" = {
-    "=": lambda value: _Part(f"({_HEAD} >= ? AND {_HEAD} < ?)", (value, value + _AFTER)),
-    "<": lambda value: _before(value, ""),
-    "<=": lambda value: _joined("OR", [_before(value, ""), _DATES["="](value)]),
-    ">": lambda value: _Part(f"{_HEAD} > ?", (value + _AFTER,)),
-    ">=": lambda value: _Part(f"{_HEAD} >= ?", (value,)),
+_DATES: Dict[str, Callable[[str], List[_Part]]] = {
+    "=": _within,
+    "<": _before,
+    "<=": lambda value: [*_before(value), *_within(value)],
+    ">": _after,
+    ">=": lambda value: [*_within(value), *_after(value)],
 }
 
 
@@ -185,7 +202,7 @@ class Answer:
             base.execute("DROP TABLE IF EXISTS temp.counted")
             base.execute("CREATE TEMP TABLE counted (text TEXT, pictures INTEGER, bare TEXT)")
             base.execute(
-                "INSERT INTO temp.counted SELECT text, count(DISTINCT picture), bare(text) FROM texts WHERE label = ?"
+                "INSERT INTO temp.counted SELECT text, count(*), bare(text) FROM texts WHERE label = ?"
                 f" AND picture IN (SELECT p.id FROM pictures p WHERE {self._sure.sql}) GROUP BY text",
                 (label, *self._sure.values),
             )

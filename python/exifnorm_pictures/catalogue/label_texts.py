@@ -10,20 +10,22 @@ from ..fields.listing import LONGEST_TEXT, Field, is_rest
 from ..fields.places import position_of
 from ..model.records import Block, KeptText
 from ..model.xmp_values import texts
+from .store import HEAD
 from .texts import texts_of
 
 
 def kept_text(label: str, text: str) -> KeptText:
     """A text as a catalogue keeps it.
 
-    >>> kept_text("creator", "Anna"), kept_text("creator", "Otto  Wei\u00df")
-    (KeptText(label='creator', text='Anna', folded=None), KeptText(label='creator', text='Otto  Weiß', folded='otto weiss'))
+    >>> kept_text("creator", "Otto  Wei\u00df")
+    KeptText(label='creator', text='Otto  Weiß', head='otto weiss', folded=None)
     """
     compared = folded(text)
-    return KeptText(label, text, None if text.isascii() and compared == text.lower() else compared)
+    is_derived = len(compared) < HEAD or (text.isascii() and compared == text.lower())
+    return KeptText(label, text, compared[:HEAD], None if is_derived else compared)
 
 
-MORE = KeptText("", "", None)  # in place of texts that aren't kept
+MORE = KeptText("", "", "", None)  # in place of texts that aren't kept
 _MOST_CHARACTERS = 1 << 20  # of the texts of a picture
 
 

@@ -30,8 +30,7 @@ CACHE = 32_000  # kB of a catalogue that is written to: digests go into its inde
 PATIENCE = 200  # milliseconds that closing waits for other programs; while they read, the write-ahead log stays
 WAIT = 10  # seconds for other processes that set the journal's mode
 
-COMPARED = "ifnull(folded, lower(text))"  # in SQL: a text as questions compare it
-PREFIX = 40  # characters of it in the index
+HEAD = 40  # characters of a text that its index has
 
 _TABLES = f"""
 CREATE TABLE runs (
@@ -61,10 +60,12 @@ CREATE TABLE texts (
     number INTEGER NOT NULL,
     label TEXT NOT NULL,            -- a label of captions; position, serial or owner
     text TEXT NOT NULL,             -- a text of the picture; those that cameras write by themselves are left out
-    folded TEXT,                    -- the same as it is compared: in small letters, composed, with single spaces; NULL: it is lower(text)
+    head TEXT NOT NULL,             -- the first {HEAD} characters of the text in small letters, composed, with single spaces
+    folded TEXT,                    -- all of a longer text so; NULL: it is lower(text)
     PRIMARY KEY (picture, number)
 ) WITHOUT ROWID;
-CREATE INDEX texts_by_label ON texts (label, substr({COMPARED}, 1, {PREFIX}));
+CREATE INDEX texts_by_label ON texts (label, head);
+CREATE INDEX long_texts_by_label ON texts (label) WHERE length(head) = {HEAD};
 CREATE INDEX pictures_by_content ON pictures (exif, iptc, xmp, not_read) WHERE problem IS NULL;
 CREATE INDEX pictures_by_coded_picture ON pictures (coded_picture) WHERE coded_picture != '';
 CREATE INDEX pictures_by_other_exif ON pictures (other_exif) WHERE other_exif != '';
@@ -82,7 +83,7 @@ _ADD_ROWS = (
     f"INSERT INTO main.blocks (picture, number, {BLOCK_COLUMNS}) SELECT picture + :pictures, number, {BLOCK_COLUMNS} FROM {{other}}.blocks",
     "INSERT INTO main.not_read SELECT picture + :pictures, number, what, digest FROM {other}.not_read",
     "INSERT INTO main.maker_notes SELECT picture + :pictures, readings FROM {other}.maker_notes",
-    "INSERT INTO main.texts SELECT picture + :pictures, number, label, text, folded FROM {other}.texts",
+    "INSERT INTO main.texts SELECT picture + :pictures, number, label, text, head, folded FROM {other}.texts",
 )
 # The same tables without keys, for rows that are only written and read once
 _ROWS = (
@@ -90,7 +91,7 @@ _ROWS = (
     f"CREATE TABLE blocks (picture, number, {BLOCK_COLUMNS})",
     "CREATE TABLE not_read (picture, number, what, digest)",
     "CREATE TABLE maker_notes (picture, readings)",
-    "CREATE TABLE texts (picture, number, label, text, folded)",
+    "CREATE TABLE texts (picture, number, label, text, head, folded)",
 )
 
 # when it began and ended, the library's version, ExifTool's, exiv2's
@@ -563,7 +564,7 @@ def put_rows(base: sqlite3.Connection, run: int, first: int, entries: Iterable[P
     parts = [(number, at, part.what, part.digest) for number, it in numbered for at, part in enumerate(it.unread)]
     base.executemany("INSERT INTO not_read VALUES (?, ?, ?, ?)", parts)
     texts = [(number, at, *row) for number, it in numbered for at, row in enumerate(it.texts)]
-    base.executemany("INSERT INTO texts VALUES (?, ?, ?, ?, ?)", texts)
+    base.executemany("INSERT INTO texts VALUES (?, ?, ?, ?, ?, ?)", texts)
 
 
 def root_of_row(row: Tuple[bytes]) -> bytes:

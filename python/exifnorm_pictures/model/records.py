@@ -124,7 +124,8 @@ class KeptText(NamedTuple):
 
     label: str  # empty: some texts are too many or too long to be kept
     text: str
-    folded: Optional[str]  # in small letters, composed, with single spaces; None: SQLite's `lower`, which knows ASCII alone, gives it
+    head: str  # its beginning in small letters, composed, with single spaces
+    folded: Optional[str]  # all of it so; None: `head` is all, or SQLite's `lower`, which knows ASCII alone, gives it
 
 
 class Picture(NamedTuple):

@@ -18,6 +18,7 @@ CREATE TABLE blocks (
     fields BLOB,                    -- its fields: JSON, compressed by zlib if it is long; of a refused block, those after repair
     PRIMARY KEY (picture, number)
 ) WITHOUT ROWID;
+CREATE INDEX long_texts_by_label ON texts (label) WHERE length(head) = 40;
 CREATE TABLE maker_notes (
     picture INTEGER PRIMARY KEY REFERENCES pictures(id) ON DELETE CASCADE,
     readings BLOB NOT NULL          -- what ExifTool reads of its MakerNotes: JSON, compressed by zlib
@@ -78,7 +79,8 @@ CREATE TABLE texts (
     number INTEGER NOT NULL,
     label TEXT NOT NULL,            -- a label of captions; position, serial or owner
     text TEXT NOT NULL,             -- a text of the picture; those that cameras write by themselves are left out
-    folded TEXT,                    -- the same as it is compared: in small letters, composed, with single spaces; NULL: it is lower(text)
+    head TEXT NOT NULL,             -- the first 40 characters of the text in small letters, composed, with single spaces
+    folded TEXT,                    -- all of a longer text so; NULL: it is lower(text)
     PRIMARY KEY (picture, number)
 ) WITHOUT ROWID;
-CREATE INDEX texts_by_label ON texts (label, substr(ifnull(folded, lower(text)), 1, 40));
+CREATE INDEX texts_by_label ON texts (label, head);
