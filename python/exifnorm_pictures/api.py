@@ -26,8 +26,8 @@ from .model.budgets import Budget, TooMuch
 from .model.found import NAMES, Blocks
 from .model.problems import Problem
 from .model.records import WORDS, Block as Judged, Picture as Record, Stamp, is_marked_as
+from .model.results import Result
 from .model.texts import described
-from .model.verdicts import ACCEPTED, SAME
 
 Value = typed.Value
 PathLike = Union[str, bytes, "os.PathLike[str]", "os.PathLike[bytes]"]
@@ -211,7 +211,7 @@ class Block:
     @property
     def is_accepted(self) -> bool:
         """Whether it has a meaning."""
-        return self._judged.status == ACCEPTED
+        return self._judged.is_accepted
 
     @property
     def digest(self) -> Optional[str]:
@@ -333,7 +333,7 @@ class Picture:
     @property
     def is_whole(self) -> bool:
         """Whether every block is accepted and every part was read."""
-        return not self._reading.read.not_read and all(it.status == ACCEPTED for it in self._reading.blocks)
+        return not self._reading.read.not_read and all(it.is_accepted for it in self._reading.blocks)
 
     @property
     def key(self) -> Optional[str]:
@@ -591,18 +591,19 @@ def compare(before: Union[Picture, Source], after: Union[Picture, Source], *, as
     the file is as it was, and of one from bytes or from a file object only its metadata. With `ask_exiftool` ExifTool compares the values of
     MakerNotes that have moved, if both are files.
     """
-    from .comparison import changed, coded, two_pictures  # which not every program needs
+    from .comparison import two_pictures  # which not every program needs
+    from .comparison.coded import Coded
 
     first, second = (it if isinstance(it, Picture) else _read(it, False, compares=True) for it in (before, after))
     records = first._whole_record(), second._whole_record()
     heads = first._whole and first._whole.head, second._whole and second._whole.head
     with Session() as session:
         comparison = two_pictures.compare(*records, session if ask_exiftool and first._path and second._path else None, heads=heads)
-    compared = comparison.found
+    compared, proved = comparison.found, comparison.proved and str(comparison.proved)
     if comparison.is_identical:
-        return Comparison(True, SAME, "the two files are identical, byte for byte", (), coded.SAME, comparison.proved)
+        return Comparison(True, str(Result.SAME), "the two files are identical, byte for byte", (), str(Coded.SAME), proved)
     differences = tuple(map(_difference, compared.changes))
-    return Comparison(changed.decided(compared.result), compared.result, compared.note, differences, compared.picture, comparison.proved)
+    return Comparison(compared.result.decided, str(compared.result), compared.note, differences, str(compared.picture), proved)
 
 
 def _difference(change: differing.Difference) -> Difference:

@@ -9,8 +9,8 @@ import re
 from collections import Counter
 
 import pytest
-from exifnorm_pictures.comparison.changed import DIFFERENCES
 from exifnorm_pictures.fields.labels import fields_by_label
+from exifnorm_pictures.model.results import Result
 from studio import SMALL_JPEG, needs, put, tool
 
 FIRST = ("EXIF:Artist=Anna", "EXIF:Copyright=Museum", "IPTC:Keywords=clay", "IPTC:By-line=Anna", "XMP-dc:Title=Vase", "GPS:GPSLatitude=1")
@@ -91,7 +91,10 @@ def test_five_forms(folder, called, seed):
         assert found, lines[0]
         many = {"all": 7, "none": 0}.get(found[1]) if not found[1].isdigit() else int(found[1])
         counts = objects[-1]["counts"]
-        assert sum(counts.get(it, 0) for it in DIFFERENCES) == many == len({it["picture"] for it in rows if it["picture"]}), (lines, counts)
+        assert sum(counts.get(it, 0) for it in Result if it.has_changed) == many == len({it["picture"] for it in rows if it["picture"]}), (
+            lines,
+            counts,
+        )
         totals = next(it for it in each if re.match(r"\d+ (the )?\w", it) and "pictures:" not in it)
         assert {word: int(number) for number, word in re.findall(r"(\d+) ([a-z][a-z ]*?)(?:, (?=\d)|$)", totals)} == counts, (
             totals,
@@ -105,4 +108,4 @@ def test_five_forms(folder, called, seed):
         # a copy of the folder has other names, so the report gets the names of one folder
         page = called("report", "--catalogue", "a", "--since", "b", "--json", "--no-look", *words)[1]
         results = Counter(next(it for it in map(json.loads, page.splitlines()) if "results" in it)["results"])
-        assert sum(results[it] for it in DIFFERENCES if results[it]) == many, (results, many)
+        assert sum(results[it] for it in Result if it.has_changed and results[it]) == many, (results, many)

@@ -27,6 +27,8 @@ from exifnorm_pictures.files.session import Session
 from exifnorm_pictures.model import verdicts
 from exifnorm_pictures.model.budgets import Budget
 from exifnorm_pictures.model.found import EXIF, IPTC, Blocks, Broken
+from exifnorm_pictures.model.results import Result
+from exifnorm_pictures.model.sides import side_of
 from exifnorm_pictures.scan import looking
 from exifnorm_pictures.scan.batches import How
 from exifnorm_pictures.scan.walk import FoundFile
@@ -203,17 +205,17 @@ def test_pictures_are_the_same_exactly_if_the_library_says_so(folder):
         path = folder / f"{number}.jpg"
         path.write_bytes(jpeg(*pieces))
         judged = judge.judge_all(extraction.blocks_of(os.fsencode(path)))
-        sides.append((path.read_bytes(), {kind: verdicts.side(kind, judged) for kind in verdicts.NAMES}))
+        sides.append((path.read_bytes(), {kind: side_of([it for it in judged if it.kind == kind]) for kind in (EXIF, IPTC)}))
     met = set()
     for (one, first), (other, second) in itertools.product(sides, repeat=2):
         found = {it.result for it in verdicts.verdicts(first, second, (EXIF, IPTC))}
         try:
             expected = exifnorm.jpeg_same(one, other)
         except exifnorm.PictureRefused:
-            assert found - {verdicts.ABSENT, verdicts.SAME, verdicts.DIFFERENT}, "a block is refused"
+            assert found - {Result.ABSENT, Result.SAME, Result.DIFFERENT}, "a block is refused"
             expected = None
         else:
-            assert verdicts.DIFFERENT in found if expected is False else found <= {verdicts.ABSENT, verdicts.SAME}
+            assert Result.DIFFERENT in found if expected is False else found <= {Result.ABSENT, Result.SAME}
             expected = expected if isinstance(expected, bool) else "not all read"
         met.add(expected)
     assert met == {True, False, None, "not all read"}

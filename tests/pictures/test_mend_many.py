@@ -11,7 +11,6 @@ from test_repairs import REFUSED
 
 from exifnorm_pictures.extract.extraction import blocks_of
 from exifnorm_pictures.judge.judge import judge_all
-from exifnorm_pictures.model.verdicts import ACCEPTED
 
 PICTURES = {
     "one/unsorted.jpg": jpeg(app1(REFUSED["unsorted"])),
@@ -37,7 +36,7 @@ def copies(folder):
     found = sorted(os.path.relpath(os.path.join(at, name), folder) for at, _, names in os.walk(folder) for name in names)
     for name in found:
         blocks = blocks_of(os.fsencode(folder / name))
-        assert all(it.status == ACCEPTED for it in judge_all(blocks)), name
+        assert all(it.is_accepted for it in judge_all(blocks)), name
     return found
 
 

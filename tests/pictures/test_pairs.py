@@ -23,13 +23,14 @@ def sides(path, whole=False):
     """The meaning of a picture for each kind, and its unread parts."""
     from exifnorm_pictures.extract import extraction
     from exifnorm_pictures.judge import judge
-    from exifnorm_pictures.model import verdicts
+    from exifnorm_pictures.model.found import NAMES
+    from exifnorm_pictures.model.sides import side_of
 
     with _ASKED:
         blocks = extraction.blocks_of(os.fsencode(path), whole)
     assert not blocks.problem, (blocks.problem, blocks.detail)
     judged = judge.judge_all(blocks)
-    return {kind: verdicts.side(kind, judged) for kind in verdicts.NAMES}, blocks.not_read
+    return {kind: side_of([it for it in judged if it.kind == kind]) for kind in NAMES}, blocks.not_read
 
 
 class Pairs(WithPictures):
@@ -40,7 +41,7 @@ class Pairs(WithPictures):
         write(self.path(f"other.{name}"), other)
         first, second = sides(self.path(f"one.{name}"), whole), sides(self.path(f"other.{name}"), whole)
         found = verdicts.verdicts(first[0], second[0])
-        return verdicts.result(found, verdicts.left_open(first[1], second[1])), verdicts.sentence(
+        return verdicts.result_of(found, verdicts.left_open(first[1], second[1])), verdicts.sentence(
             found, verdicts.left_open(first[1], second[1])
         )
 

@@ -18,10 +18,11 @@ from exifnorm_pictures.comparison import differing
 from exifnorm_pictures.extract import exiftool, programs
 from exifnorm_pictures.fields import listing, xmp_properties
 from exifnorm_pictures.files import session
-from exifnorm_pictures.model import records, texts, verdicts
+from exifnorm_pictures.model import records, sides, texts, verdicts
 from exifnorm_pictures.model.found import Blocks, NotRead
 from exifnorm_pictures.model.records import Picture, Stamp
-from exifnorm_pictures.model.verdicts import Side, Verdict
+from exifnorm_pictures.model.sides import Side
+from exifnorm_pictures.model.verdicts import Verdict
 from exifnorm_pictures.report import thumbnails
 from exifnorm_pictures.scan import batches, moved, walk, workers
 from exifnorm_pictures.scan.walk import FoundFile
@@ -208,22 +209,21 @@ class Results(unittest.TestCase):
             ([same, refused_same, unreadable_same], (), "refused, the same bytes"),
             ([same, unreadable_same], (), "unreadable, the same bytes"),
         ):
-            self.assertEqual(verdicts.result(found, parts), word)
+            self.assertEqual(verdicts.result_of(found, parts), word)
 
     def test_sides(self):
         def block(name, status="accepted", text="d", octets="o", kind="exif"):
             return SimpleNamespace(kind=kind, name=name, status=status, digest=text, octets=octets, meaning=text)
 
-        self.assertEqual(verdicts.side_of([]), Side("absent", "", ""))
-        self.assertEqual(verdicts.side_of([block("Exif")]), Side("accepted", "d", "o"))
-        self.assertEqual(verdicts.side_of([block("second Exif")]).digest, hashlib.sha256(b"second Exif: d").hexdigest(), "its name counts")
-        self.assertEqual(verdicts.side_of([block("Exif", "refused", None)]), Side("refused", "", "o"))
-        self.assertEqual(verdicts.side_of([block("XMP", "too long", None, kind="xmp")]), Side("unreadable", "", "o"))
+        self.assertEqual(sides.side_of([]), Side("absent", "", ""))
+        self.assertEqual(sides.side_of([block("Exif")]), Side("accepted", "d", "o"))
+        self.assertEqual(sides.side_of([block("second Exif")]).digest, hashlib.sha256(b"second Exif: d").hexdigest(), "its name counts")
+        self.assertEqual(sides.side_of([block("Exif", "refused", None)]), Side("refused", "", "o"))
+        self.assertEqual(sides.side_of([block("XMP", "too long", None, kind="xmp")]), Side("unreadable", "", "o"))
         both = [block("Exif"), block("second Exif", text="e", octets="p")]
         octets = hashlib.sha256(b"Exif: o\nsecond Exif: p").hexdigest()
-        self.assertEqual(verdicts.side_of(both), Side("accepted", hashlib.sha256(b"Exif: d\nsecond Exif: e").hexdigest(), octets))
-        self.assertEqual(verdicts.side_of([both[0], block("second Exif", "failed", None, "p")]), Side("refused", "", octets))
-        self.assertEqual(verdicts.side("xmp", [*both, block("XMP", kind="xmp", text="x", octets="y")]), Side("accepted", "x", "y"))
+        self.assertEqual(sides.side_of(both), Side("accepted", hashlib.sha256(b"Exif: d\nsecond Exif: e").hexdigest(), octets))
+        self.assertEqual(sides.side_of([both[0], block("second Exif", "failed", None, "p")]), Side("refused", "", octets))
 
     def test_parts(self):
         known, other, unknown = NotRead("b", "1"), NotRead("a", "2"), NotRead("c", "")

@@ -18,9 +18,10 @@ from studio import SMALL_JPEG, needs, tool
 
 from exifnorm_pictures.cli import summary as page
 from exifnorm_pictures.comparison import summary
-from exifnorm_pictures.comparison.changed import RESULTS, Compared
+from exifnorm_pictures.comparison.changed import Compared
 from exifnorm_pictures.comparison.differing import differences
 from exifnorm_pictures.comparison.wording import apart
+from exifnorm_pictures.model.results import Result
 
 
 @pytest.fixture
@@ -122,7 +123,7 @@ def one(where, key, kind, *values):
     return [field(where, key, kind, len(it), it) for it in values]
 
 
-def counted(*pictures, result="different", part=""):
+def counted(*pictures, result=Result.DIFFERENT, part=""):
     """The rows of the summary of pictures with these fields before and after."""
     found, counts = summary.Summary(), Counter()
     for number, (before, after) in enumerate(pictures):
@@ -185,10 +186,12 @@ def test_values_that_differ_beyond_what_is_shown_are_counted_apart():
     texts = [f'"{"x" * 100}{ending}"' for ending in "ab"]
     digests = [f"0x0011.. sha256:{digit * 32}" for digit in "12"]
     for kind, key, values in (("ASCII", "013b", texts), ("UNDEFINED", "9286", digests)):
-        found, counts = summary.Summary(), Counter(different=2)
+        found, counts = summary.Summary(), Counter({Result.DIFFERENT: 2})
         for value in values:
             found.add(
-                Compared(b"p", "different", changes=differences([], [*one("main", key, kind, value), *one("main", "0112", "SHORT", "1")]))
+                Compared(
+                    b"p", Result.DIFFERENT, changes=differences([], [*one("main", key, kind, value), *one("main", "0112", "SHORT", "1")])
+                )
             )
         lines = [it for it in page.lines(found, counts) if " -> " in it and "Orientation" not in it]
         assert [it.rsplit("  ", 1)[1] for it in lines] == ["1 picture, which had none"] * 2, lines
@@ -219,8 +222,8 @@ def test_maker_notes_have_one_line_for_all_numbers_of_values(note):
     found = summary.Summary()
     (change,) = differences(one("exif", "927c", "UNDEFINED", "0x01"), one("exif", "927c", "UNDEFINED", "0x02"))
     for said in (note, "now reads otherwise: 2 values"):
-        found.add(Compared(b"p", "different", changes=[change._replace(note=said)]))
-    assert rows(page.lines(found, Counter(different=2))) == {"ExifIFD:MakerNote: now reads otherwise": (2, "")}
+        found.add(Compared(b"p", Result.DIFFERENT, changes=[change._replace(note=said)]))
+    assert rows(page.lines(found, Counter({Result.DIFFERENT: 2}))) == {"ExifIFD:MakerNote: now reads otherwise": (2, "")}
 
 
 # Limits
@@ -234,16 +237,16 @@ def everything(number):
 def test_no_page_is_longer_than_30_lines_by_its_fields(folder):
     """However many fields, blocks and results there are; each result has one line."""
     found, counts = summary.Summary(), Counter()
-    for number, result in enumerate(RESULTS * 3):
+    for number, result in enumerate([*Result] * 3):
         changes = [
             it._replace(part=f"page {number}" if number % 2 else "") for it in differences(everything(number), everything(number + 1))
         ]
         found.add(Compared(b"%d" % number, result, changes=changes))
         counts[result] += 1
-    assert len(list(page.lines(found, counts))) <= len(RESULTS) + 22
-    found, counts = summary.Summary(), Counter(different=30)
+    assert len(list(page.lines(found, counts))) <= len(Result) + 22
+    found, counts = summary.Summary(), Counter({Result.DIFFERENT: 30})
     for number in range(30):
-        found.add(Compared(b"p", "different", changes=differences(everything(number), everything(number + 1))))
+        found.add(Compared(b"p", Result.DIFFERENT, changes=differences(everything(number), everything(number + 1))))
     lines = list(page.lines(found, counts))
     assert 20 <= len(lines) <= page.LINES
     assert sum(int(it.replace(",", "")) for line in lines for it in re.findall(r"(\d[\d,]*) (?:changed or added|removed) ", line)) > 900
@@ -253,14 +256,14 @@ def test_memory_has_a_limit():
     found = summary.Summary()
     for number in range(2000):
         changes = differences([], [field("xmp", f"x:{number}{'y' * 10_000}", "text", 1, f'"{"z" * 10_000}"')])
-        found.add(Compared(b"p", "different", changes=[it._replace(part=f"page {number}" if number % 2 else "") for it in changes]))
+        found.add(Compared(b"p", Result.DIFFERENT, changes=[it._replace(part=f"page {number}" if number % 2 else "") for it in changes]))
         both = [one("xmp", "dc:title", "text", f'"{it}"') for it in (number, number + 1)]
-        found.add(Compared(b"p", "different", changes=differences(*both)))
+        found.add(Compared(b"p", Result.DIFFERENT, changes=differences(*both)))
     kept = [*found._fields.values(), *(it for part in found.parts.values() for it in part.fields.values())]
     assert len(kept) <= summary.FIELDS and len(found.parts) <= summary.PARTS
     assert max(len(it.values) for it in kept) <= summary.VALUES
     assert max(len(value.first.text) for it in kept for value in it.values.values()) < 200 and max(len(it.name) for it in kept) < 200
-    lines = list(page.lines(found, Counter(different=4000)))
+    lines = list(page.lines(found, Counter({Result.DIFFERENT: 4000})))
     assert any("more than 50 different values" in it and " 2,000 pictures" in it for it in lines)
     assert any(it.strip() == "Further fields aren't counted." for it in lines)
 
@@ -353,7 +356,7 @@ def test_labelled_fields_are_counted_beyond_the_limit():
     """Of a hostile picture with thousands of fields, too."""
     found = summary.Summary()
     changes = [it for number in range(2000) for it in differences([], [TITLE._replace(key=f"x:f{number}")])]
-    found.add(Compared(b"p", "different", changes=[*changes, *differences([COPYRIGHT], [])]))
+    found.add(Compared(b"p", Result.DIFFERENT, changes=[*changes, *differences([COPYRIGHT], [])]))
     names = [it.name for it in found.fields()]
     assert names[0] == "IFD0:Copyright" and len(names) <= summary.FIELDS + 100
 

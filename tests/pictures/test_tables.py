@@ -25,6 +25,7 @@ from exifnorm_pictures.fields.packing import packed
 from exifnorm_pictures.files.session import Session
 from exifnorm_pictures.model.found import EXIF, IPTC, NAMES, XMP, NotRead
 from exifnorm_pictures.model.records import PICTURES, Block, Picture, Stamp
+from exifnorm_pictures.model.results import Result
 from exifnorm_pictures.report import contents
 from exifnorm_pictures.scan import looking
 
@@ -472,6 +473,8 @@ class Reported(WithPictures):
         """All of it, and the objects of --json, in golden/report-*.txt."""
         found = contents.gather(self.about)
         members = {**vars(found), "problems": [it.path for it in found.problems]}
+        for name in ("results", "coded"):
+            members[name] = Counter({str(word): count for word, count in members[name].items()})
         self.golden("report-gathered.txt", "".join(f"{name}: {pprint.pformat(it, width=140)}\n" for name, it in members.items()))
         self.golden("report-objects.txt", "".join(json.dumps(it) + "\n" for it in contents.members(self.about)))
 
@@ -779,9 +782,9 @@ class Statuses(unittest.TestCase):
             "other picture": 1,
             "damaged": 1,
         }
-        self.assertEqual(set(expected), set(changed.RESULTS))
+        self.assertEqual({*expected, "absent", "left out"}, set(Result))  # which only a kind of block has
         for one, status in expected.items():
-            self.assertEqual(status_of(Counter([one])), status, one)
+            self.assertEqual(status_of(Counter([Result(one)])), status, one)
             for other in expected:
-                self.assertEqual(status_of(Counter([one, other, "same"])), max(status, expected[other]), (one, other))
+                self.assertEqual(status_of(Counter([Result(one), Result(other), Result.SAME])), max(status, expected[other]), (one, other))
         self.assertEqual(status_of(Counter()), 0)

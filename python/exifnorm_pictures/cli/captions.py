@@ -6,7 +6,7 @@ import argparse
 import os
 from typing import Iterator, List
 
-from ..comparison.conflicts import ALIKE, best, conflicts, own_texts
+from ..comparison.conflicts import best, conflicts, own_texts
 from ..fields.labels import WORDS, LabelText
 from ..judge.reading import Reading
 from ..model.found import each_kind
@@ -58,7 +58,7 @@ def _lines(reading: Reading) -> Iterator[str]:
     known = {one.label: one for one in conflicts(reading.texts)}
     for word in WORDS:
         conflict = known.get(word)
-        mark = f"   <- {conflict.detail or 'they differ'}" if conflict and conflict.kind != ALIKE else ""
+        mark = f"   <- {conflict.detail or 'they differ'}" if conflict and not conflict.is_alike else ""
         for ours in together([one for one in reading.texts if one.label == word]):
             is_compared = not all(one.is_extra or one.block for one in ours)
             note = f"   <- {_OWN}" if any(one.is_own for one in ours) else mark if is_compared else ""

@@ -13,7 +13,8 @@ from collections import Counter
 from typing import Callable, Iterable, Iterator, List
 
 from ..catalogue.store import Catalogue, NoCatalogue
-from ..comparison import changed as changes, coded
+from ..comparison import changed as changes
+from ..comparison.coded import Coded, sentence
 from ..comparison.summary import Summary
 from ..comparison.wording import NONE, line_of
 from ..fields.choosing import Choice
@@ -22,6 +23,7 @@ from ..fields.listing import MAKER_NOTE
 from ..fields.plain_names import group_name
 from ..files import signals
 from ..model.errors import WrongUse
+from ..model.results import Result
 from ..model.texts import shown_path
 from . import changed_tables
 from .choice import choice_of, listings_of, note_absent, refuse_unknown
@@ -43,8 +45,8 @@ def run(arguments: argparse.Namespace) -> int:
     _refuse_for_catalogues(arguments)
     names = from_list(arguments)
     only = None if names is None else {*names, *(os.path.abspath(it) for it in names)}
-    counts: "Counter[str]" = Counter()
-    pictures: "Counter[str]" = Counter()  # by what is known of the coded ones
+    counts: "Counter[Result]" = Counter()
+    pictures: "Counter[Coded]" = Counter()  # by what is known of the coded ones
     notes = _Notes(arguments, pictures)
     with contextlib.ExitStack() as open_:
         _go_on_with_sidecars(arguments)
@@ -55,7 +57,7 @@ def run(arguments: argparse.Namespace) -> int:
             before, after, counts, only, arguments.all, None if arguments.no_exiftool else arguments.session, choice, pictures
         )
         comparisons = _then_noted(comparisons, choice, before, after)
-        listed = (it for it in comparisons if it.result not in changes.UNCHANGED or arguments.all)
+        listed = (it for it in comparisons if it.result.has_changed is not False or arguments.all)
         if arguments.csv:
             changed_tables.print_table(arguments, listed, choice)
             for text in notes.of_pictures():
@@ -84,7 +86,7 @@ def _then_noted(comparisons: Found, choice: Choice, before: Catalogue, after: Ca
 class _Notes:
     """What was compared of the coded pictures, once all are compared."""
 
-    def __init__(self, arguments: argparse.Namespace, counts: "Counter[str]") -> None:
+    def __init__(self, arguments: argparse.Namespace, counts: "Counter[Coded]") -> None:
         folders = sum(map(os.path.isdir, (arguments.before, arguments.after)))
         self.pixels = ("index --pixels", "index --pixels, and --pixels here,", "--pixels")[folders]
         self.is_asked = not (arguments.only or arguments.only_file)  # the words of --only are all that is asked
@@ -92,21 +94,21 @@ class _Notes:
 
     def of_pictures(self) -> List[str]:
         """A sentence, if there are pictures on both sides."""
-        return list(filter(None, [coded.sentence(self.counts, self.pixels)])) if self.is_asked else []
+        return list(filter(None, [sentence(self.counts, self.pixels)])) if self.is_asked else []
 
 
-def _print_each(arguments: argparse.Namespace, comparisons: Found, counts: "Counter[str]", choice: Choice, notes: _Notes) -> None:
+def _print_each(arguments: argparse.Namespace, comparisons: Found, counts: "Counter[Result]", choice: Choice, notes: _Notes) -> None:
     """Each picture with its fields."""
     with contextlib.closing(changes.Equal()) as equal:
         for comparison in comparisons:
             equal.add(json.dumps(_parts_of(comparison, arguments.exact)), comparison.name, comparison.moved_to is not None)
         _print_equal(equal)
-    print_line(", ".join(f"{counts[it]} {it}" for it in changes.RESULTS if counts[it]) or "no picture")
+    print_line(", ".join(f"{counts[it]} {it}" for it in Result if counts[it]) or "no picture")
     for text in [*notes.of_pictures(), *lines_of_choice(choice, True)]:
         print_line(text)
 
 
-def _print_summary(comparisons: Found, counts: "Counter[str]", choice: Choice, notes: _Notes) -> None:
+def _print_summary(comparisons: Found, counts: "Counter[Result]", choice: Choice, notes: _Notes) -> None:
     counted = Summary(choice)
     for comparison in comparisons:
         counted.add(comparison)
@@ -115,11 +117,11 @@ def _print_summary(comparisons: Found, counts: "Counter[str]", choice: Choice, n
         print_line(text)
 
 
-def status_of(counts: "Counter[str]") -> int:
+def status_of(counts: "Counter[Result]") -> int:
     """The greatest status of some results."""
-    if any(counts[it] for it in changes.OPEN):
+    if any(it.is_open for it in counts):
         return UNKNOWN
-    return DIFFERENCE if any(counts[it] for it in changes.DIFFERENCES) else SUCCESS
+    return DIFFERENCE if any(it.has_changed for it in counts) else SUCCESS
 
 
 def _knows(*sides: Catalogue) -> Callable[[bytes], bool]:

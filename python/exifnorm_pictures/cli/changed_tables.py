@@ -7,6 +7,7 @@ from collections import Counter
 from typing import Iterable, Optional, Sequence, Tuple
 
 from ..comparison.changed import Compared
+from ..comparison.coded import Coded
 from ..comparison.differing import Difference, exact
 from ..comparison.wording import plain_sides
 from ..fields.choosing import Choice
@@ -15,6 +16,7 @@ from ..fields.listing import MAKER_NOTE, Field
 from ..fields.plain_names import exact_key, group_name
 from ..fields.typed import together
 from ..model.records import WORDS
+from ..model.results import Result
 from ..model.steps import Step
 from ..model.texts import Members, path_members
 from .objects import print_object
@@ -44,7 +46,7 @@ def print_table(arguments: argparse.Namespace, comparisons: Found, choice: Choic
         table.row(*(None,) * 8, text, None)
 
 
-def print_objects(comparisons: Found, counts: "Counter[str]", choice: Choice, pictures: "Counter[str]") -> None:
+def print_objects(comparisons: Found, counts: "Counter[Result]", choice: Choice, pictures: "Counter[Coded]") -> None:
     """An object for each picture, and one for all."""
     for comparison in comparisons:
         print_object("changed", "picture", _members(comparison))

@@ -8,7 +8,7 @@ import shutil
 from collections import Counter
 from typing import Iterator, List, Optional, Sequence
 
-from ..comparison import changed as changes, coded
+from ..comparison.coded import Coded
 from ..comparison.proved import head_of_file
 from ..comparison.two_pictures import Comparison, Row, compare, read, rows_of, with_position
 from ..comparison.wording import NONE, tag_of
@@ -16,9 +16,9 @@ from ..fields.block_fields import fields_of
 from ..fields.choosing import Choice
 from ..fields.left_out import lines, members_of
 from ..fields.typed import together
-from ..model import verdicts
 from ..model.problems import NO_BYTES
 from ..model.records import WORDS, Picture
+from ..model.results import Result
 from ..model.texts import Members, escaped, shown_path
 from ..scan.batches import How
 from .changed import status_of
@@ -73,30 +73,6 @@ def _status(comparison: Comparison) -> int:
 
 # The page
 
-_SENTENCES = {
-    verdicts.SAME: "The same metadata.",
-    verdicts.SAME_BUT: "The same metadata but for the fields left out.",
-    verdicts.SAME_NUMBERS: "The same metadata but for how equal numbers are written.",
-    verdicts.MOVED_NOTE: "The same metadata but for a MakerNote that has moved; ExifTool reads the same from both.",
-    verdicts.SAME_REPAIRED: "The same metadata after a repair in memory.",
-    verdicts.ONLY_MAKER_NOTE: "Only the MakerNote differs.",
-    verdicts.ONLY_REACHED: "No field differs. Bytes differ that no field has, and that a MakerNote can lead to.",
-    verdicts.NOT_WHOLLY_READ: "No field differs, but not everything was read.",
-    verdicts.REFUSED: "The metadata can't be compared wholly: a block breaks the rules of its format, or is compressed.",
-    verdicts.UNREADABLE: "The metadata can't be compared wholly: XMP is unreadable.",
-    changes.REFUSED_SAME: "No difference: a block breaks the rules of its format or is compressed, and has the same bytes in both.",
-    changes.UNREADABLE_SAME: "No difference: XMP is unreadable, and has the same bytes in both.",
-    changes.FILE_SAME: "The same bytes, in a format that isn't read.",
-    changes.FILE_DIFFERENT: "Different bytes, in a format that isn't read.",
-    changes.NO_PICTURE_SAME: "The same bytes, and no pictures.",
-    changes.NO_PICTURE_DIFFERENT: "Different bytes, and no pictures.",
-    changes.NOT_READ: "The metadata can't be compared: a file isn't read.",
-    changes.SAME_FILE: "The same file, which isn't wholly read.",
-    changes.OTHER_PICTURE_ALONE: "The same metadata, and another picture.",
-    changes.OTHER_PICTURE: "Another picture, and no difference of the metadata is known.",
-    changes.DAMAGED: "The second picture is damaged.",
-}
-
 
 def _lines(comparison: Comparison, rows: Sequence[Row], names: Sequence[bytes], exact: bool, notes: Sequence[str]) -> Iterator[str]:
     yield _sentence(comparison, rows)
@@ -104,7 +80,7 @@ def _lines(comparison: Comparison, rows: Sequence[Row], names: Sequence[bytes], 
         yield from notes
         return
     if comparison.is_empty:
-        yield from [_of_pictures(comparison, names)] * (comparison.found.picture != coded.UNKNOWN)
+        yield from [_of_pictures(comparison, names)] * (comparison.found.picture != Coded.UNKNOWN)
         yield from notes
         return
     if any(it.problem for it in comparison.records):
@@ -112,7 +88,7 @@ def _lines(comparison: Comparison, rows: Sequence[Row], names: Sequence[bytes], 
         return
     note = comparison.found.note
     yield f"{note[:1].upper()}{note[1:]}. {_of_pictures(comparison, names)}".rstrip()
-    if any(it.status != verdicts.ACCEPTED for record in comparison.records for it in record.blocks):
+    if any(not it.is_accepted for record in comparison.records for it in record.blocks):
         yield "More about a block that isn't accepted: exifnorm-pictures explain PICTURE"
     yield from notes
     if rows:
@@ -126,33 +102,26 @@ def _sentence(comparison: Comparison, rows: Sequence[Row]) -> str:
         return "The two files are identical, byte for byte."
     if comparison.is_empty:
         return "Nothing to compare: neither picture has Exif, IPTC or XMP."
-    if comparison.result == changes.DAMAGED:
-        return "Both pictures are damaged." if comparison.records[0].damage else _SENTENCES[comparison.result]
-    if comparison.result not in (verdicts.DIFFERENT, verdicts.DIFFERENT_REPAIRED, changes.ONLY_NUMBERS):
-        return _SENTENCES[comparison.result]
+    if comparison.result == Result.DAMAGED:
+        return "Both pictures are damaged." if comparison.records[0].damage else comparison.result.sentence
+    if comparison.result.sentence:
+        return comparison.result.sentence
     equal = sum(it.is_equal_number for it in rows)
     real = len(rows) - equal
     what = [f"{real} field{'s differ' if real != 1 else ' differs'}"] if real else []
     what += [f"{equal} equal number{'s are' if equal != 1 else ' is'} only written otherwise"] if equal else []
-    head = "Different metadata" + (" after a repair in memory" if comparison.result == verdicts.DIFFERENT_REPAIRED else "")
+    head = "Different metadata" + (" after a repair in memory" if comparison.result == Result.DIFFERENT_REPAIRED else "")
     return f"{head}: {', and '.join(what)}." if what else f"{head}."
-
-
-_OF_PICTURES = {
-    coded.SAME: "The pictures are the same: the data from which their pixels are decoded are equal.",
-    coded.OTHER: "The pictures differ in the data from which their pixels are decoded: one may be edited, smaller, or only saved again.",
-    coded.UNKNOWN: "Only metadata was compared: there is no reader here for pictures of this format.",
-}
 
 
 def _of_pictures(comparison: Comparison, names: Sequence[bytes]) -> str:
     """What is known of the coded pictures; nothing if only some fields are compared."""
     if comparison.has_only_fields:
         return "Only these fields were compared."
-    if comparison.found.picture == coded.UNKNOWN and len({it.type for it in comparison.records}) > 1:
+    if comparison.found.picture == Coded.UNKNOWN and len({it.type for it in comparison.records}) > 1:
         return "Only metadata was compared: the pictures are in two formats."
     damages = [f"{shown_path(name)} is damaged: {it.damage}." for name, it in zip(names, comparison.records) if it.damage]
-    return " ".join(damages) or _OF_PICTURES[comparison.found.picture]
+    return " ".join(damages) or comparison.found.picture.sentence
 
 
 def _heads(names: Sequence[bytes]) -> List[str]:
@@ -213,7 +182,7 @@ def _members(comparison: Comparison, rows: Sequence[Row], names: Sequence[bytes]
         about = {"type": picture.type or None, "not_read": unread, "damage": picture.damage or None}
         pictures.append({**picture_object(name, picture.problem, picture.detail), **about})
     whole: Members = {"pictures": pictures, "result": comparison.result, "identical_files": comparison.is_identical}
-    whole["coded_picture"] = coded.SAME if comparison.is_identical else comparison.found.picture
+    whole["coded_picture"] = Coded.SAME if comparison.is_identical else comparison.found.picture
     kinds = {WORDS[it.kind]: it.result for it in comparison.found.verdicts}
     return {
         **whole,

@@ -7,7 +7,7 @@ from collections import Counter
 from dataclasses import dataclass, field
 from typing import Dict, Iterator, List, Sequence, Set
 
-from ..comparison.conflicts import ALIKE, CAMERA, CHARACTERS, CUT, EMPTY, JOINED, ORDER, Conflict, conflicts
+from ..comparison.conflicts import Conflict, ConflictKind, conflicts
 from ..fields.choosing import UnknownField
 from ..fields.labels import LABELS, STANDARDS, label_of
 from ..judge.reading import Reading
@@ -21,14 +21,6 @@ from .output import print_line
 from .tables import Cell, Table
 
 LONGEST = 160  # characters of a text that is shown whole
-_WORDS = {
-    ORDER: "a list in another order",
-    EMPTY: "an empty field",
-    CAMERA: "a camera's own text",
-    JOINED: "a list in one text",
-    CUT: "a text that IPTC has cut",
-    CHARACTERS: "a wrong or undeclared character set",
-}
 
 
 @dataclass
@@ -41,7 +33,7 @@ class _Counts:
     minor: int = 0  # that differ only in their form
     unread: int = 0
     labels: "Counter[str]" = field(default_factory=Counter)
-    kinds: "Counter[str]" = field(default_factory=Counter)
+    kinds: "Counter[ConflictKind]" = field(default_factory=Counter)
     left_out: "Counter[str]" = field(default_factory=Counter)  # contradictions
 
 
@@ -50,7 +42,7 @@ def run(arguments: argparse.Namespace) -> int:
     counts, chosen = _Counts(), _chosen(arguments)
     table = Table(arguments, ["picture", "label", "kind", "detail", *STANDARDS]) if arguments.csv else None
     for reading in pictures(arguments):
-        every = [one for one in conflicts(reading.texts) if one.kind != ALIKE]
+        every = [one for one in conflicts(reading.texts) if not one.is_alike]
         counted = [one for one in every if one.label in chosen]
         counts.left_out.update(one.label for one in every if one.is_real and one.label not in chosen)
         _count(counts, reading, counted)
@@ -159,7 +151,7 @@ def _summary(counts: _Counts, every: bool) -> Iterator[str]:
     if counts.real:
         yield f"{_pictures(counts.real)} with a contradiction ({_listed(counts.labels)})"
     if counts.minor:
-        kinds = Counter({_WORDS[kind]: number for kind, number in counts.kinds.items()})
+        kinds = Counter({kind.text: number for kind, number in counts.kinds.items()})
         yield f"{_pictures(counts.minor)} with differences of form alone" + ("" if every else ", which --all lists")
         yield f"differences of form: {_listed(kinds)}"
     if counts.left_out:

@@ -12,7 +12,6 @@ from ..judge.reading import Reading
 from ..model.found import FoundBlock, each_kind
 from ..model.records import WORDS, Block
 from ..model.texts import Members, escaped, path_members, shown_path
-from ..model.verdicts import ACCEPTED
 from .exit_codes import SUCCESS, UNKNOWN
 from .names import each_name, is_list
 from .output import block_members, output
@@ -53,7 +52,7 @@ def _print(arguments: argparse.Namespace, reading: Reading, head: List[str], des
         return
     data = {one.name: one for one in read.found}
     for block in reading.blocks:
-        is_described = block.status == ACCEPTED or block.repair or refused_too
+        is_described = block.is_accepted or block.repair or refused_too
         lines, members = describe(reading.name, data[block.name], block) if is_described else _refused(block)
         if lines or (arguments.json and members):
             output(arguments, [*head, *lines], {**names, "name": block.name, **members})

@@ -15,7 +15,7 @@ from ..model.budgets import TooMuch
 from ..model.found import EXIF, XMP, FoundBlock
 from ..model.records import Block
 from ..model.texts import Members
-from ..model.verdicts import ACCEPTED, REFUSED
+from ..model.sides import Status
 from ..refusals import explain, mend
 from .each_block import Described, each_block, with_kind
 from .output import block_members
@@ -26,8 +26,8 @@ def run(arguments: argparse.Namespace) -> int:
     tried = functools.lru_cache(maxsize=1)(functools.partial(_tried, arguments.session))
 
     def describe(name: bytes, at: FoundBlock, block: Block) -> Described:
-        line = f"{block.name}: {'ok' if block.status == ACCEPTED else block.line}"
-        if block.status == ACCEPTED:
+        line = f"{block.name}: {'ok' if block.is_accepted else block.line}"
+        if block.is_accepted:
             return [line], block_members(block)
         mended = None if arguments.block else tried(name)
         explained = explain.explain_packet(block) if block.kind == XMP else explain.explain(block.kind, at.data)
@@ -61,7 +61,7 @@ def _members(tried: Optional[mend.Mended]) -> Optional[Members]:
 def _repair(block: Block) -> List[str]:
     """The repair in memory of a refused Exif block, and what it loses."""
     if not block.repair:
-        return ["  Repair in memory: none is known"] if block.status == REFUSED and block.kind == EXIF else []
+        return ["  Repair in memory: none is known"] if block.status == Status.REFUSED and block.kind == EXIF else []
     fields = len(fields_of(block))
     lines = [f"  Repair in memory: {steps.words(block.steps)}; then {fields} fields are read, see show"]
     lost = steps.loses(block.steps)

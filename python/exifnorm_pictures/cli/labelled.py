@@ -15,7 +15,7 @@ from ..model import steps
 from ..model.found import Blocks, NotRead
 from ..model.problems import NOT_THERE, Problem
 from ..model.texts import Members
-from ..model.verdicts import ACCEPTED, REACHED
+from ..model.sides import REACHED
 from ..scan.walk import Unlisted, below
 from .names import each_name
 from .objects import picture_object
@@ -86,7 +86,7 @@ def refused(reading: Reading) -> List[str]:
     return [
         f"{block.name}: {block.line}" + (f"; read after repair in memory: {steps.words(block.steps)}" if block.repair else "")
         for block in reading.blocks
-        if block.status != ACCEPTED
+        if not block.is_accepted
     ]
 
 

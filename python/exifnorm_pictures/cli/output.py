@@ -13,7 +13,6 @@ from ..model.problems import Problem
 from ..model.records import WORDS, Block, Picture
 from ..model.steps import loses, words
 from ..model.texts import Members, safe, shown_path
-from ..model.verdicts import ACCEPTED
 from .columns import NARROWEST, folded
 
 if TYPE_CHECKING:
@@ -45,13 +44,13 @@ DAMAGED = {"File is empty": "the file is empty", "Entire file is binary zeros": 
 def record_lines(picture: Picture) -> List[str]:
     """Lines for a picture with a problem: the problem, the refusal of a block, or what is left of a damaged file. None if the
     problem was there at the last run, which the counts say."""
-    if picture.is_known or (picture.problem is None and not picture.unread and all(one.status == ACCEPTED for one in picture.blocks)):
+    if picture.is_known or (picture.problem is None and not picture.unread and all(one.is_accepted for one in picture.blocks)):
         return []
     name = shown_path(picture.path)
     lines = []
     if picture.problem and picture.problem != Problem.NO_PICTURE:
         lines.append(f"{name}: {picture.problem}: {picture.detail}")
-    lines += [f"{name}: {one.name}: {refused_line(one)}" for one in picture.blocks if one.status != ACCEPTED]
+    lines += [f"{name}: {one.name}: {refused_line(one)}" for one in picture.blocks if not one.is_accepted]
     lines += [f"{name}: not wholly read: {what}" for what in damage(one.what for one in picture.unread)]
     if picture.problem == Problem.NO_PICTURE and picture.detail in DAMAGED:
         lines.append(f"{name}: NoPicture: {DAMAGED[picture.detail]}")

@@ -15,12 +15,13 @@ from ..comparison.readings import Unknown, of_unknown
 from ..fields.choosing import Choice
 from ..fields.left_out import BY_LISTING, members_of, of_labels
 from ..files import signals
-from ..model import verdicts
+from ..model.results import Result
 from ..model.errors import WrongUse
 from ..model.records import KINDS, KIND_OF, WORDS, Picture
 from ..model.texts import Members, path_members, shown_path
+from .changed import status_of
 from .choice import choice_of, listings_of, note_absent, refuse_unknown
-from .exit_codes import DIFFERENCE, SUCCESS, UNKNOWN
+from .exit_codes import UNKNOWN
 from .names import chosen_paths, say_unknown
 from .objects import line_of, print_object
 from .output import print_line
@@ -42,14 +43,14 @@ def run(arguments: argparse.Namespace) -> int:
         note_absent(choice, listings_of(catalogue), catalogue.with_maker_note() if choice.asks_for_private else 0)
         fewest = groups.Fewest(arguments.least_fields)
         unknown: Unknown = Counter()
-        results: "Counter[str]" = Counter()
+        results: "Counter[Result]" = Counter()
         listed: "Counter[str]" = Counter()
         grouped: "Counter[str]" = Counter()
         partial = unknown_pictures = 0
         for group in _groups(catalogue, arguments, kinds, only, choice, fewest, unknown):
             what = "pictures" if group.are_pictures else "files"
             listed[what], grouped[what], partial = listed[what] + 1, grouped[what] + group.count, partial + group.is_partial
-            results[group.result] += 1
+            results.update([group.result] if group.result else [])
             count = sum(listed.values())
             keeps = keeping(group, bool(arguments.json or table)) if has_keep and not choice else {}
             if arguments.json:
@@ -92,14 +93,7 @@ def run(arguments: argparse.Namespace) -> int:
             for note in [of_unknown(unknown)] * bool(unknown) + [_of_absent(fewest.absent)] * bool(fewest.absent):
                 signals.say(f"exifnorm-pictures: note: {note}")
         say_unknown(chosen or (), catalogue.has)
-    return UNKNOWN if unknown else _status(results)
-
-
-def _status(results: "Counter[str]") -> int:
-    """The greatest status that `compare` has for two pictures of a group."""
-    if any(results[it] for it in (verdicts.MOVED_NOTE, verdicts.ONLY_REACHED, verdicts.SAME_REPAIRED)):
-        return UNKNOWN
-    return DIFFERENCE if results[verdicts.ONLY_MAKER_NOTE] else SUCCESS
+    return UNKNOWN if unknown else status_of(results)
 
 
 class NoDigests(WrongUse):

@@ -15,7 +15,6 @@ from ..model import steps
 from ..model.found import PROGRAMS, each_kind
 from ..model.records import Block
 from ..model.texts import Members, escaped
-from ..model.verdicts import ACCEPTED
 from .columns import width
 from .each_block import Described, each_block, each_picture, status_of
 from .exit_codes import SUCCESS
@@ -47,7 +46,7 @@ def _described(block: Block, is_exact: bool) -> Described:
     """The lines of a block."""
     by = f", extracted by {PROGRAMS[block.extractor]}" if block.extractor in PROGRAMS else ""
     lines = list(readable(fields_of(block), block.name + by)) if is_exact else [f"{block.name}{by}:", *_plain_lines(fields_of(block))]
-    return (lines if block.status == ACCEPTED else [*_repaired(block), *lines[1:]]), {}
+    return (lines if block.is_accepted else [*_repaired(block), *lines[1:]]), {}
 
 
 def _plain_lines(fields: List[Field]) -> Iterator[str]:
@@ -76,7 +75,7 @@ def _print_rows(table: Table, reading: Reading) -> None:
     """A row for each field, and one for all that isn't one: a refused block, a part that was not read, a picture without a block."""
     for block in reading.blocks:
         note = "read after repair in memory" if block.repair else None
-        if block.status != ACCEPTED:
+        if not block.is_accepted:
             table.row(
                 reading.name, block.name, *_NO_FIELD, block.line + (f"; repaired in memory: {steps.words(block.steps)}" if note else "")
             )

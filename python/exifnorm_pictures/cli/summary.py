@@ -10,7 +10,7 @@ from ..comparison import changed
 from ..comparison.summary import FIELDS, FieldCount, PartCount, Summary
 from ..comparison.wording import cut
 from ..model.texts import shown_path
-from ..model.verdicts import SAME
+from ..model.results import Result
 from .columns import NARROWEST, width, wrapped
 
 LINES = 30  # of the page
@@ -35,10 +35,10 @@ class Line(NamedTuple):
         return _pictures(self.pictures) + self.note
 
 
-def lines(summary: Summary, counts: "Counter[str]", notes: Sequence[str] = (), screen: Optional[int] = None) -> Iterator[str]:
+def lines(summary: Summary, counts: "Counter[Result]", notes: Sequence[str] = (), screen: Optional[int] = None) -> Iterator[str]:
     """The page, with some notes after the results. Fields with a label of `captions` come first. `screen` has the columns of a terminal."""
     results = [*_results(summary, counts), *notes]
-    has_rest = any(counts[it] for it in counts if it not in changed.UNCHANGED)
+    has_rest = any(counts[it] for it in counts if it.has_changed is not False)
     parts, equal = _parts(summary), _equal_numbers(summary)
     fields = _fields(summary, max(LEAST, LINES - len(results) - len(equal) - len(parts) - 6), screen)
     rows = [*(it for it in fields if it.is_labelled), *parts, *(it for it in fields if not it.is_labelled), *equal]
@@ -78,7 +78,7 @@ def _height(rows: Sequence[Line], screen: Optional[int]) -> int:
     return sum(max(len(wrapped(it.text, first)), len(wrapped(it.number, second))) for it in rows)
 
 
-def _head(counts: "Counter[str]") -> str:
+def _head(counts: "Counter[Result]") -> str:
     total, changes, undecided = changed.total(counts), changed.number_changed(counts), changed.number_undecided(counts)
     if not total:
         return "No picture to compare."
@@ -192,10 +192,10 @@ def _equal_numbers(summary: Summary) -> List[Line]:
 # The results
 
 
-def _results(summary: Summary, counts: "Counter[str]") -> Iterator[str]:
-    for result in changed.RESULTS:
+def _results(summary: Summary, counts: "Counter[Result]") -> Iterator[str]:
+    for result in Result:
         if counts[result]:
-            names = [] if result in (SAME, changed.SAME_FILE, changed.NO_PICTURE_SAME) else _names(summary, result)
+            names = [] if result in (Result.SAME, Result.SAME_FILE, Result.NO_PICTURE_SAME) else _names(summary, result)
             more = " .." if names and counts[result] > len(names) else ""
             yield f"{counts[result]:,} {result}{': ' * bool(names)}{', '.join(names)}{more}"
 

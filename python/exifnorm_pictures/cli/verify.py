@@ -12,6 +12,7 @@ from typing import BinaryIO, Dict, Iterator, List, Sequence
 
 from ..catalogue.store import Catalogue, NoCatalogue
 from ..comparison import verified
+from ..comparison.verified import State
 from ..files import atomic
 from ..model.errors import WrongUse
 from ..model.texts import escaped, path_members, shown_path
@@ -33,7 +34,7 @@ def run(arguments: argparse.Namespace) -> int:
     """Compares the files that are there with a catalogue."""
     if arguments.evidence and os.path.lexists(arguments.evidence):
         raise atomic.NotReplaced(atomic.not_written(escaped(arguments.evidence), "it is there already"))
-    counts: "Counter[str]" = Counter()
+    counts: "Counter[State]" = Counter()
     listed: Dict[str, List[str]] = {}
     with contextlib.ExitStack() as open_:
         before = open_.enter_context(Catalogue(arguments.catalogue))
@@ -42,9 +43,9 @@ def run(arguments: argparse.Namespace) -> int:
         now = open_.enter_context(_read_again(folders, arguments, before))
         for file in verified.verified(before, now, folders):
             counts[file.state] += 1
-            if file.state != verified.AS_IT_WAS or file.note:
+            if file.state != State.AS_IT_WAS or file.note:
                 _add(arguments, listed.setdefault(file.state, []), file)
-        new = verified.new_files(before, now) - counts[verified.MOVED]
+        new = verified.new_files(before, now) - counts[State.MOVED]
         size, files = next(now.rows("SELECT ifnull(sum(size), 0), count(*) FROM pictures WHERE sha256 != ''"))
         if arguments.evidence:
             _write_evidence(arguments, now)
@@ -55,9 +56,9 @@ def run(arguments: argparse.Namespace) -> int:
             print_line(line)
         if arguments.evidence:
             print_line(f"{escaped(arguments.evidence)}: SHA-256 of {files:,} files, for sha256sum -c")
-    if any(counts[it] for it in verified.UNKNOWN):
+    if any(it.is_good is None for it in counts):
         return UNKNOWN
-    return DIFFERENCE if any(counts[it] for it in verified.BAD) else SUCCESS
+    return DIFFERENCE if any(it.is_good is False for it in counts) else SUCCESS
 
 
 def _folders(names: Sequence[bytes], catalogue: Catalogue) -> List[bytes]:
@@ -101,23 +102,21 @@ def _add(arguments: argparse.Namespace, listed: List[str], result: verified.Veri
     if arguments.json:
         place = None if result.place is None else path_members(result.place)
         print_object("verify", "picture", {**path_members(result.path), "state": result.state, "note": result.note or None, "place": place})
-    elif len(listed) <= SHOWN and result.state != verified.AS_IT_WAS:
+    elif len(listed) <= SHOWN and result.state != State.AS_IT_WAS:
         words = [result.note] * bool(result.note)
         if result.place is not None:
             words = (
-                [f"to {shown_path(result.place)}", *words]
-                if result.state == verified.MOVED
-                else [f"{result.note} {shown_path(result.place)}"]
+                [f"to {shown_path(result.place)}", *words] if result.state == State.MOVED else [f"{result.note} {shown_path(result.place)}"]
             )
         listed.append(shown_path(result.path) + (f" ({', '.join(words)})" if words else ""))
 
 
-def _lines(counts: "Counter[str]", listed: Dict[str, List[str]], new: int, files: int, size: int) -> Iterator[str]:
+def _lines(counts: "Counter[State]", listed: Dict[str, List[str]], new: int, files: int, size: int) -> Iterator[str]:
     yield f"{files:,} file{'s' * (files != 1)} read again, {_size(size)}."
-    for state in verified.WORDS:
+    for state in State:
         if not counts[state]:
             continue
-        yield f"{counts[state]:>11,} {verified.WORDS[state]}"
+        yield f"{counts[state]:>11,} {state.text}"
         names = listed.get(state, [])
         yield from (f"              {it}" for it in names[:SHOWN])
         yield from ["              .."] * (len(names) > SHOWN)

@@ -21,96 +21,16 @@ from ..model import steps
 from ..model.found import EXIF, NAMES, OWN, PROGRAMS
 from ..model.problems import Problem
 from ..model.records import Block, Picture, is_same_file
+from ..model.results import Result
+from ..model.sides import REACHED
 from ..model.steps import Step
-from ..model.verdicts import (
-    ABSENT,
-    ACCEPTED,
-    DIFFERENT,
-    DIFFERENT_REPAIRED,
-    LEFT_OUT,
-    MOVED_NOTE,
-    NOT_WHOLLY_READ,
-    ONLY_MAKER_NOTE,
-    ONLY_REACHED,
-    REACHED,
-    REFUSED,
-    SAME,
-    SAME_BUT,
-    SAME_NUMBERS,
-    SAME_REPAIRED,
-    UNREADABLE,
-    Verdict,
-    left_open,
-    result,
-    sentence,
-    verdicts,
-)
-from . import coded
+from ..model.verdicts import Verdict, left_open, result_of, sentence, verdicts
+from .coded import Coded, result_of as result_of_coded
 from .differing import Difference, differences
 from .pairs import AFTER, BEFORE, Pair, Pairs
 
-ONLY_NUMBERS = "only equal numbers are written otherwise"
-REFUSED_SAME, UNREADABLE_SAME = f"{REFUSED}, the same bytes", f"{UNREADABLE}, the same bytes"
 if TYPE_CHECKING:
     from ..judge import maker_notes
-
-MISSING_BEFORE, MISSING_AFTER, MOVED, NOT_READ = "missing before", "missing after", "moved", "not read"
-OTHER_PICTURE_ALONE, OTHER_PICTURE = "other picture, the same metadata", "other picture"  # of the latter it isn't wholly known
-DAMAGED = "damaged"  # whatever its metadata are
-MOVED_EDITED = "moved and edited"  # which the digest of its coded picture shows
-SAME_FILE = "the same file"  # nothing was written to it, so that what can't be compared hasn't changed either
-FILE_SAME, FILE_DIFFERENT = "not read, the same bytes", "not read, different bytes"
-NO_PICTURE_SAME, NO_PICTURE_DIFFERENT = "no picture, the same bytes", "no picture, different bytes"
-DIFFERENCES = (
-    DIFFERENT,
-    DIFFERENT_REPAIRED,
-    ONLY_MAKER_NOTE,
-    ONLY_NUMBERS,
-    FILE_DIFFERENT,
-    NO_PICTURE_DIFFERENT,
-    MOVED,
-    MOVED_EDITED,
-    OTHER_PICTURE_ALONE,
-    OTHER_PICTURE,
-    DAMAGED,
-    MISSING_BEFORE,
-    MISSING_AFTER,
-)
-OPEN = (MOVED_NOTE, SAME_REPAIRED, ONLY_REACHED, REFUSED, UNREADABLE, NOT_WHOLLY_READ, NOT_READ)  # it isn't wholly decided
-UNCHANGED = (
-    SAME,
-    SAME_FILE,
-    SAME_BUT,
-    SAME_NUMBERS,
-    REFUSED_SAME,
-    UNREADABLE_SAME,
-    FILE_SAME,
-    NO_PICTURE_SAME,
-)  # nothing is reported to differ
-_NO_PICTURES = (NO_PICTURE_SAME, NO_PICTURE_DIFFERENT)
-RESULTS = (
-    SAME,
-    SAME_FILE,
-    SAME_BUT,
-    SAME_NUMBERS,
-    MOVED_NOTE,
-    SAME_REPAIRED,
-    *DIFFERENCES,
-    ONLY_REACHED,
-    REFUSED,
-    REFUSED_SAME,
-    UNREADABLE,
-    UNREADABLE_SAME,
-    NOT_WHOLLY_READ,
-    FILE_SAME,
-    NO_PICTURE_SAME,
-    NOT_READ,
-)
-
-
-def decided(word: str) -> Optional[bool]:
-    """Whether a result says that two pictures are the same; None if it says that nobody knows."""
-    return True if word == SAME else False if word in DIFFERENCES else None
 
 
 @dataclass
@@ -118,7 +38,7 @@ class Compared:
     """One picture before and after."""
 
     name: bytes
-    result: str
+    result: Result
     note: str = ""  # the kinds that were compared, and the result
     changes: List[Difference] = field(default_factory=list)
     verdicts: List[Verdict] = field(default_factory=list)
@@ -126,18 +46,18 @@ class Compared:
     maker_note: "Optional[List[maker_notes.Difference]]" = None  # the values that ExifTool reads otherwise, if it was asked
     repairs: List[Tuple[str, Tuple[Step, ...], Tuple[Step, ...]]] = field(default_factory=list)  # of each block, before and after
     left_out: List[str] = field(default_factory=list)  # fields and kinds that differ and don't count
-    picture: str = coded.UNKNOWN  # what is known of the coded picture
+    picture: Coded = Coded.UNKNOWN  # what is known of the coded picture
 
 
 def changed(
     before: Catalogue,
     after: Catalogue,
-    counts: "Counter[str]",
+    counts: "Counter[Result]",
     only: Optional[Set[bytes]] = None,
     every: bool = False,
     session: Optional[Session] = None,
     choice: Choice = EVERYTHING,
-    pictures: "Optional[Counter[str]]" = None,
+    pictures: "Optional[Counter[Coded]]" = None,
 ) -> Iterator[Compared]:
     """Compares each picture of two catalogues, in the order of their names, or only some pictures, by name or by path.
 
@@ -146,58 +66,62 @@ def changed(
     """
     with contextlib.closing(Pairs(before, after, only)) as pairs:
         there = 0
-        came = (Compared(name, MISSING_BEFORE) for name in pairs.came())
+        came = (Compared(name, Result.MISSING_BEFORE) for name in pairs.came())
         for comparison in heapq.merge(
             (compared(pair, pairs, session, choice) for pair in pairs.differing(every)), came, key=lambda one: one.name
         ):
-            there += comparison.result != MISSING_BEFORE
+            there += comparison.result != Result.MISSING_BEFORE
             counts[comparison.result] += 1
             choice.add_left_out(comparison.left_out)
             yield comparison
         if pictures is not None:
             pictures.update(pairs.coded())
         if not every and pairs.count() > there:
-            counts[SAME] += pairs.count() - there
+            counts[Result.SAME] += pairs.count() - there
 
 
 def compared(pair: Pair, pairs: Sides, session: Optional[Session], choice: Choice = EVERYTHING) -> Compared:
     """Compares one picture before and after. Its coded picture counts, unless only some fields do."""
     comparison = _compared(pair, pairs, session, choice)
-    coded_picture = coded.result_of(pair.old, pair.new)
+    coded_picture = result_of_coded(pair.old, pair.new)
     comparison.picture = coded_picture.result
     if choice.only or pair.place is not None:
         return comparison
-    if coded_picture.result == coded.DAMAGED:
-        comparison.result = DAMAGED
-    elif coded_picture.result == coded.OTHER and comparison.result in (*UNCHANGED, *OPEN):
-        comparison.result = OTHER_PICTURE_ALONE if comparison.result in (SAME, REFUSED_SAME, UNREADABLE_SAME) else OTHER_PICTURE
-    elif coded_picture.result == coded.OTHER:
+    if coded_picture.result == Coded.DAMAGED:
+        comparison.result = Result.DAMAGED
+    elif coded_picture.result == Coded.OTHER and not comparison.result.has_changed:
+        comparison.result = Result.OTHER_PICTURE_ALONE if comparison.result.is_equal else Result.OTHER_PICTURE
+    elif coded_picture.result == Coded.OTHER:
         comparison.note += "; the picture is another one, too"
     comparison.note = "; ".join(filter(None, [coded_picture.note, comparison.note]))
     return comparison
 
 
+# The results of a kind for which the fields of both pictures are compared
+_LOOKED_AT = (Result.DIFFERENT, Result.REFUSED, Result.UNREADABLE, Result.SAME_REPAIRED, Result.DIFFERENT_REPAIRED)
+
+
 def _compared(pair: Pair, pairs: Sides, session: Optional[Session], choice: Choice) -> Compared:
     name, old, new, place = pair
     if old is None or new is None:
-        return Compared(name, MISSING_AFTER) if place is None else Compared(name, MOVED, moved_to=place)
+        return Compared(name, Result.MISSING_AFTER) if place is None else Compared(name, Result.MOVED, moved_to=place)
     if old.problem or new.problem:
         comparison = _unread(name, old, new)
         return (
-            Compared(name, SAME_FILE, comparison.note)
-            if comparison.result in OPEN and place is None and is_same_file(old, new)
+            Compared(name, Result.SAME_FILE, comparison.note)
+            if comparison.result.is_open and place is None and is_same_file(old, new)
             else comparison
         )
     by_kind = verdicts(old.sides(), new.sides())
     parts: List[str] = []
     if old.not_read is None or old.not_read != new.not_read:
         parts = left_open(pairs.not_read(BEFORE, old), pairs.not_read(AFTER, new))
-    comparison = Compared(name, result(by_kind, parts), "", [], by_kind)
-    if comparison.result in OPEN and place is None and is_same_file(old, new):
-        return Compared(name, SAME_FILE, _sentence(tuple(by_kind), tuple(parts)), [], by_kind)
+    comparison = Compared(name, result_of(by_kind, parts), "", [], by_kind)
+    if comparison.result.is_open and place is None and is_same_file(old, new):
+        return Compared(name, Result.SAME_FILE, _sentence(tuple(by_kind), tuple(parts)), [], by_kind)
     parts = _leave_out_kinds(comparison, old, new, parts, choice)
     by_kind = comparison.verdicts
-    looked_at = any(one.result in (DIFFERENT, REFUSED, UNREADABLE, SAME_REPAIRED, DIFFERENT_REPAIRED) for one in by_kind)
+    looked_at = any(it.result in _LOOKED_AT for it in by_kind)
     if looked_at or not old.extractor == new.extractor == OWN:
         blocks = [pairs.blocks(BEFORE, old), pairs.blocks(AFTER, new)]
         comparison.note += _extracted(block for side in blocks for block in side)
@@ -207,7 +131,7 @@ def _compared(pair: Pair, pairs: Sides, session: Optional[Session], choice: Choi
         parts = _judge_maker_notes(comparison, old, new, pairs, parts, session)
     comparison.note = _sentence(tuple(comparison.verdicts), tuple(parts)) + comparison.note
     if place is not None:
-        comparison.result = MOVED if comparison.result in UNCHANGED else MOVED_EDITED
+        comparison.result = Result.MOVED if comparison.result.has_changed is False else Result.MOVED_EDITED
         comparison.moved_to, comparison.note = place, f"the coded picture is the same; {comparison.note}"
     return comparison
 
@@ -216,15 +140,15 @@ def _unread(name: bytes, picture: Picture, other: Picture) -> Compared:
     """Two files of which one or both were not read: their bytes are compared, if they are known."""
     if picture.problem and picture.problem == other.problem:
         is_picture = picture.problem != Problem.NO_PICTURE
-        same, different = (FILE_SAME, FILE_DIFFERENT) if is_picture else (NO_PICTURE_SAME, NO_PICTURE_DIFFERENT)
+        same, different = (Result.FILE_SAME, Result.FILE_DIFFERENT) if is_picture else (Result.NO_PICTURE_SAME, Result.NO_PICTURE_DIFFERENT)
         note = picture.problem if is_picture else ""
         if picture.file and other.file:
             return Compared(name, same if picture.file == other.file else different, note)
         if picture.size != other.size:
             return Compared(name, different, note)
-        return Compared(name, NOT_READ, note or "no picture")
+        return Compared(name, Result.NOT_READ, note or "no picture")
     notes = [f"{word}: {it.problem}" for word, it in (("before", picture), ("after", other)) if it.problem]
-    return Compared(name, NOT_READ, ", ".join(notes))
+    return Compared(name, Result.NOT_READ, ", ".join(notes))
 
 
 def _judge_maker_notes(
@@ -236,7 +160,7 @@ def _judge_maker_notes(
     moved = both and old.maker_notes != new.maker_notes
     reached = [part for part in parts if part.endswith(REACHED)] if both else []
     rewritten = both and old.exif_octets != new.exif_octets  # then what the MakerNote leads to may be gone or have changed
-    if not (lines or moved or reached or rewritten) or comparison.result == REFUSED_SAME:
+    if not (lines or moved or reached or rewritten) or comparison.result == Result.REFUSED_SAME:
         return parts
     from ..judge import maker_notes  # which is seldom needed
 
@@ -246,11 +170,11 @@ def _judge_maker_notes(
         if gone:
             note = f"differs in bytes, the {' and the '.join(gone)} picture {'is' if len(gone) == 1 else 'are'} gone or changed"
             comparison.changes = [change._replace(note=note) if change in lines else change for change in comparison.changes]
-        is_open = rewritten and not reached and any(one.kind == EXIF and one.result == SAME for one in comparison.verdicts)
+        is_open = rewritten and not reached and any(one.kind == EXIF and one.result == Result.SAME for one in comparison.verdicts)
         if not lines and (moved or is_open):
             what = "a MakerNote that has moved" if moved else "a MakerNote in a block that was written anew"
             parts = [*parts, f"{what}, for which ExifTool and both files are needed"]
-            comparison.result = result(comparison.verdicts, parts)
+            comparison.result = result_of(comparison.verdicts, parts)
         return parts
     if notes.doubt and not notes.differences:
         return _in_doubt(comparison, lines, moved, notes, parts)
@@ -268,10 +192,15 @@ def _judge_maker_notes(
     comparison.note += "; MakerNote moved, reads the same (ExifTool)"
     comparison.changes = [change for change in comparison.changes if change not in lines]
     if not any(change.where in _OF_EXIF for change in comparison.changes):
-        plain = [verdict.kind == EXIF and verdict.result in (SAME, DIFFERENT, DIFFERENT_REPAIRED) for verdict in comparison.verdicts]
-        comparison.verdicts = [Verdict(EXIF, MOVED_NOTE) if is_exif else verdict for verdict, is_exif in zip(comparison.verdicts, plain)]
+        plain = [
+            verdict.kind == EXIF and verdict.result in (Result.SAME, Result.DIFFERENT, Result.DIFFERENT_REPAIRED)
+            for verdict in comparison.verdicts
+        ]
+        comparison.verdicts = [
+            Verdict(EXIF, Result.MOVED_NOTE) if is_exif else verdict for verdict, is_exif in zip(comparison.verdicts, plain)
+        ]
     parts = [part for part in parts if part not in reached]
-    comparison.result = result(comparison.verdicts, parts)
+    comparison.result = result_of(comparison.verdicts, parts)
     return parts
 
 
@@ -283,7 +212,7 @@ def _in_doubt(comparison: Compared, lines: List[Difference], moved: bool, notes:
     ]
     if not lines and (moved or notes.is_new):
         parts = [*parts, f"a MakerNote that {'has moved' if moved else 'may be damaged'} ({notes.doubt})"]
-        comparison.result = result(comparison.verdicts, parts)
+        comparison.result = result_of(comparison.verdicts, parts)
     return parts
 
 
@@ -294,8 +223,8 @@ def _read_otherwise(comparison: Compared, lines: List[Difference], moved: bool) 
     change = lines[0] if lines else Difference(*MAKER_NOTE, (), ())
     at = comparison.changes.index(change) if lines else len(comparison.changes)
     comparison.changes[at : at + bool(lines)] = [change._replace(note=note)]
-    if not any(verdict.result in (DIFFERENT, DIFFERENT_REPAIRED) for verdict in comparison.verdicts):
-        comparison.result = DIFFERENT
+    if not any(verdict.result in (Result.DIFFERENT, Result.DIFFERENT_REPAIRED) for verdict in comparison.verdicts):
+        comparison.result = Result.DIFFERENT
     comparison.note += f"; MakerNote {note} (ExifTool)"
 
 
@@ -315,11 +244,11 @@ def _add_details(comparison: Compared, blocks: List[Sequence[Block]], pairs: Sid
     """Adds the fields that differ, and the causes of refusals."""
     left = _Left(choice)
     only_notes = True
-    out = [one.kind for one in comparison.verdicts if one.result == LEFT_OUT]
+    out = [one.kind for one in comparison.verdicts if one.result == Result.LEFT_OUT]
     first, second = ({(block.kind, block.name): block for block in side if block.kind not in out} for side in blocks)
     for key in dict.fromkeys([*first, *second]):
         old, new = first.get(key), second.get(key)
-        if all(block is None or block.status == ACCEPTED or block.repair for block in (old, new)):
+        if all(block is None or block.is_accepted or block.repair for block in (old, new)):
             comparison.note += _repairs_of(comparison, key[1], old, new)
             if old and new and old.digest == new.digest and (old.digest or old.octets == new.octets):
                 continue
@@ -335,10 +264,14 @@ def _add_details(comparison: Compared, blocks: List[Sequence[Block]], pairs: Sid
         if not any(block and block.repair for block in (old, new)):
             comparison.note += _report_of(key[1], old, new)
     left.settle(comparison, parts)
-    if comparison.result == DIFFERENT and only_notes and [one.kind for one in comparison.verdicts if one.result == DIFFERENT] == [EXIF]:
-        comparison.result = ONLY_MAKER_NOTE
-    elif comparison.result == DIFFERENT and comparison.changes and all(change.is_equal_number for change in comparison.changes):
-        comparison.result = ONLY_NUMBERS
+    if (
+        comparison.result == Result.DIFFERENT
+        and only_notes
+        and [one.kind for one in comparison.verdicts if one.result == Result.DIFFERENT] == [EXIF]
+    ):
+        comparison.result = Result.ONLY_MAKER_NOTE
+    elif comparison.result == Result.DIFFERENT and comparison.changes and all(change.is_equal_number for change in comparison.changes):
+        comparison.result = Result.ONLY_NUMBERS
 
 
 def _known(differences: List[Difference], old: Optional[Block], new: Optional[Block]) -> Tuple[List[Difference], str]:
@@ -382,12 +315,14 @@ class _Left:
     def settle(self, comparison: Compared, parts: List[str]) -> None:
         """The result without what is left out."""
         comparison.left_out += self.names
-        words = {**dict.fromkeys(self.by_numbers, SAME_NUMBERS), **dict.fromkeys(self.by_fields, SAME_BUT)}
+        words = {**dict.fromkeys(self.by_numbers, Result.SAME_NUMBERS), **dict.fromkeys(self.by_fields, Result.SAME_BUT)}
         for at, verdict in enumerate(comparison.verdicts):
-            if verdict.kind in words and verdict.kind not in self.rest and verdict.result in (DIFFERENT, DIFFERENT_REPAIRED):
-                comparison.verdicts[at] = Verdict(verdict.kind, words[verdict.kind] if verdict.result == DIFFERENT else SAME_REPAIRED)
+            if verdict.kind in words and verdict.kind not in self.rest and verdict.result in (Result.DIFFERENT, Result.DIFFERENT_REPAIRED):
+                comparison.verdicts[at] = Verdict(
+                    verdict.kind, words[verdict.kind] if verdict.result == Result.DIFFERENT else Result.SAME_REPAIRED
+                )
         if words:
-            comparison.result = result(comparison.verdicts, parts)
+            comparison.result = result_of(comparison.verdicts, parts)
 
 
 def _leave_out_kinds(comparison: Compared, picture: Picture, other: Picture, parts: List[str], choice: Choice) -> List[str]:
@@ -395,8 +330,8 @@ def _leave_out_kinds(comparison: Compared, picture: Picture, other: Picture, par
     if not choice:
         return parts
     for at, verdict in enumerate(comparison.verdicts):
-        if verdict.kind not in choice.kinds and verdict.result not in (SAME, ABSENT) and not verdict.same_bytes:
-            comparison.verdicts[at] = Verdict(verdict.kind, LEFT_OUT)
+        if verdict.kind not in choice.kinds and verdict.result not in (Result.SAME, Result.ABSENT) and not verdict.same_bytes:
+            comparison.verdicts[at] = Verdict(verdict.kind, Result.LEFT_OUT)
             comparison.left_out.append(NAMES[verdict.kind])
             choice.see_kind(verdict.kind)
     if choice.leaves_out_maker_notes:
@@ -405,10 +340,11 @@ def _leave_out_kinds(comparison: Compared, picture: Picture, other: Picture, par
         if has_moved or len(left) < len(parts):
             comparison.left_out.append(group_name(*MAKER_NOTE))
             comparison.verdicts = [
-                Verdict(EXIF, SAME_BUT) if (verdict.kind, verdict.result) == (EXIF, SAME) else verdict for verdict in comparison.verdicts
+                Verdict(EXIF, Result.SAME_BUT) if (verdict.kind, verdict.result) == (EXIF, Result.SAME) else verdict
+                for verdict in comparison.verdicts
             ]
         parts = left
-    comparison.result = result(comparison.verdicts, parts)
+    comparison.result = result_of(comparison.verdicts, parts)
     return parts
 
 
@@ -433,14 +369,14 @@ def _repair_of(block: Optional[Block]) -> str:
     if block is None:
         return "none"
     if not block.repair:
-        return block.status if block.status == ACCEPTED else f"{block.status}, {block.refusal}"
+        return block.status if block.is_accepted else f"{block.status}, {block.refusal}"
     return f"{block.status}, {block.refusal}, read after repair: {steps.words(block.steps)}"
 
 
 def _report_of(name: str, block: Optional[Block], other: Optional[Block]) -> str:
     """The report on one block besides its fields: that only one side has it, or why it is refused."""
-    texts = [None if it is None else it.refusal if it.status != ACCEPTED else "accepted" for it in (block, other)]
-    if block and other and block.octets == other.octets and block.status != ACCEPTED:
+    texts = [None if it is None else it.refusal if not it.is_accepted else "accepted" for it in (block, other)]
+    if block and other and block.octets == other.octets and not block.is_accepted:
         return f"; {name}: {block.refusal}"
     if texts == ["accepted", "accepted"]:
         return ""
@@ -449,19 +385,19 @@ def _report_of(name: str, block: Optional[Block], other: Optional[Block]) -> str
     return f"; {name}: " + ", ".join(f"{word} {text}" for word, text in zip(("before", "after"), texts) if text)
 
 
-def total(counts: "Counter[str]") -> int:
+def total(counts: "Counter[Result]") -> int:
     """The number of pictures that were compared, or are on one side only."""
-    return sum(count for it, count in counts.items() if it not in _NO_PICTURES)
+    return sum(count for it, count in counts.items() if it.are_pictures)
 
 
-def number_changed(counts: "Counter[str]") -> int:
+def number_changed(counts: "Counter[Result]") -> int:
     """How many of them have changed. One that can't be compared wholly isn't known to have changed."""
-    return sum(counts[it] for it in DIFFERENCES if it not in _NO_PICTURES)
+    return sum(count for it, count in counts.items() if it.has_changed and it.are_pictures)
 
 
-def number_undecided(counts: "Counter[str]") -> int:
+def number_undecided(counts: "Counter[Result]") -> int:
     """How many of them can't be compared wholly, so that nobody knows whether they have changed."""
-    return sum(counts[it] for it in OPEN)
+    return sum(count for it, count in counts.items() if it.is_open)
 
 
 class Equal:

@@ -6,21 +6,41 @@ from collections import Counter
 from typing import NamedTuple, Optional
 
 from ..model.records import Picture
+from ..model.words import Word
 
-SAME, OTHER, DAMAGED, DAMAGED_BOTH, UNKNOWN = "the same", "other", "damaged", "damaged before and after", "not compared"
-RESULTS = (SAME, OTHER, DAMAGED, DAMAGED_BOTH, UNKNOWN)
+
+class Coded(Word):
+    """What is known of the coded pictures of two files."""
+
+    sentence: str  # of `compare`, which prints the damage of a damaged one
+
+    def __new__(cls, word: str, sentence: str = "") -> "Coded":
+        coded = str.__new__(cls, word)
+        coded._value_ = word
+        coded.sentence = sentence
+        return coded
+
+    SAME = ("the same", "The pictures are the same: the data from which their pixels are decoded are equal.")
+    OTHER = (
+        "other",
+        "The pictures differ in the data from which their pixels are decoded: one may be edited, smaller, or only saved again.",
+    )
+    DAMAGED = ("damaged",)
+    DAMAGED_BOTH = ("damaged before and after",)
+    UNKNOWN = ("not compared", "Only metadata was compared: there is no reader here for pictures of this format.")
+
 
 # The same as `result_of`, for the rows `old` and `new` of two catalogues
-SQL = f"""CASE WHEN new.damage != '' AND old.damage = '' THEN '{DAMAGED}' WHEN new.damage != '' THEN '{DAMAGED_BOTH}'
-    WHEN old.type != new.type THEN '{UNKNOWN}' WHEN old.damage != '' THEN '{OTHER}' WHEN old.coded_picture != '' AND new.coded_picture != ''
-    THEN CASE WHEN old.coded_picture = new.coded_picture THEN '{SAME}' ELSE '{OTHER}' END
-    WHEN old.sha256 != '' AND old.sha256 = new.sha256 THEN '{SAME}' ELSE '{UNKNOWN}' END"""
+SQL = f"""CASE WHEN new.damage != '' AND old.damage = '' THEN '{Coded.DAMAGED}' WHEN new.damage != '' THEN '{Coded.DAMAGED_BOTH}'
+    WHEN old.type != new.type THEN '{Coded.UNKNOWN}' WHEN old.damage != '' THEN '{Coded.OTHER}' WHEN old.coded_picture != '' AND new.coded_picture != ''
+    THEN CASE WHEN old.coded_picture = new.coded_picture THEN '{Coded.SAME}' ELSE '{Coded.OTHER}' END
+    WHEN old.sha256 != '' AND old.sha256 = new.sha256 THEN '{Coded.SAME}' ELSE '{Coded.UNKNOWN}' END"""
 
 
 class CodedResult(NamedTuple):
     """What is known of the coded pictures."""
 
-    result: str = UNKNOWN
+    result: Coded = Coded.UNKNOWN
     note: str = ""
 
 
@@ -29,22 +49,22 @@ def result_of(picture: Optional[Picture], other: Optional[Picture]) -> CodedResu
     if picture is None or other is None:
         return CodedResult()
     if other.damage and picture.damage:
-        return CodedResult(DAMAGED_BOTH, f"{DAMAGED_BOTH}: {other.damage}")
+        return CodedResult(Coded.DAMAGED_BOTH, f"{Coded.DAMAGED_BOTH}: {other.damage}")
     if other.damage:
-        return CodedResult(DAMAGED, other.damage + ("" if picture.coded_picture else ", and whether it was so before isn't known"))
+        return CodedResult(Coded.DAMAGED, other.damage + ("" if picture.coded_picture else ", and whether it was so before isn't known"))
     if picture.type != other.type:  # the data of two formats can't be equal, even if the pictures are
         return CodedResult()
     if picture.damage:
-        return CodedResult(OTHER, f"before it was damaged: {picture.damage}")
+        return CodedResult(Coded.OTHER, f"before it was damaged: {picture.damage}")
     if picture.coded_picture and other.coded_picture:
-        return CodedResult(SAME if picture.coded_picture == other.coded_picture else OTHER)
-    return CodedResult(SAME if picture.sha256 and picture.sha256 == other.sha256 else UNKNOWN)
+        return CodedResult(Coded.SAME if picture.coded_picture == other.coded_picture else Coded.OTHER)
+    return CodedResult(Coded.SAME if picture.sha256 and picture.sha256 == other.sha256 else Coded.UNKNOWN)
 
 
-def sentence(counts: "Counter[str]", pixels: str = "index --pixels") -> str:
+def sentence(counts: "Counter[Coded]", pixels: str = "index --pixels") -> str:
     """What was compared of some pictures, in a sentence; nothing without any."""
     if not sum(counts.values()):
         return ""
-    if sum(counts.values()) == counts[UNKNOWN]:
+    if sum(counts.values()) == counts[Coded.UNKNOWN]:
         return f"Only metadata was compared: {pixels} compares the pictures, too."
-    return f"The coded pictures: {', '.join(f'{counts[it]:,} {it}' for it in RESULTS if counts[it])}."
+    return f"The coded pictures: {', '.join(f'{counts[it]:,} {it}' for it in Coded if counts[it])}."

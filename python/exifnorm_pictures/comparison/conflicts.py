@@ -9,18 +9,31 @@ from datetime import datetime
 from typing import Iterator, List, NamedTuple, Optional, Sequence, Tuple
 
 from ..fields.labels import DATE, EXIF, IPTC, LABELS, STANDARDS, XMP, Label, LabelText
+from ..model.words import Word
 
-ALIKE, ORDER, EMPTY, CAMERA, JOINED, CUT, CHARACTERS, DIFFERENT = (
-    "alike",
-    "another order",
-    "empty",
-    "camera's text",
-    "joined",
-    "cut",
-    "character set",
-    "different",
-)
-KINDS = (ALIKE, ORDER, EMPTY, CAMERA, JOINED, CUT, CHARACTERS, DIFFERENT)  # the least first
+
+class ConflictKind(Word):
+    """How the texts of a label differ. Of several, the last one in this order counts."""
+
+    text: str  # of the summary of `conflicts`
+
+    def __new__(cls, word: str, text: str = "") -> "ConflictKind":
+        kind = str.__new__(cls, word)
+        kind._value_ = word
+        kind.text = text
+        return kind
+
+    ALIKE = ("alike",)
+    ORDER = ("another order", "a list in another order")
+    EMPTY = ("empty", "an empty field")
+    CAMERA = ("camera's text", "a camera's own text")
+    JOINED = ("joined", "a list in one text")
+    CUT = ("cut", "a text that IPTC has cut")
+    CHARACTERS = ("character set", "a wrong or undeclared character set")
+    DIFFERENT = ("different",)
+
+
+_ORDER = tuple(ConflictKind)
 # Character sets that are tried on bytes outside ASCII. One is taken only if it gives exactly the text of another standard.
 _CHARACTER_SETS = {
     "utf-8": "UTF-8",
@@ -50,19 +63,24 @@ class Conflict(NamedTuple):
     """A label with texts in two standards at least, and how these differ."""
 
     label: str
-    kind: str  # one of KINDS
+    kind: ConflictKind
     detail: str
     texts: Tuple[LabelText, ...]
     worse: Tuple[str, ...] = ()  # the fields whose text is cut or in a wrong character set
 
     @property
+    def is_alike(self) -> bool:
+        """Whether they don't differ."""
+        return self.kind == ConflictKind.ALIKE
+
+    @property
     def is_real(self) -> bool:
         """Whether the texts contradict each other."""
-        return self.kind == DIFFERENT
+        return self.kind == ConflictKind.DIFFERENT
 
 
 class _How(NamedTuple):
-    kind: str
+    kind: ConflictKind
     detail: str = ""
     worse: str = ""  # a field
 
@@ -78,13 +96,13 @@ def conflicts(texts: Sequence[LabelText]) -> List[Conflict]:
 
 
 def _conflict(label: Label, ours: Sequence[LabelText]) -> Conflict:
-    hows = [_How(EMPTY, f"{it.field} is empty") for it in ours if it.is_empty]
-    hows += [_How(CAMERA, f"{it.field} has a camera's own text") for it in ours if it.is_own]
+    hows = [_How(ConflictKind.EMPTY, f"{it.field} is empty") for it in ours if it.is_empty]
+    hows += [_How(ConflictKind.CAMERA, f"{it.field} has a camera's own text") for it in ours if it.is_own]
     texts = [it for it in ours if not it.is_empty and not it.is_own]
     texts.sort(key=lambda it: _CLEAREST.index(it.standard))
     hows += [_pair(label, one, other) for at, one in enumerate(texts) for other in texts[at + 1 :] if one.standard != other.standard]
-    kind = max((it.kind for it in hows), key=KINDS.index, default=ALIKE)
-    details = dict.fromkeys(it.detail for it in hows if it.detail and (it.kind == kind or kind != DIFFERENT))
+    kind = max((it.kind for it in hows), key=_ORDER.index, default=ConflictKind.ALIKE)
+    details = dict.fromkeys(it.detail for it in hows if it.detail and (it.kind == kind or kind != ConflictKind.DIFFERENT))
     worse = tuple(it.worse for it in hows if it.worse)
     shown = sorted(ours, key=lambda it: STANDARDS.index(it.standard))
     return Conflict(label.word, kind, "; ".join(details), tuple(shown), worse)
@@ -119,29 +137,29 @@ def _plain(text: str) -> str:
 def _pair(label: Label, text: LabelText, other: LabelText) -> _How:
     first, second = ([_plain(it) for it in texts.texts if _plain(it)] for texts in (text, other))
     if first == second:
-        return _How(ALIKE)
+        return _How(ConflictKind.ALIKE)
     if label.word == DATE:
-        return _How(ALIKE if _is_same_time(first[0], second[0]) else DIFFERENT)
+        return _How(ConflictKind.ALIKE if _is_same_time(first[0], second[0]) else ConflictKind.DIFFERENT)
     if label.is_list and (how := _lists(first, second, text, other)):
         return how
     if len(first) != len(second):
-        return _How(DIFFERENT, f"{text.field} has {len(first)}, {other.field} {len(second)}" if label.is_list else "")
+        return _How(ConflictKind.DIFFERENT, f"{text.field} has {len(first)}, {other.field} {len(second)}" if label.is_list else "")
     each = [_texts_differ(label, (mine, its), (text, other), at) for at, (mine, its) in enumerate(zip(first, second))]
-    return max(each, key=lambda it: KINDS.index(it.kind))
+    return max(each, key=lambda it: _ORDER.index(it.kind))
 
 
 def _lists(first: List[str], second: List[str], text: LabelText, other: LabelText) -> Optional[_How]:
     """How two lists differ as wholes; None if only their texts can tell."""
     if sorted(first) == sorted(second):
-        return _How(ORDER, "another order")
+        return _How(ConflictKind.ORDER, "another order")
     for joined, apart, whose in ((first, second, text), (second, first, other)):
         if len(joined) == 1 and len(apart) > 1 and sorted(_parts(joined)) == sorted(apart):
-            return _How(JOINED, f"{whose.field} has the list in one text")
+            return _How(ConflictKind.JOINED, f"{whose.field} has the list in one text")
     mine, its = set(_parts(first)), set(_parts(second))
     if mine < its or its < mine:
         more, fewer, whose = (second, mine, other) if mine < its else (first, its, text)
         only = [it for it in _parts(more) if it not in fewer]
-        return _How(DIFFERENT, f"only {whose.field} has: {', '.join(only[:5])}{' ..' if len(only) > 5 else ''}")
+        return _How(ConflictKind.DIFFERENT, f"only {whose.field} has: {', '.join(only[:5])}{' ..' if len(only) > 5 else ''}")
     return None
 
 
@@ -151,11 +169,11 @@ def _parts(texts: Sequence[str]) -> List[str]:
 
 def _texts_differ(label: Label, pair: Tuple[str, str], whose: Tuple[LabelText, LabelText], at: int) -> _How:
     if pair[0] == pair[1]:
-        return _How(ALIKE)
+        return _How(ConflictKind.ALIKE)
     for side in (0, 1):
         for how in _explained(label, pair[side], pair[1 - side], whose[side], at):
             return how._replace(worse=whose[side].field)
-    return _How(DIFFERENT)
+    return _How(ConflictKind.DIFFERENT)
 
 
 def _explained(label: Label, text: str, against: str, label_text: LabelText, at: int) -> Iterator[_How]:
@@ -168,17 +186,17 @@ def _explained(label: Label, text: str, against: str, label_text: LabelText, at:
             continue
         if again == against:
             yield _How(
-                CHARACTERS,
+                ConflictKind.CHARACTERS,
                 f"{label_text.field} is in {word}, which {'is not what it declares' if 'declared' in label_text.guess else 'nothing declares'}",
             )
         if label_text.standard == IPTC and _is_cut(label, again, against, len(octets)):
-            yield _How(CUT, f"{label_text.field} is cut after {len(octets):,} bytes")
+            yield _How(ConflictKind.CUT, f"{label_text.field} is cut after {len(octets):,} bytes")
     if _without_detour(text) == against:
-        yield _How(CHARACTERS, f"{label_text.field} was read in a wrong character set before it was written")
+        yield _How(ConflictKind.CHARACTERS, f"{label_text.field} was read in a wrong character set before it was written")
     if _without_accents(text, against):
-        yield _How(CHARACTERS, f"{label_text.field} has ? for letters that it couldn't write")
+        yield _How(ConflictKind.CHARACTERS, f"{label_text.field} has ? for letters that it couldn't write")
     if label_text.standard == IPTC and _is_cut(label, text, against, len(octets)):
-        yield _How(CUT, f"{label_text.field} is cut after {len(octets):,} bytes")
+        yield _How(ConflictKind.CUT, f"{label_text.field} is cut after {len(octets):,} bytes")
 
 
 def _is_cut(label: Label, text: str, against: str, octets: int) -> bool:

@@ -13,7 +13,7 @@ from ..fields.packing import unpacked
 from ..model import steps
 from ..model.found import EXIF, NAMES
 from ..model.records import KINDS, PICTURES, WORDS, has, kind_of
-from ..model.verdicts import ACCEPTED, joined
+from ..model.sides import Status, joined
 from .differing import equal_form
 
 _BATCH = 1000  # rows that are written at once
@@ -94,14 +94,14 @@ def _counted(row: Tuple[str, str, str, Optional[str], str, Optional[str], Option
     word, name, status, digest, octets, repair, packed = row
     has(str, word, name, status, octets, *(it for it in (digest, repair) if it is not None))
     if packed is None:
-        own = f"whole {digest}" if status == ACCEPTED else None  # its fields aren't kept, so all of it counts
+        own = f"whole {digest}" if status == Status.ACCEPTED else None  # its fields aren't kept, so all of it counts
         return _Counted(kind_of(word), name, own, None, digest or octets, "", own or "", digest or octets, "")
     fields = list(map(_with_exact_xmp, unpacked(packed)))
     block = "" if name in NAMES.values() else name
     counting = choice.of(fields, block)
     counted, meaning, listing = _digest(counting, choice), digest or octets, _sum(fields)
     is_repaired = repair is not None and not steps.loses(steps.unpacked(repair))
-    known = (kind_of(word), name, counted if status == ACCEPTED else None, counted if is_repaired else None, meaning, listing)
+    known = (kind_of(word), name, counted if status == Status.ACCEPTED else None, counted if is_repaired else None, meaning, listing)
     others = [it for it in fields if it[:2] != MAKER_NOTE]
     if len(others) == len(fields):
         return _Counted(*known, counted, meaning, listing)

@@ -21,8 +21,9 @@ from ..model import steps
 from ..model.found import EXIF, NAMES, each_kind
 from ..model.problems import NOT_THERE, Problem
 from ..model.records import KINDS, WORDS, Picture, Stamp, is_marked_as, picture_of_row
-from ..model.verdicts import ABSENT, DIFFERENT, MOVED_NOTE, ONLY_MAKER_NOTE, ONLY_REACHED, SAME, SAME_REPAIRED, clause, listed, none_of
-from .readings import LOST, Readings, Unknown
+from ..model.results import Result
+from ..model.verdicts import clause, listed, none_of
+from .readings import NotKnown, Readings, Unknown
 
 MEANING, BYTES, MAKER_NOTE, REPAIR = "meaning", "bytes", "maker note", "repair"
 FIELDS = "fields"  # the meaning but for the fields left out, by the listing of fields, which is tested and not proved
@@ -64,7 +65,7 @@ class Group:
     reasons: Dict[int, str] = field(default_factory=dict)  # the refusals or repairs of a member, by its number
     others: Dict[int, int] = field(default_factory=dict)  # how many more pictures an earlier group has, of which this member is one
     not_read: str = ""  # the parts that were not read, and have the same bytes
-    result: str = ""  # that `changed` has for two of its pictures, where it isn't decided wholly, or a MakerNote differs
+    result: Optional[Result] = None  # that `changed` has for two of its pictures, where it isn't decided wholly, or a MakerNote differs
     is_partial: bool = False  # they are the same but for fields that are left out
     has_choice: bool = False  # whether fields may be left out
 
@@ -145,7 +146,7 @@ class Group:
 
     def _of_notes(self) -> str:
         """What is known of the MakerNotes."""
-        if self.result == ONLY_REACHED:
+        if self.result == Result.ONLY_REACHED:
             return "; bytes that only the MakerNote can reach differ, MakerNote reads the same (ExifTool)"
         words = ["moved"] * self.has_moved_notes + ["differs in bytes"] * self.has_other_notes
         return f"; MakerNote {', '.join([*words, 'reads the same'])} (ExifTool)"
@@ -153,12 +154,20 @@ class Group:
 
 def _metadata_of(members: Sequence[Picture]) -> str:
     """What is true of the metadata of pictures that may have different ones."""
-    known: Dict[str, List[str]] = {SAME: [], DIFFERENT: [], "refused or unreadable": [], ABSENT: []}
+    known: Dict[str, List[str]] = {Result.SAME: [], Result.DIFFERENT: [], "refused or unreadable": [], Result.ABSENT: []}
     for number, kind in enumerate(KINDS):
         meanings = {it.meanings[number] for it in members}
-        word = ABSENT if meanings == {""} else "refused or unreadable" if None in meanings else SAME if len(meanings) == 1 else DIFFERENT
+        word = (
+            Result.ABSENT
+            if meanings == {""}
+            else "refused or unreadable"
+            if None in meanings
+            else Result.SAME
+            if len(meanings) == 1
+            else Result.DIFFERENT
+        )
         known[word].append(kind)
-    none = none_of(known.pop(ABSENT))
+    none = none_of(known.pop(Result.ABSENT))
     text = ", ".join([*(clause(kinds, word, False) for word, kinds in known.items() if kinds), *none])
     unread = {it.not_read for it in members}
     return text if unread != {None} and len(unread) == 1 else f"{text}; a part that was not read may differ"
@@ -464,7 +473,7 @@ def _by_maker_notes(group: Group, readings: Readings) -> Iterator[Group]:
             by_reading.setdefault(reading.key, []).append(picture)
     lost = sum(_note_of(it) not in written for it in group.lost)
     if lost:
-        readings.unknown[LOST] += lost
+        readings.unknown[NotKnown.LOST] += lost
     for pictures in by_reading.values():
         part = _part_of(group, pictures)
         if not part.has_other_notes and len({it.not_read for it in pictures}) == 1:
@@ -478,13 +487,13 @@ def _part_of(group: Group, pictures: List[Picture]) -> Group:
     return replace(group, members=pictures, links=[it for it in group.links if it.of in here], lost=[], reasons={}, others={})
 
 
-def _result(group: Group) -> str:
+def _result(group: Group) -> Optional[Result]:
     """What `changed` says of two pictures of a group, where a repair or a MakerNote counts."""
     if group.basis != MAKER_NOTE:
-        return SAME_REPAIRED if group.basis == REPAIR else ""
+        return Result.SAME_REPAIRED if group.basis == REPAIR else None
     if group.has_moved_notes:
-        return MOVED_NOTE
-    return ONLY_MAKER_NOTE if group.has_other_notes else ONLY_REACHED
+        return Result.MOVED_NOTE
+    return Result.ONLY_MAKER_NOTE if group.has_other_notes else Result.ONLY_REACHED
 
 
 def _meaning(picture: Picture) -> Optional[str]:

@@ -18,7 +18,7 @@ from ..model.found import NotRead
 from ..model.problems import NOT_THERE
 from ..model.records import PICTURES, Block, Picture, block_of_row, not_read_of_row, picture_of_row
 from ..scan.moved import content_key
-from . import coded
+from .coded import SQL, Coded
 
 BEFORE, AFTER = 0, 1  # the two sides
 _BASES, _ALIASES = ("before", "after"), ("old", "new")
@@ -197,17 +197,17 @@ class Pairs:
         query = f"SELECT count(*) FROM before.pictures AS old WHERE {_is_there('old')} AND {self._is_chosen(BEFORE)}"
         return next(self._rows(query, lambda row: int(row[0])))
 
-    def coded(self) -> "Counter[str]":
+    def coded(self) -> "Counter[Coded]":
         """How many pictures that are on both sides have the same coded picture, another one, and so on."""
         pictures = (
             f"FROM before.pictures AS old JOIN after.pictures AS new ON new.path = {self._other_path(BEFORE)}"
             f" WHERE old.problem IS NULL AND new.problem IS NULL AND {self._is_chosen(BEFORE)}"
         )
         known = [f"SELECT 1 FROM {base}.pictures WHERE coded_picture != '' OR sha256 != '' LIMIT 1" for base in _BASES]
-        result = f"'{coded.UNKNOWN}'"
+        result = f"'{Coded.UNKNOWN}'"
         if all(next(self._rows(it, bool), False) for it in known):
-            result = coded.SQL
-        return Counter(dict(self._rows(f"SELECT {result}, count(*) {pictures} GROUP BY 1", lambda row: (str(row[0]), int(row[1])))))
+            result = SQL
+        return Counter(dict(self._rows(f"SELECT {result}, count(*) {pictures} GROUP BY 1", lambda row: (Coded(row[0]), int(row[1])))))
 
     def blocks(self, side: int, picture: Picture) -> List[Block]:
         """A picture's blocks."""

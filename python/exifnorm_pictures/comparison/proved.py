@@ -12,10 +12,10 @@ from ..extract.formats.jpeg_segments import read_head
 from ..extract.formats.streams import File, Parts
 from ..files.opening import opened
 from ..model.budgets import Budget, TooMuch
-from ..model.verdicts import DIFFERENT, NOT_WHOLLY_READ, SAME
+from ..model.results import Result
 
 
-def answer(head: Optional[bytes], other: Optional[bytes]) -> Optional[str]:
+def answer(head: Optional[bytes], other: Optional[bytes]) -> Optional[Result]:
     """`SAME`, `DIFFERENT`, or `NOT_WHOLLY_READ`: the same as far as it was read. None if the library has no answer: one of the two is no JPEG,
     has a damaged head or a block that is refused, or can't be read."""
     if head is None or other is None:
@@ -25,8 +25,8 @@ def answer(head: Optional[bytes], other: Optional[bytes]) -> Optional[str]:
     except exifnorm.PictureRefused:
         return None
     if isinstance(result, exifnorm.NotRead):
-        return NOT_WHOLLY_READ
-    return SAME if result else DIFFERENT
+        return Result.NOT_WHOLLY_READ
+    return Result.SAME if result else Result.DIFFERENT
 
 
 def head_of(picture: Parts) -> Optional[bytes]:

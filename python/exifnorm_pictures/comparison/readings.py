@@ -9,30 +9,41 @@ from typing import TYPE_CHECKING, Dict, Iterable, NamedTuple, Optional, Set
 from ..catalogue.store import Catalogue
 from ..files.session import Session
 from ..model.records import Picture
+from ..model.words import Word
 
 if TYPE_CHECKING:
     from ..judge import maker_notes
 
-# Why it isn't known whether ExifTool reads the same of some MakerNotes
-NOT_LOOKED_AT, NO_EXIFTOOL, LOST, IN_DOUBT, FAILED = "not looked at", "no ExifTool", "gone or changed", "in doubt", "failed"
-WHY = {
-    NOT_LOOKED_AT: "with --no-look ExifTool isn't asked",
-    NO_EXIFTOOL: "ExifTool isn't installed (Debian: libimage-exiftool-perl)",
-    LOST: "the file is gone or has changed",
-    IN_DOUBT: "ExifTool warns of the MakerNote, or reads nothing of it",
-    FAILED: "ExifTool fails at the file",
-}
-Unknown = Counter[str]  # pictures, by such a reason
+
+class NotKnown(Word):
+    """Why it isn't known whether ExifTool reads the same of some MakerNotes."""
+
+    text: str  # for people
+
+    def __new__(cls, word: str, text: str) -> "NotKnown":
+        reason = str.__new__(cls, word)
+        reason._value_ = word
+        reason.text = text
+        return reason
+
+    NOT_LOOKED_AT = ("not looked at", "with --no-look ExifTool isn't asked")
+    NO_EXIFTOOL = ("no ExifTool", "ExifTool isn't installed (Debian: libimage-exiftool-perl)")
+    LOST = ("gone or changed", "the file is gone or has changed")
+    IN_DOUBT = ("in doubt", "ExifTool warns of the MakerNote, or reads nothing of it")
+    FAILED = ("failed", "ExifTool fails at the file")
+
+
+Unknown = Counter[NotKnown]  # pictures, by such a reason
 
 
 def of_unknown(unknown: Unknown) -> str:
     """How many pictures may be in a group that rests on MakerNotes, and why nobody knows.
 
-    >>> of_unknown(Counter({LOST: 1}))
+    >>> of_unknown(Counter({NotKnown.LOST: 1}))
     '1 picture may be the same as others but for MakerNotes: the file is gone or has changed'
     """
     count = sum(unknown.values())
-    reasons = [f"{WHY[it]} ({number:,})" if number < count else WHY[it] for it, number in unknown.items()]
+    reasons = [f"{it.text} ({number:,})" if number < count else it.text for it, number in unknown.items()]
     return f"{count:,} picture{'s' * (count > 1)} may be the same as others but for MakerNotes: {', '.join(reasons)}"
 
 
@@ -78,6 +89,7 @@ class Readings:
             return
         self._counted.add(picture.id)
         if self._known.get(asked.id):
-            self.unknown[IN_DOUBT] += 1
+            self.unknown[NotKnown.IN_DOUBT] += 1
         else:
-            self.unknown[FAILED if asked.id in self._known else NO_EXIFTOOL if self.look else NOT_LOOKED_AT] += 1
+            no_reading = NotKnown.NO_EXIFTOOL if self.look else NotKnown.NOT_LOOKED_AT
+            self.unknown[NotKnown.FAILED if asked.id in self._known else no_reading] += 1

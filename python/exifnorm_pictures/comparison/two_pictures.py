@@ -18,12 +18,12 @@ from ..judge.sides import Fresh
 from ..model.found import EXIF, IPTC, NAMES
 from ..model.problems import Problem
 from ..model.records import KINDS, Picture, Stamp
-from ..model.verdicts import ABSENT, DIFFERENT, SAME
+from ..model.results import Result
 from ..scan.batches import How
 from ..scan.looking import look
 from ..scan.walk import FoundFile
 from . import proved
-from .changed import DAMAGED, OTHER_PICTURE_ALONE, Compared, compared
+from .changed import Compared, compared
 from .differing import Difference, exact
 from .pairs import Pair
 
@@ -54,12 +54,12 @@ class Comparison:
     found: Compared
     is_identical: bool  # whether the files have the same bytes
     has_only_fields: bool  # whether only some fields were compared, and no pictures
-    proved: Optional[str]  # of the Exif and IPTC in the heads of two JPEGs: see `proved.answer`
+    proved: Optional[Result]  # of the Exif and IPTC in the heads of two JPEGs: see `proved.answer`
 
     @property
-    def result(self) -> str:
+    def result(self) -> Result:
         """The result as `changed` has it. Two files with the same bytes are the same, whatever was read of them."""
-        return SAME if self.is_identical else self.found.result
+        return Result.SAME if self.is_identical else self.found.result
 
     @property
     def left_out(self) -> List[str]:
@@ -69,10 +69,10 @@ class Comparison:
     @property
     def is_empty(self) -> bool:
         """Whether neither picture has metadata."""
-        is_other = self.found.result in (DAMAGED, OTHER_PICTURE_ALONE)
+        is_other = self.found.result in (Result.DAMAGED, Result.OTHER_PICTURE_ALONE)
         return (
             not is_other
-            and all(it.result == ABSENT for it in self.found.verdicts)
+            and all(it.result == Result.ABSENT for it in self.found.verdicts)
             and not any(it.problem or it.unread for it in self.records)
         )
 
@@ -103,11 +103,11 @@ def compare(
     return Comparison((picture, other), by_metadata, is_identical, bool(choice.only), answer)
 
 
-def _proved(comparison: Compared, heads: Heads) -> Optional[str]:
+def _proved(comparison: Compared, heads: Heads) -> Optional[Result]:
     """The answer of the library's proved comparison, of which the result must not say otherwise."""
     answer = proved.answer(*heads)
     kinds = [it.result for it in comparison.verdicts if it.kind in (EXIF, IPTC)]
-    if answer == DIFFERENT and kinds and all(it in (SAME, ABSENT) for it in kinds):
+    if answer == Result.DIFFERENT and kinds and all(it in (Result.SAME, Result.ABSENT) for it in kinds):
         raise AssertionError("the Exif or the IPTC of the two differ by the proved comparison, and are the same by the tested one")
     return answer
 

@@ -7,56 +7,64 @@ from typing import Iterator, NamedTuple, Optional, Sequence, Tuple
 from ..catalogue.store import PICTURE_COLUMNS, Catalogue
 from ..model.problems import NOT_THERE, TEXTS
 from ..model.records import Picture, picture_of_row
-from ..model.verdicts import SAME, result, verdicts
+from ..model.results import Result
+from ..model.verdicts import result_of, verdicts
+from ..model.words import Word
 
-AS_IT_WAS, CAPTIONED, AGAIN, MOVED = "as they were", "captioned", "written again", "moved"
-OTHER, OTHER_FILE, ROTTED, CUT, MISSING = "other picture", "other file", "DAMAGED", "cut off", "missing"
-UNREADABLE, NO_DIGEST = "can't be read", "without a digest"
 
-WORDS = {
-    AS_IT_WAS: "files as they were",
-    CAPTIONED: "captioned: other metadata, the same picture",
-    AGAIN: "written again: the same metadata, the same picture",
-    MOVED: "moved: the same file under another name",
-    OTHER: "edited or replaced: other picture, and a later time",
-    OTHER_FILE: "written since: other bytes, in a format whose pictures aren't compared",
-    ROTTED: "DAMAGED: other bytes, though nothing was written",
-    CUT: "DAMAGED: the file is cut off or broken",
-    MISSING: "missing",
-    UNREADABLE: "can't be read now",
-    NO_DIGEST: "without a digest in the catalogue, so nothing is known: index --pixels adds it",
-}
-BAD, UNKNOWN = (OTHER, OTHER_FILE, ROTTED, CUT, MISSING), (UNREADABLE, NO_DIGEST)
+class State(Word):
+    """What a file is now."""
+
+    text: str  # of how many it is true
+    is_good: Optional[bool]  # whether its picture is as it was; None: nobody knows
+
+    def __new__(cls, word: str, text: str, is_good: Optional[bool]) -> "State":
+        state = str.__new__(cls, word)
+        state._value_ = word
+        state.text, state.is_good = text, is_good
+        return state
+
+    AS_IT_WAS = ("as they were", "files as they were", True)
+    CAPTIONED = ("captioned", "captioned: other metadata, the same picture", True)
+    AGAIN = ("written again", "written again: the same metadata, the same picture", True)
+    MOVED = ("moved", "moved: the same file under another name", True)
+    OTHER = ("other picture", "edited or replaced: other picture, and a later time", False)
+    OTHER_FILE = ("other file", "written since: other bytes, in a format whose pictures aren't compared", False)
+    ROTTED = ("DAMAGED", "DAMAGED: other bytes, though nothing was written", False)
+    CUT = ("cut off", "DAMAGED: the file is cut off or broken", False)
+    MISSING = ("missing", "missing", False)
+    UNREADABLE = ("can't be read", "can't be read now", None)
+    NO_DIGEST = ("without a digest", "without a digest in the catalogue, so nothing is known: index --pixels adds it", None)
 
 
 class Verified(NamedTuple):
     """A file of the catalogue, and what it is now."""
 
     path: bytes
-    state: str
+    state: State
     note: str = ""
     place: Optional[bytes] = None  # where it is now, or where the same picture is
 
 
-def state_of(before: Picture, now: Picture) -> Tuple[str, str]:
+def state_of(before: Picture, now: Picture) -> Tuple[State, str]:
     """The state of a file that is there, and more words about it."""
     if not now.sha256:
-        return UNREADABLE, now.detail or TEXTS.get(now.problem or "", "")
+        return State.UNREADABLE, now.detail or TEXTS.get(now.problem or "", "")
     if not before.sha256:
-        return NO_DIGEST, ""
+        return State.NO_DIGEST, ""
     if now.sha256 == before.sha256:
-        return AS_IT_WAS, now.damage and f"damaged before, too: {now.damage}"
+        return State.AS_IT_WAS, now.damage and f"damaged before, too: {now.damage}"
     if now.damage and not before.damage:
-        return CUT, now.damage
+        return State.CUT, now.damage
     is_same_picture = bool(before.coded_picture) and now.coded_picture == before.coded_picture
     if now.marks == before.marks:  # an edit has another ctime at least
-        return ROTTED, "in its metadata" * is_same_picture
+        return State.ROTTED, "in its metadata" * is_same_picture
     if is_same_picture:
-        same = result(verdicts(before.sides(), now.sides())) == SAME and before.not_read == now.not_read is not None
-        return (AGAIN if same else CAPTIONED), ""
+        same = result_of(verdicts(before.sides(), now.sides())) == Result.SAME and before.not_read == now.not_read is not None
+        return (State.AGAIN if same else State.CAPTIONED), ""
     if (now.size, now.modified) == (before.size, before.modified):
-        return ROTTED, "size and time are as before"
-    return (OTHER, "") if before.coded_picture and now.coded_picture else (OTHER_FILE, "")
+        return State.ROTTED, "size and time are as before"
+    return (State.OTHER, "") if before.coded_picture and now.coded_picture else (State.OTHER_FILE, "")
 
 
 def verified(before: Catalogue, now: Catalogue, folders: Sequence[bytes]) -> Iterator[Verified]:
@@ -88,11 +96,11 @@ def _gone(before: Catalogue, now: Catalogue, picture: Picture) -> Verified:
         known = None
         for (path,) in places:
             if not before.has(path):
-                return Verified(picture.path, MOVED, "captioned, too" if column == "coded_picture" else "", path)
+                return Verified(picture.path, State.MOVED, "captioned, too" if column == "coded_picture" else "", path)
             known = known or path
         if known:
-            return Verified(picture.path, MISSING, words, known)
-    return Verified(picture.path, MISSING)
+            return Verified(picture.path, State.MISSING, words, known)
+    return Verified(picture.path, State.MISSING)
 
 
 def new_files(before: Catalogue, now: Catalogue) -> int:

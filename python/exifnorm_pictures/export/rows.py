@@ -8,7 +8,7 @@ from typing import Iterator, List, Optional, Sequence, Tuple
 
 from ..catalogue.store import Catalogue
 from ..catalogue.texts import texts_of
-from ..comparison.conflicts import ALIKE, conflicts
+from ..comparison.conflicts import conflicts
 from ..comparison.groups import Fewest, groups
 from ..comparison.keeping import Keep, keeping
 from ..fields.labels import LabelText
@@ -69,7 +69,7 @@ class Export:
         self.missing += bool(texts.missing)
         rows = [*_text_rows(texts.texts), *((word, *(None,) * 6) for word in sorted(texts.missing))]
         self.tables.add("captions", ((picture.id, at, *row) for at, row in enumerate(rows)))
-        known = [one for one in conflicts(texts.texts) if one.kind != ALIKE and one.label not in texts.missing]
+        known = [one for one in conflicts(texts.texts) if not one.is_alike and one.label not in texts.missing]
         self.tables.add("conflicts", ((picture.id, one.label, one.kind, one.detail or None) for one in known))
 
 

@@ -14,8 +14,8 @@ from ..fields.packing import is_short, left_out, length, packed
 from ..model import steps
 from ..model.budgets import KEPT_BYTES, Budget
 from ..model.found import COMPRESSED, EXIF, FEW, IPTC, NAMES, XMP, Blocks, FoundBlock
-from ..model.records import FAILED, TOO_LONG, Block
-from ..model.verdicts import ACCEPTED, REFUSED, UNREADABLE
+from ..model.records import Block
+from ..model.sides import Status
 
 _BY_ITSELF = FoundBlock("", b"", "", "")  # where a block is that was given without a picture
 
@@ -29,14 +29,14 @@ def judge(kind: str, block: bytes, packs: bool = False, at: FoundBlock = _BY_ITS
     try:
         form = exifnorm.normal(block)
     except exifnorm.Refused as refused:
-        result = Block(kind, *at[2:5], REFUSED, None, refused.cause, refused.place, len(block), octets)
+        result = Block(kind, *at[2:5], Status.REFUSED, None, refused.cause, refused.place, len(block), octets)
         return _repaired(result, block, packs, budget) if kind == EXIF else result
     except exifnorm.NormalTooLong:
-        return Block(kind, *at[2:5], TOO_LONG, None, "NormalTooLong", None, len(block), octets)
+        return Block(kind, *at[2:5], Status.TOO_LONG, None, "NormalTooLong", None, len(block), octets)
     except MemoryError:
-        return Block(kind, *at[2:5], FAILED, None, "OutOfMemory", None, len(block), octets)
+        return Block(kind, *at[2:5], Status.FAILED, None, "OutOfMemory", None, len(block), octets)
     digest = octets if form == block else hashlib.sha256(form).hexdigest()
-    return _with_fields(Block(kind, *at[2:5], ACCEPTED, digest, None, None, len(block), octets), Fields(form), packs)
+    return _with_fields(Block(kind, *at[2:5], Status.ACCEPTED, digest, None, None, len(block), octets), Fields(form), packs)
 
 
 def _with_fields(block: Block, fields: Fields, packs: bool) -> Block:
@@ -183,9 +183,9 @@ def _judge_xmp(at: FoundBlock, extensions: xmp.Extensions, left: Dict[str, bytes
         left.pop(name, None)
     if statements is None:
         return _unreadable(XMP, at, len(at.data), octets.hexdigest(), cause)
-    result = Block(XMP, *at[2:5], ACCEPTED, xmp.digest(statements), None, None, len(at.data), octets.hexdigest())
+    result = Block(XMP, *at[2:5], Status.ACCEPTED, xmp.digest(statements), None, None, len(at.data), octets.hexdigest())
     return _with_fields(result, Fields(statements), packs)
 
 
 def _unreadable(kind: str, at: FoundBlock, length: int, octets: str, cause: str) -> Block:
-    return Block(kind, *at[2:5], UNREADABLE, None, cause, None, length, octets)
+    return Block(kind, *at[2:5], Status.UNREADABLE, None, cause, None, length, octets)

@@ -11,7 +11,6 @@ from ..fields.labels import STANDARDS, LabelText, camera_of, of_block, with_own
 from ..model.budgets import TooMuch
 from ..model.found import EXIF, NAMES, Blocks, FoundBlock, damage
 from ..model.records import Block
-from ..model.verdicts import ACCEPTED
 from .judge import judge_all
 
 
@@ -50,7 +49,7 @@ class Reading:
     @property
     def is_damaged(self) -> bool:
         """Whether the status of a command says that not everything is known."""
-        return bool(self.problem or damage(self.not_read)) or any(it.status != ACCEPTED for it in self.blocks)
+        return bool(self.problem or damage(self.not_read)) or any(not it.is_accepted for it in self.blocks)
 
     @property
     def texts(self) -> List[LabelText]:

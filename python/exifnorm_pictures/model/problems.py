@@ -2,8 +2,10 @@
 
 from __future__ import annotations
 
-from enum import Enum, Flag, auto
+from enum import Flag, auto
 from typing import Tuple
+
+from .words import Word
 
 
 class Follows(Flag):
@@ -17,7 +19,7 @@ class Follows(Flag):
     AGAIN = auto()  # it may be solved although the file is the same: it is looked at again
 
 
-class Problem(str, Enum):
+class Problem(Word):
     """A problem. It is its word, as JSON and catalogues have it: `Problem.VANISHED == "Vanished"`."""
 
     text: str  # for people
@@ -30,11 +32,6 @@ class Problem(str, Enum):
         problem._value_ = word
         problem.text, problem.counted, problem.follows, problem.program = text, counted, follows, program
         return problem
-
-    __str__, __hash__ = str.__str__, str.__hash__
-
-    def __format__(self, form: str) -> str:
-        return str.__format__(self, form)
 
     NO_PICTURE = ("NoPicture", "the file is no picture that ExifTool knows", "no picture", Follows.NOTHING)
     UNREADABLE = ("Unreadable", "the file can't be read", "not readable", Follows.NO_BYTES | Follows.FAILED | Follows.AGAIN)

@@ -11,7 +11,7 @@ from typing import Annotated, Any, Dict, Iterable, List, NamedTuple, Optional, S
 from .columns import Columns, Damaged, Is, check
 from .found import EXIF, EXIFTOOL, IPTC, PROGRAMS, XMP, Blocks, NotRead
 from .steps import Step, loses, unpacked
-from .verdicts import ABSENT, ACCEPTED, REACHED, REFUSED, UNREADABLE, Side, joined, side_of
+from .sides import REACHED, Side, Status, joined, side_of
 
 KINDS = (EXIF, IPTC, XMP)
 WORDS = {EXIF: "exif", IPTC: "iptc", XMP: "xmp"}  # the names for people and in the catalogue: archivists know IPTC, the engine IIM
@@ -28,7 +28,7 @@ class Block(NamedTuple):
     name: Annotated[str, "Exif, IPTC, XMP; of further blocks a name of their own"]  # `second Exif`, `page 2`
     source: Annotated[str, "its position in the file"]
     extractor: Annotated[str, "own, exiftool, exiv2"]
-    status: Annotated[str, "accepted, refused, unreadable, too long, failed"]
+    status: Annotated[str, ", ".join(it for it in Status if it != Status.ABSENT)]
     digest: Annotated[Optional[str], "SHA-256 of the normal form, or of the statements of XMP; only of an accepted block"]
     cause: Annotated[Optional[str], "of a block that isn't accepted: docs/FORMAT.md, section 5, or a cause of XMP"]
     place: Annotated[Optional[int], ""]
@@ -55,6 +55,11 @@ class Block(NamedTuple):
         return (WORDS[self.kind], *self[1:_BLOCK_WIDTH])
 
     @property
+    def is_accepted(self) -> bool:
+        """Whether it has a normal form, or its packet can be read."""
+        return self.status == Status.ACCEPTED
+
+    @property
     def steps(self) -> Tuple[Step, ...]:
         """The steps of its repair."""
         return unpacked(self.repair)
@@ -72,13 +77,13 @@ class Block(NamedTuple):
     @property
     def line(self) -> str:
         """The result in a line, as the program `exifnorm check` puts it."""
-        if self.status == ACCEPTED:
+        if self.is_accepted:
             return f"ok {self.kind}"
-        if self.status == UNREADABLE:
+        if self.status == Status.UNREADABLE:
             return f"unreadable: {self.cause}"
-        if self.status == REFUSED:
+        if self.status == Status.REFUSED:
             return f"refused: {self.cause} at {self.place}"
-        return "refused: NormalTooLong" if self.status == TOO_LONG else "failed: OutOfMemory"
+        return "refused: NormalTooLong" if self.status == Status.TOO_LONG else "failed: OutOfMemory"
 
 
 _LEAST, _GREATEST = -(1 << 63), (1 << 63) - 1
@@ -232,13 +237,15 @@ class Picture(NamedTuple):
         """One word for the whole picture: a problem, `refused`, `accepted`, or `no block`; and whether the problem was there before."""
         if self.problem:
             return self.problem + AS_BEFORE * self.is_known
-        return REFUSED if None in self.meanings else ACCEPTED if any(self.meanings) else "no block"
+        if None in self.meanings:
+            return str(Status.REFUSED)
+        return str(Status.ACCEPTED) if any(self.meanings) else "no block"
 
     def sides(self) -> Dict[str, Side]:
         """The digest of its meaning, for each kind of block."""
         by_kind = {}
         for kind, digest, octets in zip(KINDS, self.meanings, self.octets):
-            status = ABSENT if digest == "" else ACCEPTED if digest else UNREADABLE if kind == XMP else REFUSED
+            status = Status.ABSENT if digest == "" else Status.ACCEPTED if digest else Status.UNREADABLE if kind == XMP else Status.REFUSED
             by_kind[kind] = Side(status, digest or "", octets, (self.exif_repaired or "") if kind == EXIF else "")
         return by_kind
 
@@ -270,7 +277,7 @@ def _compared(problem: Optional[str], blocks: Sequence[Block], unread: Sequence[
     sides = [side_of(ours) for ours in by_kind.values()]
     known: Dict[str, Any] = {}
     for word, side in zip(WORDS.values(), sides):
-        known[word] = side.digest if side.status == ACCEPTED else "" if side.status == ABSENT else None
+        known[word] = side.digest if side.status == Status.ACCEPTED else "" if side.status == Status.ABSENT else None
         known[f"{word}_octets"] = side.octets
     known["not_read"] = known["other_not_read"] = _parts_digest(unread)
     if known["not_read"]:

@@ -9,7 +9,7 @@ from ..judge.judge import judge, judge_packet
 from ..model.found import XMP
 from ..model.records import Block
 from ..model.texts import Members
-from ..model.verdicts import REFUSED
+from ..model.sides import Status
 from .causes import CAUSES, Cause, Facts, words_of
 from .layout import EntryAt, Layout, Part, hexadecimal
 
@@ -79,7 +79,7 @@ def explain(kind: str, block: bytes) -> Explanation:
     if kind == XMP:
         return explain_packet(judge_packet(block))
     judgement = judge(kind, block)
-    cause = CAUSES.get(judgement.cause or "") if judgement.status == REFUSED else None
+    cause = CAUSES.get(judgement.cause or "") if judgement.status == Status.REFUSED else None
     if cause is None or judgement.place is None:
         words = words_of(judgement.cause or "") if cause is None else None
         return Explanation(kind, judgement, cause, [words[0], f"Remedy: {words[1]}"] if words else [])

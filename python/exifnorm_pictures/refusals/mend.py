@@ -18,7 +18,6 @@ from ..model.budgets import MENDED_BYTES, TooMuch
 from ..model.found import EXIF, REST, Blocks, damage
 from ..model.steps import Step, loses
 from ..model.texts import reason, shown_path
-from ..model.verdicts import ACCEPTED
 from . import repaired_file
 from .repaired_file import KINDS
 
@@ -168,7 +167,7 @@ def _put(octets: bytes, picture: bytes, out: bytes, check: Callable[[bytes], Non
 
 def _refusals(taken: Blocks) -> Dict[str, str]:
     """The refusal of each block that isn't accepted, by the block's name."""
-    return {it.name: it.line for it in judge_all(taken) if it.status != ACCEPTED}
+    return {it.name: it.line for it in judge_all(taken) if not it.is_accepted}
 
 
 Attempt = Tuple[str, str, List[str], List[str]]

@@ -10,6 +10,7 @@ from typing import Any, Dict, Iterator, List, Optional, Sequence, Set, Tuple
 
 from ..catalogue.store import Catalogue, Run
 from ..comparison import changed, groups
+from ..comparison.coded import Coded
 from ..comparison.conflicts import Conflict
 from ..comparison.differing import bare
 from ..comparison.readings import Unknown
@@ -19,9 +20,11 @@ from ..fields.left_out import lines
 from ..files.session import Session
 from ..model.problems import Problem
 from ..model.records import WORDS, Picture, has, kind_of
+from ..model.results import Result
 from ..model.texts import Members, path_members, shown_path
 from .contradictions import Contradictions, checked, texts
 
+_ORDER = {result: number for number, result in enumerate(Result)}
 # what a page has of each list
 MOST_GROUPS, MOST_OF_GROUP, MOST_CHANGES, MOST_REFUSED, MOST_NAMES, MOST_CONTRADICTIONS = 40, 12, 300, 60, 60, 60
 
@@ -88,10 +91,10 @@ class Gathered:
     all_groups: Tuple[int, int] = (0, 0)  # groups, and pictures in them
     unknown: Unknown = field(default_factory=Counter)  # pictures that may be in a group by their MakerNotes, by why nobody knows
     contradictions: Contradictions = field(default_factory=Contradictions)
-    results: "Counter[str]" = field(default_factory=Counter)
+    results: "Counter[Result]" = field(default_factory=Counter)
     changed: List[EqualChanges] = field(default_factory=list)
     all_changed: int = 0  # different changes
-    coded: "Counter[str]" = field(default_factory=Counter)  # what is known of the coded pictures of both catalogues
+    coded: "Counter[Coded]" = field(default_factory=Counter)  # what is known of the coded pictures of both catalogues
     fields: "Counter[str]" = field(default_factory=Counter)
     since: bool = False
     left_out: List[str] = field(default_factory=list)  # lines about what differs and is left out
@@ -191,7 +194,7 @@ def _gather_changes(contents: Gathered, about: About) -> None:
         pictures=contents.coded,
     )
     for comparison in found_changes:
-        if comparison.result in changed.UNCHANGED:
+        if comparison.result.has_changed is False:
             continue
         contents.fields.update({change.name for change in comparison.changes})
         to = f"to {shown_path(comparison.moved_to)}" if comparison.moved_to is not None else ""
@@ -203,7 +206,7 @@ def _gather_changes(contents: Gathered, about: About) -> None:
             result, note, lines = json.loads(text)
             contents.all_changed += 1
             kept = [name for name, _ in zip(names, range(MOST_NAMES))]
-            yield changed.RESULTS.index(result), -count, number, EqualChanges(result, note, lines, count, kept)
+            yield _ORDER[result], -count, number, EqualChanges(result, note, lines, count, kept)
 
     contents.changed = [it[3] for it in heapq.nsmallest(MOST_CHANGES, heads(), key=lambda it: it[:3])]
     equal.close()
@@ -258,11 +261,11 @@ def _conflict_members(conflict: Conflict) -> Members:
 
 def _changed_members(about: About) -> Iterator[Members]:
     assert about.old is not None
-    results: "Counter[str]" = Counter()
+    results: "Counter[Result]" = Counter()
     fields: "Counter[str]" = Counter()
     about.choice.left_out.clear()  # of the page
     for comparison in changed.changed(about.old, about.catalogue, results, about.only, session=about.session, choice=about.choice):
-        if comparison.result in changed.UNCHANGED:
+        if comparison.result.has_changed is False:
             continue
         fields.update({change.change_name for change in comparison.changes})
         changes = [{"name": one.change_name, "before": bare(one.before), "after": bare(one.after)} for one in comparison.changes]

@@ -11,11 +11,10 @@ from typing import Dict, Iterator, List, NamedTuple, Tuple
 
 from ..catalogue.store import Catalogue
 from ..catalogue.texts import PictureTexts, texts_of
-from ..comparison.conflicts import ALIKE, Conflict, conflicts
+from ..comparison.conflicts import Conflict, conflicts
 from ..fields.labels import COMMENT, STANDARDS, WORDS
 from ..fields.block_fields import with_fields
 from ..model.records import Block, Picture
-from ..model.verdicts import ACCEPTED
 
 _COMPARED = tuple(it for it in WORDS if it != COMMENT)
 
@@ -68,8 +67,8 @@ def checked(catalogue: Catalogue, pictures: Iterator[Picture]) -> Iterator[Check
 
 
 def _checked(picture: Picture, blocks: List[Block], texts: PictureTexts) -> Checked:
-    known = [one for one in conflicts(texts.texts) if one.kind != ALIKE and one.label not in texts.missing]
-    is_whole = not texts.missing and all(one.status == ACCEPTED or one.repair for one in blocks)
+    known = [one for one in conflicts(texts.texts) if not one.is_alike and one.label not in texts.missing]
+    is_whole = not texts.missing and all(one.is_accepted or one.repair for one in blocks)
     return Checked(picture.path, known, is_whole)
 
 

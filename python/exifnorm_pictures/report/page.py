@@ -7,15 +7,16 @@ from __future__ import annotations
 
 from datetime import datetime, timezone
 from html import escape
-from typing import Dict, List, Optional, Tuple
+from typing import Dict, List, Optional, Sequence, Tuple
 
-from ..comparison import changed, coded
+from ..comparison import changed
+from ..comparison.coded import sentence as sentence_of_coded
 from ..comparison.conflicts import Conflict
 from ..comparison.readings import of_unknown
 from ..fields.labels import STANDARDS
 from ..fields.left_out import of_maker_notes
 from ..files.session import Session
-from ..model import verdicts
+from ..model.results import Result
 from ..model.problems import COUNTED, TEXTS
 from ..model.texts import escaped, safe, shown_path
 from ..refusals.causes import CAUSES, words_of
@@ -111,7 +112,7 @@ def _share(contents: Gathered) -> str:
     return f'<svg class="share" viewBox="0 0 1000 22" preserveAspectRatio="none" role="img">{"".join(parts)}</svg>'
 
 
-def _bars(counts: List[Tuple[str, int]], tone: str, tones: Optional[Dict[str, str]] = None) -> str:
+def _bars(counts: Sequence[Tuple[str, int]], tone: str, tones: Optional[Dict[str, str]] = None) -> str:
     """Counts as bars with their names before them, all of one tone except those that have their own."""
     if not counts:
         return ""
@@ -128,19 +129,19 @@ def _bars(counts: List[Tuple[str, int]], tone: str, tones: Optional[Dict[str, st
     return f'<svg class="bars" viewBox="0 0 720 {26 * len(counts)}" role="img">{"".join(rows)}</svg>'
 
 
-_RESULT_TONES = {
-    verdicts.SAME: "good",
-    verdicts.ONLY_MAKER_NOTE: "plain",
-    changed.SAME_FILE: "plain",
-    changed.REFUSED_SAME: "plain",
-    verdicts.REFUSED: "bad",
-    changed.NOT_READ: "bad",
-    changed.DAMAGED: "bad",
+_RESULT_TONES: Dict[str, str] = {
+    Result.SAME: "good",
+    Result.ONLY_MAKER_NOTE: "plain",
+    Result.SAME_FILE: "plain",
+    Result.REFUSED_SAME: "plain",
+    Result.REFUSED: "bad",
+    Result.NOT_READ: "bad",
+    Result.DAMAGED: "bad",
 }
 
 
 def _changes(contents: Gathered) -> str:
-    results = [(it, contents.results[it]) for it in changed.RESULTS if contents.results[it]]
+    results = [(it, contents.results[it]) for it in Result if contents.results[it]]
     parts = ["<section><h2>What changed</h2>", _bars(results, "odd", _RESULT_TONES)]
     if contents.fields:
         parts += ["<h3>Fields that differ, by number of pictures</h3>", _bars(contents.fields.most_common(20), "odd")]
@@ -150,7 +151,7 @@ def _changes(contents: Gathered) -> str:
     parts.append(_more(contents.all_changed, MOST_CHANGES, "differences"))
     if not contents.changed:
         parts.append("<p>Nothing has changed.</p>")
-    sentence = coded.sentence(contents.coded)
+    sentence = sentence_of_coded(contents.coded)
     parts += [f"<p>{_text(sentence)}</p>"] * bool(sentence)
     parts += [f"<p>{_text(it)}</p>" for it in contents.left_out]
     return "".join(parts) + "</section>\n"

@@ -1,0 +1,95 @@
+"""What a comparison finds: each result with its word, and what it says."""
+
+from __future__ import annotations
+
+from typing import Optional
+
+from .words import Word
+
+
+class Result(Word):
+    """The result for a kind of block, for two pictures, or for the pictures of a group. It is its word, as JSON has it, and `changed` prints
+    the results in this order: `Result.SAME == "same"`."""
+
+    has_changed: Optional[bool]  # between two states of an archive; None: nobody knows
+    sentence: str  # of `compare`; empty where it counts the fields, and where no two pictures have it
+    are_pictures: bool  # False: neither file is one
+    is_equal: bool  # whether the metadata are the same, or refused with the same bytes
+
+    def __new__(
+        cls, word: str, has_changed: Optional[bool], sentence: str = "", are_pictures: bool = True, is_equal: bool = False
+    ) -> "Result":
+        result = str.__new__(cls, word)
+        result._value_ = word
+        result.has_changed, result.sentence, result.are_pictures, result.is_equal = has_changed, sentence, are_pictures, is_equal
+        return result
+
+    SAME = ("same", False, "The same metadata.", True, True)
+    SAME_FILE = ("the same file", False, "The same file, which isn't wholly read.")  # nothing was written to it
+    SAME_BUT = ("the same but for the fields left out", False, "The same metadata but for the fields left out.")  # by the listing of fields
+    SAME_NUMBERS = (
+        "the same but for how equal numbers are written",
+        False,
+        "The same metadata but for how equal numbers are written.",
+    )
+    MOVED_NOTE = (
+        "the same but for a MakerNote that moved",  # and that ExifTool reads as before
+        None,
+        "The same metadata but for a MakerNote that has moved; ExifTool reads the same from both.",
+    )
+    SAME_REPAIRED = ("the same after repair", None, "The same metadata after a repair in memory.")
+    DIFFERENT = ("different", True)
+    DIFFERENT_REPAIRED = ("different after repair", True)
+    ONLY_MAKER_NOTE = ("only MakerNote differs", True, "Only the MakerNote differs.")
+    ONLY_NUMBERS = ("only equal numbers are written otherwise", True)
+    FILE_DIFFERENT = ("not read, different bytes", True, "Different bytes, in a format that isn't read.")
+    NO_PICTURE_DIFFERENT = ("no picture, different bytes", True, "Different bytes, and no pictures.", False)
+    MOVED = ("moved", True)
+    MOVED_EDITED = ("moved and edited", True)  # which the digest of its coded picture shows
+    OTHER_PICTURE_ALONE = ("other picture, the same metadata", True, "The same metadata, and another picture.")
+    OTHER_PICTURE = ("other picture", True, "Another picture, and no difference of the metadata is known.")
+    DAMAGED = ("damaged", True, "The second picture is damaged.")  # whatever its metadata are
+    MISSING_BEFORE = ("missing before", True)
+    MISSING_AFTER = ("missing after", True)
+    ONLY_REACHED = (
+        "only bytes that a MakerNote can reach differ",
+        None,
+        "No field differs. Bytes differ that no field has, and that a MakerNote can lead to.",
+    )
+    REFUSED = (
+        "refused",
+        None,
+        "The metadata can't be compared wholly: a block breaks the rules of its format, or is compressed.",
+    )
+    REFUSED_SAME = (
+        "refused, the same bytes",
+        False,
+        "No difference: a block breaks the rules of its format or is compressed, and has the same bytes in both.",
+        True,
+        True,
+    )
+    UNREADABLE = ("unreadable", None, "The metadata can't be compared wholly: XMP is unreadable.")
+    UNREADABLE_SAME = (
+        "unreadable, the same bytes",
+        False,
+        "No difference: XMP is unreadable, and has the same bytes in both.",
+        True,
+        True,
+    )
+    NOT_WHOLLY_READ = ("not wholly read", None, "No field differs, but not everything was read.")
+    FILE_SAME = ("not read, the same bytes", False, "The same bytes, in a format that isn't read.")
+    NO_PICTURE_SAME = ("no picture, the same bytes", False, "The same bytes, and no pictures.", False)
+    NOT_READ = ("not read", None, "The metadata can't be compared: a file isn't read.")
+    # Of a kind only
+    ABSENT = ("absent", False)
+    LEFT_OUT = ("left out", False)  # no field of the kind counts
+
+    @property
+    def decided(self) -> Optional[bool]:
+        """Whether it says that two pictures are the same; None if it says that nobody knows."""
+        return True if self is Result.SAME else False if self.has_changed else None
+
+    @property
+    def is_open(self) -> bool:
+        """Whether it isn't known if something has changed."""
+        return self.has_changed is None

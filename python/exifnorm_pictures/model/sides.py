@@ -1,0 +1,57 @@
+"""The blocks of one kind in one picture, as two pictures are compared by them."""
+
+from __future__ import annotations
+
+import hashlib
+from typing import TYPE_CHECKING, NamedTuple, Sequence, Tuple
+
+from .found import NAMES, XMP
+from .words import Word
+
+if TYPE_CHECKING:
+    from .records import Block
+
+REACHED = " that only the MakerNote can reach"  # the end of the name of such bytes, which aren't read
+
+
+class Status(Word):
+    """What is known of a block, or of all blocks of a kind. It is its word, as JSON and catalogues have it: `Status.ACCEPTED == "accepted"`."""
+
+    ACCEPTED = "accepted"
+    REFUSED = "refused"
+    UNREADABLE = "unreadable"
+    TOO_LONG = "too long"
+    FAILED = "failed"
+    ABSENT = "absent"  # of a kind without a block
+
+
+class Side(NamedTuple):
+    """The blocks of one kind in one picture."""
+
+    status: Status  # ACCEPTED, REFUSED, UNREADABLE or ABSENT
+    digest: str = ""  # of their meaning, if all are accepted
+    octets: str = ""  # of their bytes
+    repaired: str = ""  # of their meaning after repairs that lose nothing, if one of them is refused
+
+
+NO_BLOCK = Side(Status.ABSENT)
+
+
+def side_of(ours: Sequence[Block]) -> Side:
+    """The side of a picture for the kind that these blocks have. Several are compared in their order and under their names."""
+    if not ours:
+        return NO_BLOCK
+    if len(ours) == 1 and ours[0].status == Status.ACCEPTED and ours[0].name == NAMES[ours[0].kind]:  # as of most pictures
+        return Side(Status.ACCEPTED, ours[0].digest or "", ours[0].octets)
+    octets = joined([(it.name, it.octets) for it in ours])
+    if any(it.status != Status.ACCEPTED for it in ours):
+        repaired = joined([(it.name, it.meaning or "") for it in ours]) if all(it.meaning for it in ours) else ""
+        return Side(Status.UNREADABLE if ours[0].kind == XMP else Status.REFUSED, "", octets, repaired)
+    return Side(Status.ACCEPTED, joined([(it.name, it.digest or "") for it in ours]), octets)
+
+
+def joined(named: Sequence[Tuple[str, str]]) -> str:
+    """One digest for several blocks, by their names; that of the first block of a kind if it is alone."""
+    if len(named) == 1 and named[0][0] in NAMES.values():
+        return named[0][1]
+    return hashlib.sha256("\n".join(f"{name}: {digest}" for name, digest in named).encode("utf-8")).hexdigest()
