@@ -12,6 +12,7 @@ import unicodedata
 import pytest
 from made_files import app1_xmp, app13, jpeg, png, png_xmp, resource, xmp
 from studio import needs, put, tool
+from test_maker_notes import noted
 
 DATASETS = {"title": 5, "keywords": 25, "creator": 80, "credit": 110, "caption": 120, "city": 90, "date created": 55}
 WORDS = (
@@ -214,6 +215,19 @@ def test_fields_of_each_standard(folder, called, asked):
     assert asked("--where", "serial = k-77 or owner = OTTO")[0] == ["c.jpg", "d.jpg"]
     printed = called("list", "c", "--csv", "--with", "position", "--columns", "position")[1]
     assert [row[1:] for row in csv.reader(io.StringIO(printed))] == [["latitude", "longitude"], ["-33.5", "7.25"], ["51.5", "-0.12"]]
+
+
+@needs("exiftool")
+def test_owners_in_maker_notes(folder, called, asked):
+    """A MakerNote may have a serial number or an owner: where ExifTool wasn't asked, that isn't known."""
+    put(folder / "p", {"canon.jpg": noted(b"Annette"), "plain.jpg": picture([])})
+    called("index", "p", "--catalogue", "c", "--quiet")
+    assert asked("--without", "owner")[:2] == (["plain.jpg"], 2) and asked("--with", "owner")[2]["not_known"] == 1
+    assert "MakerNote" in called("list", "c", "--with", "owner")[1] and "MakerNote" in called("list", "c", "--count", "owner")[1]
+    assert asked("--without", "creator")[1] == 0
+    called("index", "p", "--catalogue", "c", "--quiet", "--again", "--maker-notes")
+    assert asked("--where", "owner = annette")[:2] == (["canon.jpg"], 0)
+    assert asked("--without", "owner")[:2] == (["plain.jpg"], 0)
 
 
 # Counts

@@ -11,8 +11,8 @@ from dataclasses import dataclass
 from typing import Callable, Dict, Iterator, List, NamedTuple, Optional, Sequence, Tuple
 
 from ..fields.folding import bare, folded
-from ..fields.labels import DATE
-from ..fields.questions import All, Any, Compared, Not, Question, With
+from ..fields.labels import DATE, PRIVATE
+from ..fields.questions import All, Any, Compared, Not, Question, With, labels_of
 from ..model.problems import NOT_THERE, Problem
 from ..model.records import has
 from .store import HEAD, Catalogue
@@ -29,6 +29,10 @@ _OPEN = (
     "(p.problem IS NOT NULL OR p.other_not_read IS NOT '' OR p.iptc IS NULL OR p.xmp IS NULL OR (p.exif IS NULL AND p.exif_repaired IS NULL)"
     " OR p.id IN (SELECT picture FROM texts WHERE label = ''))"
 )
+
+
+# What makes a missing serial number or owner unknown, too: a MakerNote that ExifTool wasn't asked about
+_NOTE_NOT_READ = "(p.maker_notes != '' AND p.id NOT IN (SELECT picture FROM maker_notes))"
 
 
 class _Part(NamedTuple):
@@ -51,7 +55,9 @@ def _condition(question: Question, is_sure: bool) -> _Part:
         return _joined("AND" if isinstance(question, All) else "OR", [_condition(it, is_sure) for it in question.questions])
     texts = [_Part("label = ?", (question.label,))] if isinstance(question, With) else _compared(question)
     found = _Part(f"p.id IN ({' UNION ALL '.join(map(_rows, texts))})", tuple(value for part in texts for value in part.values))
-    return found if is_sure else _Part(f"({found.sql} OR {_OPEN})", found.values)
+    if is_sure:
+        return found
+    return _Part(f"({found.sql} OR {_OPEN}{f' OR {_NOTE_NOT_READ}' * (question.label in PRIVATE)})", found.values)
 
 
 def _rows(texts: _Part) -> str:
@@ -160,6 +166,7 @@ class Answer:
 
     def __init__(self, catalogue: Catalogue, question: Optional[Question], scope: Scope = Scope()) -> None:
         self._catalogue = catalogue
+        self.labels = labels_of(question) if question else []  # that are asked for
         self._scope = scope.condition()
         self._sure = _joined("AND", [self._scope, *([_condition(question, True)] if question else [])])
         self._may = _joined("AND", [self._scope, *([_condition(question, False)] if question else [])])
@@ -170,14 +177,15 @@ class Answer:
 
     def not_known(self) -> int:
         """Of how many pictures it isn't known whether they fit, because they were not wholly read."""
-        return self._count(_joined("AND", [_Part(_OPEN), self._may, _Part(f"NOT {self._sure.sql}", self._sure.values)]))
+        return self._count(_joined("AND", [self._may, _Part(f"NOT {self._sure.sql}", self._sure.values)]))
 
     def having(self, label: str) -> Tuple[int, int, int]:
         """Of the pictures that fit: how many have a text of a label, how many have none, and of how many that isn't known."""
         texts = _Part("p.id IN (SELECT picture FROM texts WHERE label = ?)", (label,))
         having = self._count(_joined("AND", [self._sure, texts]))
         others = _joined("AND", [self._sure, _Part(f"NOT {texts.sql}", texts.values)])
-        not_known = self._count(_joined("AND", [others, _Part(_OPEN)]))
+        unread = _Part(f"({_OPEN} OR {_NOTE_NOT_READ})" if label in PRIVATE else _OPEN)
+        not_known = self._count(_joined("AND", [others, unread]))
         return having, self._count(others) - not_known, not_known
 
     def _count(self, part: _Part) -> int:

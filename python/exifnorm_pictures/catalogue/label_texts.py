@@ -2,7 +2,8 @@
 
 from __future__ import annotations
 
-from typing import Dict, Iterator, List, Sequence, Tuple
+from itertools import chain
+from typing import Dict, Iterator, List, Mapping, Sequence, Tuple
 
 from ..fields.folding import folded
 from ..fields.labels import POSITION, PRIVATE, decoded
@@ -29,8 +30,9 @@ MORE = KeptText("", "", "", None)  # in place of texts that aren't kept
 _MOST_CHARACTERS = 1 << 20  # of the texts of a picture
 
 
-def rows_of(blocks: Sequence[Tuple[Block, List[Field]]]) -> Tuple[KeptText, ...]:
-    """The texts of a picture by its blocks, each with its fields: a text that several fields have once.
+def rows_of(blocks: Sequence[Tuple[Block, List[Field]]], maker_notes: Mapping[str, str] = {}) -> Tuple[KeptText, ...]:
+    """The texts of a picture by its blocks, each with its fields, and by what ExifTool reads of its MakerNotes: a text that several fields
+    have once.
 
     A camera's own caption is none of the picture's. The position is in degrees, north and east positive. `MORE` stands for texts that are
     too many or too long.
@@ -38,7 +40,7 @@ def rows_of(blocks: Sequence[Tuple[Block, List[Field]]]) -> Tuple[KeptText, ...]
     known: Dict[Tuple[str, str], KeptText] = {}
     left = _MOST_CHARACTERS
     has_more = any(is_rest(field.where, field.key) for _, fields in blocks for field in fields)
-    for label, text in _texts(blocks):
+    for label, text in chain(_texts(blocks), _of_maker_notes(maker_notes)):
         if not text or (label, text) in known:
             continue
         left -= len(text)
@@ -61,6 +63,14 @@ def _texts(blocks: Sequence[Tuple[Block, List[Field]]]) -> Iterator[Tuple[str, s
         label = _PRIVATE.get((field.where, field.key))
         if label:
             yield from ((label, text) for text in _of_field(field))
+
+
+def _of_maker_notes(values: Mapping[str, str]) -> Iterator[Tuple[str, str]]:
+    """Serial numbers and owners, of which ExifTool's names for all makers end alike: `Canon:SerialNumber`, `Canon:OwnerName`."""
+    for name, text in values.items():
+        for end, label in (("SerialNumber", "serial"), ("OwnerName", "owner")):
+            if name.endswith(end):
+                yield label, text.strip()
 
 
 _PRIVATE = {place: label for label, places in PRIVATE.items() for place in places}

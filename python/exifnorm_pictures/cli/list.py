@@ -12,7 +12,7 @@ from itertools import groupby
 from typing import Iterator, List, Optional, Sequence, Tuple
 
 from ..catalogue.asking import Answer, Fitting, Scope
-from ..fields.labels import POSITION
+from ..fields.labels import POSITION, PRIVATE
 from ..fields.questions import All, Not, Question, With, WrongQuestion, given_label, labels_of, question_of
 from ..files import signals
 from ..model.texts import Members, escaped, path_members, shown_path
@@ -142,7 +142,14 @@ def _print_end(arguments: argparse.Namespace, answer: Answer, listed: int) -> No
 
 def _of_unknown(answer: Answer) -> str:
     count = answer.not_known()
-    return f"; {count:,} more may fit: they were not wholly read" if count else ""
+    return f"; {count:,} more may fit: {_unread(answer.labels)}" if count else ""
+
+
+def _unread(labels: Sequence[str]) -> str:
+    """What was not read of pictures, if these labels are asked for."""
+    if any(label in PRIVATE for label in labels):
+        return "they were not wholly read, or have a MakerNote, which index --maker-notes reads"
+    return "they were not wholly read"
 
 
 def _pictures(count: int) -> str:
@@ -173,7 +180,7 @@ def _print_end_of_counts(arguments: argparse.Namespace, answer: Answer, label: s
     if arguments.json:
         print_object("list", "summary", {"pictures": having + without + not_known, "with": having, "not_known": not_known})
         return
-    more = f"; {not_known:,} without one were not wholly read" if not_known else ""
+    more = f"; of {not_known:,} that isn't known: {_unread([label])}" if not_known else ""
     end = f"{_pictures(having)} with a text of {label}, {without:,} without{more}"
     if not arguments.csv:
         print_line(end)

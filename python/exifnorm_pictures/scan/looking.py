@@ -4,7 +4,7 @@ from __future__ import annotations
 
 import os
 import time
-from typing import Iterator, List, Optional, Sequence, Tuple
+from typing import TYPE_CHECKING, Iterator, List, Optional, Sequence, Tuple
 
 from exifnorm import LibraryMissing
 
@@ -21,6 +21,9 @@ from ..model.records import RACY, Block, KeptText, Picture, Stamp
 from ..model.texts import reason
 from .batches import How
 from .walk import FoundFile
+
+if TYPE_CHECKING:
+    from ..judge.maker_notes import Reading
 
 # Nanoseconds in which two edits may have one time: twice a tick of the slowest kernel; and of file systems without parts of a second,
 # of which FAT has two seconds, and others one.
@@ -45,8 +48,8 @@ def _look(file: FoundFile, how: How, session: Session, packs: bool) -> Picture:
         whole_file = file_digest(file.path, blocks, how.whole)
         if file.sidecars:
             whole_file = sidecars.with_sidecars(whole_file, file.path, file.sidecars)
-        notes = _maker_notes(session, file.path, judged) if how.maker_notes else None
-        texts, judged = _kept(judged) if packs else ((), judged)
+        reading = _maker_notes(session, file.path, judged) if how.maker_notes else None
+        texts, judged = _kept(judged, reading) if packs else ((), judged)
         pixels = _pixels(file.path, blocks) if how.pixels else (None, "", "", None)
     except LibraryMissing:  # an OSError too, but not of this file
         raise
@@ -61,6 +64,7 @@ def _look(file: FoundFile, how: How, session: Session, packs: bool) -> Picture:
     except Exception as error:  # an error of a reader affects only this file
         return Picture.found(file.path, file.root, file.stamp, extraction.failed_here(error, session))
     coded, beside, damage, whole = pixels
+    notes = None if reading is None else _packed(reading)
     more = {"texts": texts, "notes": notes, "coded_picture": coded, "beside": beside, "damage": damage, "sha256": whole, "sidecars": marks}
     return Picture.found(file.path, file.root, _unless_changed(file, began), blocks, judged, file=whole_file, **more)
 
@@ -80,19 +84,25 @@ def _read(file: FoundFile, how: How, session: Session, packs: bool) -> Tuple[Blo
         return Blocks(problem=Problem.TOO_SLOW, detail=str(error)), []
 
 
-def _kept(judged: Sequence[Block]) -> Tuple[Tuple[KeptText, ...], List[Block]]:
+def _kept(judged: Sequence[Block], reading: "Optional[Reading]") -> Tuple[Tuple[KeptText, ...], List[Block]]:
     """The texts that a catalogue keeps by label, and the blocks without the fields that were made of them."""
-    texts = label_texts.rows_of([(block, fields_of(block)) for block in judged])
+    texts = label_texts.rows_of([(block, fields_of(block)) for block in judged], reading.values if reading else {})
     return texts, [block._replace(made=None) for block in judged]
 
 
-def _maker_notes(session: Session, path: bytes, judged: Sequence[Block]) -> Optional[bytes]:
+def _maker_notes(session: Session, path: bytes, judged: Sequence[Block]) -> "Optional[Reading]":
     """What ExifTool reads of the MakerNotes of a picture that has one."""
-    if all(it.note is None for it in judged):
+    if all(block.note is None for block in judged):
         return None
     from ..judge import maker_notes
 
-    return maker_notes.packed(maker_notes.readings_of(session, [path])[0])
+    return maker_notes.readings_of(session, [path])[0]
+
+
+def _packed(reading: "Reading") -> bytes:
+    from ..judge import maker_notes
+
+    return maker_notes.packed(reading)
 
 
 def _pixels(path: bytes, blocks: Blocks) -> Tuple[Optional[str], str, str, Optional[str]]:
