@@ -202,6 +202,7 @@ COMMANDS = {
     "show": ["A", "A --json", "A --csv"],
     "captions": ["P", "C --json"],
     "list": ["C --without credit", "P --json --where title=x --jobs 1 --quiet", "C --count keywords"],
+    "check": ["rules C --json"],
     "conflicts": ["P --all", "C --json"],
     "explain": ["A"],
     "report": ["--catalogue D --since C --html written.html"],
@@ -272,6 +273,7 @@ class Work:
         for name in ("P", "Q", "C", "D", "new", "merged", "kept", "written.html", "written.sqlite", "mended"):
             path = self.folder / name
             shutil.rmtree(path) if path.is_dir() else path.unlink(missing_ok=True)
+        (self.folder / "rules").write_text("every picture needs credit\nkeywords is x\n")
         for side, mark in (("P", b"a"), ("Q", b"b")):
             (self.folder / side).mkdir()
             put(self.folder / side, mark)

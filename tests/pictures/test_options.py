@@ -23,6 +23,7 @@ COMMANDS = {
     "show": LISTED,
     "captions": LISTED,
     "list": ("p",),
+    "check": ("rules", "p"),
     "conflicts": LISTED,
     "explain": LISTED,
     "report": (*LISTED, "--catalogue", "c", "--html", "page"),
@@ -49,6 +50,7 @@ def archive(folder, called):
     (folder / "p").mkdir()
     (folder / "p" / "a.jpg").write_bytes(jpeg(app1(A)))
     (folder / "list").write_bytes(b"p/a.jpg\0")
+    (folder / "rules").write_bytes(b"every picture needs title\n")
     assert called("index", "p", "--catalogue", "c", "--quiet")[0] == 0
     return folder
 

@@ -22,17 +22,17 @@ _WHOLE = "ifnull(folded, lower(text))"  # in SQL: a text of which the head isn't
 _LAST = "\U0010ffff"  # sorts after each other character
 
 # Files that are no pictures, or that are gone, are none of the pictures that a question is about
-_LEFT_OUT = (Problem.NO_PICTURE, *NOT_THERE)
-_IN_SCOPE = f"(p.problem IS NULL OR p.problem NOT IN ({', '.join('?' * len(_LEFT_OUT))}))"
+LEFT_OUT = (Problem.NO_PICTURE, *NOT_THERE)
+IN_SCOPE = f"(p.problem IS NULL OR p.problem NOT IN ({', '.join('?' * len(LEFT_OUT))}))"
 # What makes a missing text unknown: an unread part that can have texts, or a block that was refused and not read after a repair
-_OPEN = (
+OPEN = (
     "(p.problem IS NOT NULL OR p.other_not_read IS NOT '' OR p.iptc IS NULL OR p.xmp IS NULL OR (p.exif IS NULL AND p.exif_repaired IS NULL)"
     " OR p.id IN (SELECT picture FROM texts WHERE label = ''))"
 )
 
 
 # What makes a missing serial number or owner unknown, too: a MakerNote that ExifTool wasn't asked about
-_NOTE_NOT_READ = "(p.maker_notes != '' AND p.id NOT IN (SELECT picture FROM maker_notes))"
+NOTE_NOT_READ = "(p.maker_notes != '' AND p.id NOT IN (SELECT picture FROM maker_notes))"
 
 
 class _Part(NamedTuple):
@@ -57,7 +57,7 @@ def _condition(question: Question, is_sure: bool) -> _Part:
     found = _Part(f"p.id IN ({' UNION ALL '.join(map(_rows, texts))})", tuple(value for part in texts for value in part.values))
     if is_sure:
         return found
-    return _Part(f"({found.sql} OR {_OPEN}{f' OR {_NOTE_NOT_READ}' * (question.label in PRIVATE)})", found.values)
+    return _Part(f"({found.sql} OR {OPEN}{f' OR {NOTE_NOT_READ}' * (question.label in PRIVATE)})", found.values)
 
 
 def _rows(texts: _Part) -> str:
@@ -136,7 +136,7 @@ class Scope:
 
     def condition(self) -> _Part:
         """The same for SQLite."""
-        parts = [_Part(_IN_SCOPE, tuple(_LEFT_OUT))]
+        parts = [_Part(IN_SCOPE, tuple(LEFT_OUT))]
         if self.since is not None:
             parts.append(_Part("p.run IN (SELECT id FROM runs WHERE started >= ?)", (self.since,)))
         if self.only is not None:
@@ -184,7 +184,7 @@ class Answer:
         texts = _Part("p.id IN (SELECT picture FROM texts WHERE label = ?)", (label,))
         having = self._count(_joined("AND", [self._sure, texts]))
         others = _joined("AND", [self._sure, _Part(f"NOT {texts.sql}", texts.values)])
-        unread = _Part(f"({_OPEN} OR {_NOTE_NOT_READ})" if label in PRIVATE else _OPEN)
+        unread = _Part(f"({OPEN} OR {NOTE_NOT_READ})" if label in PRIVATE else OPEN)
         not_known = self._count(_joined("AND", [others, unread]))
         return having, self._count(others) - not_known, not_known
 

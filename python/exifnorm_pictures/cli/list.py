@@ -3,7 +3,6 @@
 from __future__ import annotations
 
 import argparse
-import os
 import re
 import sys
 import time
@@ -17,7 +16,7 @@ from ..fields.questions import All, Not, Question, With, WrongQuestion, given_la
 from ..files import signals
 from ..model.texts import Members, escaped, path_members, shown_path
 from .exit_codes import SUCCESS, UNKNOWN
-from .looking import catalogue_of
+from .looking import catalogue_of, refuse_for_catalogues
 from .objects import print_object
 from .output import print_line
 from .parser import refuse
@@ -33,7 +32,7 @@ def run(arguments: argparse.Namespace) -> int:
     counted = given_label(arguments.count) if arguments.count else None
     scope = Scope(_since(arguments.since) if arguments.since else None)
     source = _source(arguments)
-    _refuse_for_catalogues(arguments, source)
+    refuse_for_catalogues(arguments, source)
     with catalogue_of(source, arguments) as catalogue, catalogue.reading():
         answer = Answer(catalogue, question, scope)
         if counted is not None:
@@ -49,13 +48,6 @@ def _source(arguments: argparse.Namespace) -> str:
     if len(given) != 1:
         refuse(arguments.command, "give one catalogue or folder")
     return str(given[0])
-
-
-def _refuse_for_catalogues(arguments: argparse.Namespace, source: str) -> None:
-    """Refuses options that say how pictures are read: a catalogue's were read by `index`."""
-    given = [option for option in ("whole", "sidecars") if getattr(arguments, option)]
-    if given and not os.path.isdir(source):
-        refuse(arguments.command, f"--{given[0]} is for folders: a catalogue has what index --{given[0]} read")
 
 
 def _question(arguments: argparse.Namespace) -> Optional[Question]:

@@ -12,6 +12,7 @@ from ..catalogue.store import Catalogue, NoCatalogue
 from ..scan.batches import How, Lines
 from ..scan.index import IndexOptions, index
 from .output import closed_folder
+from .parser import refuse
 
 
 def how_of(arguments: argparse.Namespace, room: str, lines: Optional[Lines] = None) -> How:
@@ -36,3 +37,10 @@ def catalogue_of(name: str, arguments: argparse.Namespace) -> Catalogue:
         made.close()
         raise
     return made
+
+
+def refuse_for_catalogues(arguments: argparse.Namespace, source: str) -> None:
+    """Refuses options that say how pictures are read, if these were read by `index`."""
+    given = [option for option in ("whole", "sidecars") if getattr(arguments, option)]
+    if given and not os.path.isdir(source):
+        refuse(arguments.command, f"--{given[0]} is for folders: a catalogue has what index --{given[0]} read")

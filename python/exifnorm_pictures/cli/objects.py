@@ -12,6 +12,7 @@ from ..model.texts import Members, path_members
 _VERSIONS = {
     "captions": 1,
     "changed": 1,
+    "check": 1,
     "compare": 1,
     "conflicts": 1,
     "export": 1,

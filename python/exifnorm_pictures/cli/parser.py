@@ -20,17 +20,17 @@ _STATUSES = """Statuses:
   1    different (changed, compare: something differs, also after repair, was
        moved or is missing; same: MakerNotes of a group differ in bytes;
        verify: a file is damaged, missing or has another picture; conflicts: a
-       picture contradicts itself; mend: the copy differs in a
-       printed value)
+       picture contradicts itself; check: a rule is broken; mend: the copy
+       differs in a printed value)
   2    it can't be decided wholly (changed, compare, show, captions, conflicts,
        explain: a block is refused or unreadable, a file is damaged, or a
        picture wasn't read; changed, compare: or a part of one wasn't; changed,
        compare, same: the same only after a repair, or but for a MakerNote;
        same: or they may be so; list: pictures that weren't wholly read may
-       fit; index: a picture that should be readable isn't, or a program failed
-       at it, and not so at the last run; verify: a file can't be read, or has
-       no digest; mend: no remedy worked, the file is damaged, or the picture
-       wasn't read)
+       fit; check: or may break a rule; index: a picture that should be
+       readable isn't, or a program failed at it, and not so at the last run;
+       verify: a file can't be read, or has no digest; mend: no remedy worked,
+       the file is damaged, or the picture wasn't read)
   3    bad arguments; index: no name leads to a folder or a file
   4    the command itself failed: the catalogue, a stream, an output file, the
        disk or the memory
@@ -144,7 +144,7 @@ def parsers() -> "Tuple[_Parser, Dict[str, _Parser]]":
             forms.add_argument("--xlsx", type=_name, metavar="FILE", help=words)
         forms.add_argument("--json", action="store_true", help="print one JSON object for each line")
         parser.add_argument("--debug", action="store_true", help="print the traceback of an internal error, as EXIFNORM_DEBUG=1 does")
-        if name not in ("merge", "compare", "list"):
+        if name not in ("merge", "compare", "list", "check"):
             parser.add_argument(
                 "--files-from", metavar="LIST", help="read names from the file LIST, - for standard input: one for each line"
             )
@@ -381,6 +381,30 @@ Capitals, spaces and composed letters don't matter. Of several options all
 must hold. The text of a camera is none."""
 
 
+def _check_arguments(parser: argparse.ArgumentParser) -> None:
+    _example(parser, "check museum.rules my.catalogue")
+    parser.description = f"{parser.description}\n\n{_RULES}"
+    parser.add_argument("rules", type=_name, metavar="RULES", help="a file with a rule in each line")
+    parser.add_argument("source", nargs="?", type=_name, metavar="CATALOGUE", help="a catalogue, or a folder, which is read then")
+    parser.add_argument("--catalogue", type=_name, metavar="FILE", help="the same, as other commands have it")
+    parser.add_argument(
+        "--by-picture", action="store_true", help="list the rules below each picture, in place of the pictures below each rule"
+    )
+    _sidecars_argument(parser)
+    _many_arguments(parser)
+
+
+_RULES = """Rules:
+  every picture needs creator, credit, copyright    # a comment
+  copyright is "Riverside Museum"
+  credit one of "Riverside Museum", "Public domain"
+  title like "####.##*" in scans/
+  keywords from words.txt
+  position, serial never in web/ except web/press/
+  caption at most 2000 characters
+  date created not after today"""
+
+
 def _conflicts_arguments(parser: argparse.ArgumentParser) -> None:
     _example(parser, "conflicts pictures")
     parser.set_defaults(block=False)
@@ -429,6 +453,7 @@ _TABLES = {
     "show": "a row for each field",
     "captions": "a row for each picture, a column for each label",
     "list": "a row for each picture, a column for each label of --columns",
+    "check": "a row for each picture and rule that it breaks",
     "conflicts": "a row for each label that differs in a picture",
 }
 
@@ -441,6 +466,7 @@ _COMMANDS: Tuple[Tuple[str, str, Callable[[argparse.ArgumentParser], None]], ...
     ("changed", "list the differences between two catalogues or folders, with the fields", _changed_arguments),
     ("compare", "compare two pictures: what differs, side by side, in plain words", _compare_arguments),
     ("list", "list the pictures whose captions, names, keywords or rights fit a question", _list_arguments),
+    ("check", "list the pictures that break your own rules", _check_arguments),
     ("show", "print the fields of pictures", _show_arguments),
     ("captions", "print captions, names, keywords and rights of pictures, each with its fields", _captions_arguments),
     ("conflicts", "list pictures whose Exif, IPTC and XMP contradict each other", _conflicts_arguments),

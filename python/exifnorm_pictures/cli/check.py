@@ -1,0 +1,115 @@
+"""The command `check`: what breaks a museum's own rules."""
+
+from __future__ import annotations
+
+import argparse
+import os
+from itertools import groupby
+from typing import Dict, List
+
+from ..catalogue.checking import Broken, Checked
+from ..fields.rules import WrongRules, rules_of
+from ..files import opening, signals
+from ..model.texts import Members, escaped, path_members, shown_path
+from .exit_codes import DIFFERENCE, SUCCESS, UNKNOWN
+from .looking import catalogue_of, refuse_for_catalogues
+from .objects import print_object
+from .output import print_line
+from .parser import refuse
+from .tables import Table
+
+_LONGEST = 10_000_000  # bytes of rules, and of a file of words
+
+
+def run(arguments: argparse.Namespace) -> int:
+    """Lists the pictures that break a rule."""
+    if (arguments.source is None) == (arguments.catalogue is None):
+        refuse(arguments.command, "give the rules, and one catalogue or folder")
+    source = arguments.source or arguments.catalogue
+    refuse_for_catalogues(arguments, source)
+    rules = rules_of(_text_of(arguments.rules), lambda name: _words_of(os.path.join(os.path.dirname(arguments.rules), name)))
+    if not rules:
+        raise WrongRules(f"{escaped(arguments.rules)} has no rule")
+    with catalogue_of(source, arguments) as catalogue, catalogue.reading():
+        checked = Checked(catalogue, rules)
+        if arguments.csv:
+            _print_table(arguments, checked)
+        elif arguments.json:
+            for broken in checked.broken(arguments.by_picture):
+                print_object("check", "picture", _members(checked, broken))
+        else:
+            _print_lines(arguments, checked)
+        _print_end(arguments, checked)
+        status = DIFFERENCE if checked.rules_broken() else SUCCESS
+        return UNKNOWN if checked.not_known() else status
+
+
+def _text_of(name: str) -> str:
+    """The text of a file. Raises `OSError`, and `WrongRules` if it is no text."""
+    with opening.reading(os.fsencode(name)) as file:
+        octets = file.read(_LONGEST + 1)
+    if len(octets) > _LONGEST:
+        raise WrongRules(f"{escaped(name)} is longer than {_LONGEST:,} bytes")
+    try:
+        return octets.decode("utf-8-sig")
+    except UnicodeDecodeError:
+        raise WrongRules(f"{escaped(name)} is no text in UTF-8") from None
+
+
+def _words_of(name: str) -> List[str]:
+    """The words of a file, one each line; lines that begin with # are comments."""
+    lines = (line.strip() for line in _text_of(name).splitlines())
+    return [line for line in lines if line and not line.startswith("#")]
+
+
+def _what(broken: Broken) -> str:
+    return f"no {broken.label}" if broken.text is None else f'{broken.label} "{escaped(broken.text)}"'
+
+
+def _print_lines(arguments: argparse.Namespace, checked: Checked) -> None:
+    if arguments.by_picture:
+        for path, of_picture in groupby(checked.broken(True), lambda broken: broken.path):
+            print_line(shown_path(path))
+            for broken in of_picture:
+                rule = checked.rules[broken.number]
+                print_line(f"  {_what(broken)}   <- line {rule.line}: {rule.text}")
+        return
+    for number, of_rule in groupby(checked.broken(), lambda broken: broken.number):
+        print_line(f"line {checked.rules[number].line}: {checked.rules[number].text}")
+        for path, of_picture in groupby(of_rule, lambda broken: broken.path):
+            print_line(f"  {shown_path(path)}: {', '.join(map(_what, of_picture))}")
+
+
+def _print_table(arguments: argparse.Namespace, checked: Checked) -> None:
+    table = Table(arguments, ["picture", "line", "rule", "label", "text"])
+    for broken in checked.broken(arguments.by_picture):
+        rule = checked.rules[broken.number]
+        table.row(broken.path, rule.line, rule.text, broken.label, broken.text)
+
+
+def _members(checked: Checked, broken: Broken) -> Members:
+    rule = checked.rules[broken.number]
+    return {**path_members(broken.path), "line": rule.line, "rule": rule.text, "label": broken.label, "text": broken.text}
+
+
+def _print_end(arguments: argparse.Namespace, checked: Checked) -> None:
+    """How many rules are broken, and by how many pictures; which rules are about no picture, and how many pictures weren't wholly read."""
+    nowhere = [f"line {rule.line}: no picture lies in {' or '.join(rule.inside)}" for rule in checked.about_nothing()]
+    numbers: Dict[str, object] = {
+        "rules": len(checked.rules),
+        "broken_rules": checked.rules_broken(),
+        "pictures": checked.pictures(),
+        "broken_pictures": checked.pictures_broken(),
+        "not_known": checked.not_known(),
+    }
+    if arguments.json:
+        print_object("check", "summary", {**numbers, "notes": nowhere})
+        return
+    unread = "{not_known:,} pictures were not wholly read, and may break more".format(**numbers)
+    notes = [*nowhere, *[unread] * bool(checked.not_known())]
+    if arguments.csv:
+        for note in notes:
+            signals.say(f"exifnorm-pictures: note: {note}")
+        return
+    for line in [*notes, "{broken_rules:,} of {rules:,} rules broken, by {broken_pictures:,} of {pictures:,} pictures".format(**numbers)]:
+        print_line(line)

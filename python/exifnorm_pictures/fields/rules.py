@@ -1,0 +1,282 @@
+"""A museum's own rules about captions, names, keywords and rights, a line each:
+
+    every picture needs creator, credit, copyright    # a comment
+    copyright is "Riverside Museum"
+    credit one of "Riverside Museum", "Public domain"
+    title like "####.##*" in scans/
+    keywords from words.txt
+    position, serial never in web/ except web/press/
+    caption at most 2000 characters
+    date created not after today
+
+A rule but `needs` is about the texts that are there. Texts are compared exactly, but for how accents are composed. `like` has the wildcards *
+and ?, and # for a digit. A folder with a slash inside lies at the top of what was indexed, and any other one anywhere below it.
+"""
+
+from __future__ import annotations
+
+import difflib
+import fnmatch
+import os
+import re
+import time
+from dataclasses import dataclass
+from typing import Callable, Dict, Iterable, Iterator, List, NamedTuple, NoReturn, Sequence, Tuple
+
+from ..model.errors import WrongUse
+from .labels import DATE, fields_by_label, label_of
+
+NEEDS, VALUES, LIKE, NEVER, LENGTH, AFTER, BEFORE = "needs", "values", "like", "never", "length", "after", "before"
+_EVERY = ("every", "picture")
+_PREDICATES = {  # by their words
+    ("needs",): NEEDS,
+    ("is",): VALUES,
+    ("one", "of"): VALUES,
+    ("from",): VALUES,
+    ("like",): LIKE,
+    ("never",): NEVER,
+    ("at", "most"): LENGTH,
+    ("not", "after"): AFTER,
+    ("not", "before"): BEFORE,
+}
+_PLACES = ("in", "except")
+MOST_RULES = 1000
+
+
+class WrongRules(WrongUse):
+    """Rules that can't be understood: a line for each mistake."""
+
+
+@dataclass(frozen=True)
+class Rule:
+    """A rule: for pictures in some folders, what it asks of the texts of some labels."""
+
+    line: int
+    text: str  # as it was written
+    kind: str
+    labels: Tuple[str, ...]
+    values: Tuple[str, ...] = ()  # of VALUES all that are allowed; the pattern of LIKE, the number of LENGTH, the date of AFTER and BEFORE
+    inside: Tuple[str, ...] = ()
+    outside: Tuple[str, ...] = ()
+
+    def is_about(self, path: str) -> bool:
+        """Whether it is about a picture with this path below the folder that was indexed.
+
+        >>> Rule(1, "", NEVER, ("serial",), (), ("web/",), ("web/press/",)).is_about("2024/web/a.jpg")
+        True
+        """
+        return (not self.inside or _lies_in(path, self.inside)) and not _lies_in(path, self.outside)
+
+
+def _lies_in(path: str, folders: Iterable[str]) -> bool:
+    names = path.split("/")[:-1]
+    for folder in folders:
+        parts = folder.strip("/").split("/")
+        starts = range(1) if len(parts) > 1 or folder.startswith("/") else range(len(names))
+        for start in starts:
+            if len(names) >= start + len(parts) and all(map(fnmatch.fnmatchcase, names[start:], parts)):
+                return True
+    return False
+
+
+def rules_of(text: str, words_of: Callable[[str], List[str]]) -> List[Rule]:
+    """The rules of a file; `words_of` reads a file of words. Raises `WrongRules`, with a line for each mistake.
+
+    >>> [rule.kind for rule in rules_of("every picture needs credit\\ncredit is 'Museum'", lambda name: [])]
+    ['needs', 'values']
+    """
+    rules: List[Rule] = []
+    mistakes: List[str] = []
+    for number, line in enumerate(text.splitlines(), 1):
+        try:
+            tokens = list(_tokens(line))
+            if tokens:
+                rules.append(_Reader(number, line, tokens, words_of).read())
+        except _Mistake as mistake:
+            mistakes += [
+                f"line {number}: {mistake.why}",
+                f"  {line}",
+                f"  {' ' * mistake.start}{'^' * max(1, mistake.end - mistake.start)}",
+            ]
+    if mistakes:
+        raise WrongRules(*mistakes)
+    if len(rules) > MOST_RULES:
+        raise WrongRules(f"there are {len(rules):,} rules, and at most {MOST_RULES:,} are checked")
+    return rules
+
+
+class _Mistake(Exception):
+    def __init__(self, why: str, start: int, end: int) -> None:
+        super().__init__(why)
+        self.why, self.start, self.end = why, start, end
+
+
+class _Token(NamedTuple):
+    text: str
+    start: int
+    end: int
+    is_quoted: bool
+
+    @property
+    def word(self) -> str:
+        """The word in lower case; empty of a text in quotes."""
+        return "" if self.is_quoted else self.text.lower()
+
+
+_TOKEN = re.compile(r"""\s*(?:"([^"]*)"|'([^']*)'(?=[\s,]|$)|(,)|(\#.*)|([^\s,"]+)|(\S))""")
+
+
+def _tokens(line: str) -> Iterator[_Token]:
+    at = 0
+    while True:
+        match = _TOKEN.match(line, at)
+        if match is None or match[4]:  # the end, or a comment
+            return
+        if match[6]:
+            raise _Mistake("the quotes have no end", match.start(6), len(line))
+        quoted = match[1] if match[1] is not None else match[2]
+        start = match.end() - len(match[0].lstrip())
+        yield _Token(match[3] or match[5] or quoted, start, match.end(), quoted is not None)
+        at = match.end()
+
+
+class _Reader:
+    """Reads the rule of a line."""
+
+    def __init__(self, number: int, line: str, tokens: Sequence[_Token], words_of: Callable[[str], List[str]]) -> None:
+        self._number, self._line, self._words_of = number, line, words_of
+        self._tokens = [*tokens, _Token("", tokens[-1].end, tokens[-1].end, False)]
+        self._at = 0
+
+    @property
+    def _next(self) -> _Token:
+        return self._tokens[self._at]
+
+    @property
+    def _is_at_end(self) -> bool:
+        return self._at == len(self._tokens) - 1
+
+    def _fail(self, why: str, *tokens: _Token) -> NoReturn:
+        first, last = (tokens[0], tokens[-1]) if tokens else (self._next, self._next)
+        raise _Mistake(why, first.start, last.end)
+
+    def _follows(self, words: Tuple[str, ...]) -> bool:
+        return tuple(token.word for token in self._tokens[self._at : self._at + len(words)]) == words
+
+    def read(self) -> Rule:
+        """The whole rule."""
+        if self._follows(_EVERY):
+            self._at += 2
+            if not self._follows(("needs",)):
+                self._fail("expected: needs, as in `every picture needs credit`")
+            self._at += 1
+            kind, labels, values = NEEDS, self._labels(), ()  # type: Tuple[str, Tuple[str, ...], Tuple[str, ...]]
+        else:
+            labels = self._labels()
+            kind, values = self._predicate(labels)
+        inside, outside = self._places()
+        return Rule(self._number, self._line[self._tokens[0].start : self._tokens[-1].end], kind, labels, values, inside, outside)
+
+    def _is_predicate(self) -> bool:
+        return any(map(self._follows, _PREDICATES))
+
+    def _labels(self) -> Tuple[str, ...]:
+        """Labels up to a predicate, a place or the end."""
+        labels = [self._label()]
+        while self._next.word == ",":
+            self._at += 1
+            labels.append(self._label())
+        return tuple(labels)
+
+    def _label(self) -> str:
+        first = self._at
+        while not (self._is_at_end or self._is_predicate() or self._next.word in (",", *_PLACES)):
+            self._at += 1
+        tokens = self._tokens[first : self._at]
+        if not tokens:
+            self._fail("expected: a label, such as credit")
+        name = " ".join(token.text for token in tokens)
+        label = label_of(name)
+        if label is None:
+            near = difflib.get_close_matches(name.casefold(), fields_by_label(), 1, 0.6)
+            self._fail(f"{name!r} is no label" + (f" (perhaps {near[0]} is meant)" if near else ""), *tokens)
+        return label
+
+    def _predicate(self, labels: Sequence[str]) -> Tuple[str, Tuple[str, ...]]:
+        for words, kind in _PREDICATES.items():
+            if self._follows(words):
+                self._at += len(words)
+                if kind == NEEDS:
+                    self._fail("only `every picture` needs something: every picture needs " + ", ".join(labels), *self._tokens[:1])
+                return kind, self._values(words, kind, labels)
+        self._fail(f"expected: {', '.join(' '.join(words) for words in _PREDICATES if words != ('needs',))}")
+
+    def _values(self, words: Tuple[str, ...], kind: str, labels: Sequence[str]) -> Tuple[str, ...]:
+        if kind == NEVER:
+            return ()
+        if kind == LENGTH:
+            return (self._length(),)
+        if kind in (AFTER, BEFORE):
+            return (self._date(labels),)
+        first = self._next
+        values = [self._value()]
+        while words == ("one", "of") and self._next.word == ",":
+            self._at += 1
+            values.append(self._value())
+        if words != ("from",):
+            return tuple(values)
+        try:
+            return tuple(self._words_of(values[0]))
+        except OSError as error:
+            self._fail(f"{values[0]} can't be read: {error.strerror or error}", first)
+
+    def _value(self) -> str:
+        """A text in quotes, or words up to a comma, a place or the end."""
+        if self._next.is_quoted:
+            self._at += 1
+            return self._tokens[self._at - 1].text
+        first = self._at
+        while not (self._is_at_end or self._next.word in (",", *_PLACES) or self._next.is_quoted):
+            self._at += 1
+        if first == self._at:
+            self._fail("expected: a text, in quotes if it has a comma, in or except")
+        return self._line[self._tokens[first].start : self._tokens[self._at - 1].end]
+
+    def _length(self) -> str:
+        number = self._next
+        if not re.fullmatch(r"[1-9][0-9]{0,6}", number.word):
+            self._fail("expected: a number, as in at most 2000 characters")
+        self._at += 1
+        if self._next.word not in ("characters", "character"):
+            self._fail("expected: characters")
+        self._at += 1
+        return number.text
+
+    def _date(self, labels: Sequence[str]) -> str:
+        if list(labels) != [DATE]:
+            self._fail(f"only {DATE} is compared with a date", *self._tokens[:1])
+        date = self._next
+        if date.word != "today" and not re.fullmatch(r"\d{4}(-\d\d(-\d\d)?)?", date.text):
+            self._fail("expected: a date, such as today, 1950 or 1950-03-21")
+        self._at += 1
+        return time.strftime("%Y-%m-%d") if date.word == "today" else date.text
+
+    def _places(self) -> Tuple[Tuple[str, ...], Tuple[str, ...]]:
+        folders: Dict[str, List[str]] = {word: [] for word in _PLACES}
+        while not self._is_at_end:
+            word = self._next.word
+            if word not in _PLACES:
+                self._fail("expected: in or except and a folder, or the end of the line")
+            self._at += 1
+            folders[word].append(self._folder())
+            while self._next.word == ",":
+                self._at += 1
+                folders[word].append(self._folder())
+        return tuple(folders["in"]), tuple(folders["except"])
+
+    def _folder(self) -> str:
+        folder = self._next
+        if self._is_at_end or folder.word == "," or not folder.text.strip("/"):
+            self._fail("expected: a folder, such as scans/")
+        self._at += 1
+        return os.path.normpath(folder.text) + "/"

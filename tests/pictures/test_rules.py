@@ -1,0 +1,165 @@
+"""`check`: what breaks a museum's own rules. The texts are known by how each picture was made."""
+
+import csv
+import fnmatch
+import io
+import json
+import random
+import re
+
+import pytest
+from made_files import jpeg
+from studio import needs, put
+from test_list import DATASETS, picture
+from test_maker_notes import noted
+
+TEXTS = ("clay", "Clay", "Otto Weiß", "Riverside Museum", "1998.10", "2003.12 bowl", "a, b", "x" * 30, "# seven")
+DATES = ("19500321", "20010102", "20500101")
+FOLDERS = ("web", "scans", "scans/old", "2024/web")
+
+
+def quoted(text):
+    return f'"{text}"'
+
+
+def drawn(rng):
+    """A rule as it is written, and a function that tells which labels and texts of a picture break it."""
+    label = rng.choice([label for label in DATASETS if label != "date created"])
+    kind = rng.choice(("needs", "is", "one of", "like", "never", "at most", "not after", "from"))
+    if kind == "needs":
+        labels = rng.sample(list(DATASETS), 2)
+        return f"every picture needs {', '.join(labels)}", lambda texts: [(it, None) for it in labels if it not in dict(texts)]
+    if kind == "not after":
+        return "date created not after 2001-01-02", lambda texts: [
+            it for it in texts if it[0] == "date created" and it[1] > "20010102"
+        ] and [("date created", re.sub(r"(....)(..)(..)", r"\1-\2-\3", dict(texts)["date created"]))]
+    values = rng.sample(TEXTS, 2)
+    pattern = rng.choice(("####.##*", "*lay", "?lay", "Otto*"))
+    tests = {
+        "is": (quoted(values[0]), lambda text: text == values[0]),
+        "one of": (", ".join(map(quoted, values)), lambda text: text in values),
+        "from": ("words.txt", lambda text: text in ("clay", "Otto Weiß")),
+        "like": (quoted(pattern), lambda text: fnmatch.fnmatchcase(text, pattern.replace("#", "[0-9]"))),
+        "never": ("", lambda text: False),
+        "at most": ("12 characters", lambda text: len(text) <= 12),
+    }
+    words, is_allowed = tests[kind]
+    return f"{label} {kind} {words}", lambda texts: [it for it in dict.fromkeys(texts) if it[0] == label and not is_allowed(it[1])]
+
+
+def place(rng):
+    """The end of a rule, and whether a picture of a folder is meant."""
+    inside, outside = rng.choice((None, None, "web/", "scans/", "scans/old", "2*/web")), rng.choice((None, None, "old", "web"))
+    fits = {"web/": ("web", "2024/web"), "web": ("web", "2024/web"), "scans/": ("scans", "scans/old"), "scans/old": ("scans/old",)}
+    fits.update({"2*/web": ("2024/web",), "old": ("scans/old",)})
+    text = (f" in {inside}" if inside else "") + (f" except {outside}" if outside else "")
+    return text, lambda folder: (not inside or folder in fits[inside]) and not (outside and folder in fits[outside])
+
+
+@pytest.mark.parametrize("seed", range(4))
+def test_rules(folder, called, seed):
+    """Drawn rules are broken by exactly the pictures and texts that break them; by rule, by picture and in a table alike."""
+    rng = random.Random(seed)
+    known = {}
+    for number in range(24):
+        labels = rng.sample(list(DATASETS), rng.randrange(len(DATASETS)))
+        texts = [
+            (label, rng.choice(DATES if label == "date created" else TEXTS))
+            for label in labels
+            for _ in range(2 if label == "keywords" else 1)
+        ]
+        known[f"{rng.choice(FOLDERS)}/{number:02}.jpg"] = texts
+    put(folder / "p", {name: picture(texts) for name, texts in known.items()})
+    (folder / "words.txt").write_text("# allowed\nclay\n\nOtto Weiß\n", "utf-8")
+    called("index", "p", "--catalogue", "c", "--quiet")
+    rules = [(*drawn(rng), *place(rng)) for _ in range(30)]
+    (folder / "rules").write_text("".join(f"{text}{end}   # a comment\n\n" for text, _, end, _ in rules), "utf-8")
+    due = {
+        (name, 2 * number + 1, label, text)
+        for number, (_, broken, _, is_meant) in enumerate(rules)
+        for name, texts in known.items()
+        if is_meant(name.rpartition("/")[0])
+        for label, text in broken(texts)
+    }
+    status, printed, _ = called("check", "rules", "c", "--json")
+    *objects, summary = map(json.loads, printed.splitlines())
+    listed = [(it["path"].partition("/p/")[2], it["line"], it["label"], it["text"]) for it in objects]
+    assert set(listed) == due and len(listed) == len(due) and status == 1
+    assert (summary["rules"], summary["pictures"], summary["not_known"]) == (30, 24, 0)
+    assert summary["broken_rules"] == len({line for _, line, _, _ in due})
+    assert summary["broken_pictures"] == len({name for name, *_ in due})
+    by_picture = map(json.loads, called("check", "rules", "c", "--json", "--by-picture")[1].splitlines()[:-1])
+    assert sorted(it["path"] + str(it["line"]) for it in by_picture) == sorted(it["path"] + str(it["line"]) for it in objects)
+    rows = list(csv.reader(io.StringIO(called("check", "rules", "c", "--csv")[1])))[1:]
+    assert [int(row[1]) for row in rows] == [it["line"] for it in objects]
+
+
+def test_nothing_is_broken(folder, called):
+    put(folder / "p", {"a.jpg": picture([("title", "A")])})
+    (folder / "rules").write_text("every picture needs title\ntitle is A\n")
+    assert called("check", "rules", "p")[:2] == (0, "0 of 2 rules broken, by 0 of 1 pictures\n")
+
+
+def test_pictures_that_were_not_wholly_read(folder, called):
+    """Such a picture doesn't break a rule by a text that may be in the part that wasn't read; but by one that was read."""
+    whole = picture([("title", "A")])
+    put(folder / "p", {"cut.jpg": whole[:30], "b.jpg": whole})
+    (folder / "rules").write_text("every picture needs title\ntitle is B\n")
+    status, printed, _ = called("check", "rules", "p", "--json")
+    *objects, summary = map(json.loads, printed.splitlines())
+    assert status == 2 and [it["line"] for it in objects] == [2] and summary["not_known"] == 1
+
+
+@needs("exiftool")
+def test_owners_in_maker_notes(folder, called):
+    """An owner in a MakerNote breaks a rule where ExifTool was asked; where it wasn't, that isn't known."""
+    put(folder / "p", {"web/canon.jpg": noted(b"Annette")})
+    (folder / "rules").write_text("owner never in web/\n")
+    called("index", "p", "--catalogue", "c", "--quiet")
+    assert called("check", "rules", "c")[0] == 2
+    called("index", "p", "--catalogue", "c", "--quiet", "--again", "--maker-notes")
+    status, printed, _ = called("check", "rules", "c")
+    assert status == 1 and 'owner "Annette"' in printed
+
+
+def test_a_folder_without_pictures_is_named(folder, called):
+    put(folder / "p", {"web/a.jpg": picture([])})
+    (folder / "rules").write_text("title never in wbe/\ntitle never in web/\n")
+    printed = called("check", "rules", "p")[1]
+    assert "wbe/" in printed and "line 2" not in printed
+
+
+def test_each_mistake_is_named(folder, called):
+    """All mistakes of a file are told at once, each with its line and a mark below it."""
+    put(folder / "p", {"a.jpg": jpeg()})
+    wrong = (
+        "every picture need title",
+        "creatr is A",
+        "title",
+        "title is",
+        "caption at most many characters",
+        "city not after 1950",
+        'title is "A',
+        "title never in",
+        "keywords from nothing.txt",
+        "credit needs title",
+    )
+    (folder / "rules").write_text("every picture needs title\n" + "\n".join(wrong))
+    status, printed, messages = called("check", "rules", "p")
+    assert (status, printed) == (3, "")
+    for number, line in enumerate(wrong, 2):
+        assert f"line {number}: " in messages and f"\n  {line}\n" in messages
+    assert "creator" in messages.split("line 3: ")[1].splitlines()[0]
+
+
+@pytest.mark.parametrize("octets", (b"", b"# only a comment\n", b"\xff\xfe", b"title is A\n" * 2000))
+def test_files_that_are_no_rules(folder, called, octets):
+    put(folder / "p", {"a.jpg": jpeg()})
+    (folder / "rules").write_bytes(octets)
+    status, printed, messages = called("check", "rules", "p")
+    assert (status, printed) == (3, "") and len(messages.splitlines()) == 1
+
+
+def test_missing_rules(folder, called):
+    put(folder / "p", {"a.jpg": jpeg()})
+    assert called("check", "nothing", "p")[0] == 4
