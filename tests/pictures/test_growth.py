@@ -195,6 +195,7 @@ COMMANDS = {
     "index": ["P --catalogue new --quiet --jobs 1 --pixels --sidecars"],
     "merge": ["C D --catalogue merged"],
     "forget": ["P --catalogue kept"],
+    "relocate": ["moving P Q"],
     "verify": ["--catalogue C --quiet --jobs 1"],
     "same": ["--catalogue C", "--catalogue C --json --ignore dc:none"],
     "changed": ["C D --each --no-exiftool --quiet --jobs 1", "C D --json --ignore dc:none --no-exiftool --quiet --jobs 1"],
@@ -270,7 +271,7 @@ class Work:
 
     def of_commands(self, put):
         """The work of each command over two folders with what `put` writes into each."""
-        for name in ("P", "Q", "C", "D", "new", "merged", "kept", "written.html", "written.sqlite", "mended"):
+        for name in ("P", "Q", "C", "D", "new", "merged", "kept", "moving", "written.html", "written.sqlite", "mended"):
             path = self.folder / name
             shutil.rmtree(path) if path.is_dir() else path.unlink(missing_ok=True)
         (self.folder / "rules").write_text("every picture needs credit\nkeywords is x\n")
@@ -279,7 +280,8 @@ class Work:
             put(self.folder / side, mark)
         for side, catalogue in (("P", "C"), ("Q", "D")):
             self.run("index", side, "--catalogue", catalogue, "--quiet", "--jobs", "1", "--pixels", "--sidecars")
-        shutil.copy(self.folder / "C", self.folder / "kept")
+        for name in ("kept", "moving"):
+            shutil.copy(self.folder / "C", self.folder / name)
         first = sorted(it.name for it in (self.folder / "P").iterdir())[0]
         names = {"A": f"P/{first}", "B": f"Q/{first}"}
         return {

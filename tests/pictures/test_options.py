@@ -16,6 +16,7 @@ COMMANDS = {
     "index": (*LISTED, "--catalogue", "other"),
     "merge": ("--catalogue", "other", "c"),
     "forget": (*LISTED, "--catalogue", "c"),
+    "relocate": ("c", "p", "q"),
     "verify": (*LISTED, "--catalogue", "c"),
     "same": (*LISTED, "--catalogue", "c"),
     "changed": (*LISTED, "p", "p"),
@@ -48,6 +49,7 @@ class Recorded(argparse.Namespace):
 def archive(folder, called):
     """A folder of one picture, its catalogue, and a list of its names."""
     (folder / "p").mkdir()
+    (folder / "q").mkdir()
     (folder / "p" / "a.jpg").write_bytes(jpeg(app1(A)))
     (folder / "list").write_bytes(b"p/a.jpg\0")
     (folder / "rules").write_bytes(b"every picture needs title\n")

@@ -18,6 +18,7 @@ _VERSIONS = {
     "export": 1,
     "index": 1,
     "list": 1,
+    "relocate": 1,
     "same": 1,
     "show": 1,
     "verify": 1,

@@ -20,8 +20,9 @@ _STATUSES = """Statuses:
   1    different (changed, compare: something differs, also after repair, was
        moved or is missing; same: MakerNotes of a group differ in bytes;
        verify: a file is damaged, missing or has another picture; conflicts: a
-       picture contradicts itself; check: a rule is broken; mend: the copy
-       differs in a printed value)
+       picture contradicts itself; check: a rule is broken; relocate:
+       a file isn't there, or has another size or time; mend: the copy differs
+       in a printed value)
   2    it can't be decided wholly (changed, compare, show, captions, conflicts,
        explain: a block is refused or unreadable, a file is damaged, or a
        picture wasn't read; changed, compare: or a part of one wasn't; changed,
@@ -144,7 +145,7 @@ def parsers() -> "Tuple[_Parser, Dict[str, _Parser]]":
             forms.add_argument("--xlsx", type=_name, metavar="FILE", help=words)
         forms.add_argument("--json", action="store_true", help="print one JSON object for each line")
         parser.add_argument("--debug", action="store_true", help="print the traceback of an internal error, as EXIFNORM_DEBUG=1 does")
-        if name not in ("merge", "compare", "list", "check"):
+        if name not in ("merge", "compare", "list", "check", "relocate"):
             parser.add_argument(
                 "--files-from", metavar="LIST", help="read names from the file LIST, - for standard input: one for each line"
             )
@@ -261,6 +262,13 @@ def _forget_arguments(parser: argparse.ArgumentParser) -> None:
         "folders", nargs="*", type=_name, metavar="FOLDER", help="a folder, with all below it, or a picture; it need not be there"
     )
     parser.add_argument("--catalogue", required=True, type=_name, metavar="FILE")
+
+
+def _relocate_arguments(parser: argparse.ArgumentParser) -> None:
+    _example(parser, "relocate my.catalogue /mnt/old/archive /srv/archive")
+    words = "a catalogue, the folder that it knows, and the folder where its pictures are now"
+    parser.add_argument("names", nargs="+", type=_name, metavar="CATALOGUE OLD NEW", help=words)
+    parser.add_argument("--catalogue", type=_name, metavar="FILE", help="the catalogue, as other commands have it")
 
 
 def _choice_arguments(parser: argparse.ArgumentParser) -> None:
@@ -461,6 +469,7 @@ _COMMANDS: Tuple[Tuple[str, str, Callable[[argparse.ArgumentParser], None]], ...
     ("index", "look at all new and changed pictures, and keep their metadata in a catalogue", _index_arguments),
     ("merge", "join catalogues of several folders or machines", _merge_arguments),
     ("forget", "remove folders or pictures from a catalogue", _forget_arguments),
+    ("relocate", "tell a catalogue where its pictures are now, without reading them again", _relocate_arguments),
     ("verify", "read files again, and tell what is damaged from what is captioned", _verify_arguments),
     ("same", "list groups of pictures that mean the same", _same_arguments),
     ("changed", "list the differences between two catalogues or folders, with the fields", _changed_arguments),

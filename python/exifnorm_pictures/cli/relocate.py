@@ -1,0 +1,58 @@
+"""The command `relocate`."""
+
+from __future__ import annotations
+
+import argparse
+import os
+from collections import Counter
+from typing import List, Tuple
+
+from ..catalogue.store import Catalogue
+from ..model.errors import WrongUse
+from ..model.texts import path_members, shown_path
+from ..scan.relocating import ABSENT, AS_BEFORE, CHANGED, relocated
+from .exit_codes import DIFFERENCE, SUCCESS
+from .objects import print_object
+from .output import print_line
+from .parser import refuse
+
+
+class NotThere(WrongUse):
+    """The new folder isn't there, or the catalogue has no picture below the old one."""
+
+
+def run(arguments: argparse.Namespace) -> int:
+    """Gives pictures of a catalogue their names below another folder; the files stay."""
+    name, old, new = _names(arguments)
+    if not os.path.isdir(new):
+        raise NotThere(f"{shown_path(new)} is no folder: give the folder where the pictures of {shown_path(old)} are now")
+    if os.path.abspath(new).startswith(os.path.abspath(old).rstrip(b"/") + b"/"):
+        raise NotThere(f"{shown_path(new)} lies below {shown_path(old)}, where the catalogue may have other pictures")
+    with Catalogue(name) as catalogue:  # it is one; a missing one isn't made
+        if next(catalogue.below(os.path.abspath(old)), None) is None:
+            raise NotThere(f"{name} has no picture below {shown_path(old)}")
+    with Catalogue(name, make=True) as catalogue:
+        counts = relocated(catalogue, os.path.abspath(old), os.path.abspath(new))
+    _print(arguments, old, new, counts)
+    return DIFFERENCE if counts[CHANGED] or counts[ABSENT] else SUCCESS
+
+
+def _print(arguments: argparse.Namespace, old: bytes, new: bytes, counts: "Counter[str]") -> None:
+    numbers = {"as_before": counts[AS_BEFORE], "changed": counts[CHANGED], "absent": counts[ABSENT]}
+    if arguments.json:
+        print_object("relocate", "summary", {"old": path_members(old), "new": path_members(new), **numbers})
+        return
+    total = sum(numbers.values())
+    print_line(f"{shown_path(old)}: {total:,} picture{'s' * (total != 1)} now below {shown_path(new)}")
+    if counts[CHANGED]:
+        print_line(f"{counts[CHANGED]:,} with another size or modification time: the next index reads them again")
+    if counts[ABSENT]:
+        print_line(f"{counts[ABSENT]:,} not there: the next index misses them")
+
+
+def _names(arguments: argparse.Namespace) -> Tuple[str, bytes, bytes]:
+    """The catalogue, and the old and the new folder."""
+    names: List[str] = arguments.names if arguments.catalogue is None else [arguments.catalogue, *arguments.names]
+    if len(names) != 3:
+        refuse(arguments.command, "give a catalogue, the old folder and the new one")
+    return names[0], os.fsencode(names[1]), os.fsencode(names[2])
