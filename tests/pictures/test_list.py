@@ -215,6 +215,10 @@ def test_fields_of_each_standard(folder, called, asked):
     assert asked("--where", "serial = k-77 or owner = OTTO")[0] == ["c.jpg", "d.jpg"]
     printed = called("list", "c", "--csv", "--with", "position", "--columns", "position")[1]
     assert [row[1:] for row in csv.reader(io.StringIO(printed))] == [["latitude", "longitude"], ["-33.5", "7.25"], ["51.5", "-0.12"]]
+    features = json.loads(called("list", "c", "--geojson", "--columns", "creator")[1])["features"]
+    assert [it["geometry"]["coordinates"] for it in features] == [[7.25, -33.5], [-0.12, 51.5]]
+    assert [it["properties"]["creator"] for it in features] == ["Anna Wirth", ""]
+    assert json.loads(called("list", "c", "--geojson", "--where", "title = none")[1]) == {"type": "FeatureCollection", "features": []}
 
 
 @needs("exiftool")

@@ -3,6 +3,7 @@
 from __future__ import annotations
 
 import argparse
+import json
 import re
 import sys
 import time
@@ -12,6 +13,7 @@ from typing import Iterator, List, Optional, Sequence, Tuple
 
 from ..catalogue.asking import Answer, Fitting, Scope
 from ..fields.labels import POSITION, PRIVATE
+from ..fields.places import place_of
 from ..fields.questions import All, Not, Question, With, WrongQuestion, given_label, labels_of, question_of
 from ..files import signals
 from ..model.texts import Members, escaped, path_members, shown_path
@@ -27,6 +29,7 @@ _WIDEST = 40  # characters in front of which the counts of --count stand
 
 def run(arguments: argparse.Namespace) -> int:
     """Lists pictures by their texts."""
+    _refuse_forms(arguments)
     question = _question(arguments)
     columns = _columns(arguments, question)
     counted = given_label(arguments.count) if arguments.count else None
@@ -50,11 +53,24 @@ def _source(arguments: argparse.Namespace) -> str:
     return str(given[0])
 
 
+def _refuse_forms(arguments: argparse.Namespace) -> None:
+    """Refuses two forms of output at once."""
+    forms = {"-0": arguments.null, "--geojson": arguments.geojson, "--csv": arguments.csv, "--json": arguments.json}
+    given = [form for form, is_given in forms.items() if is_given]
+    if arguments.count is not None:
+        given = [*[form for form in given if form in ("-0", "--geojson")], "--count"]
+    if arguments.null and arguments.columns is not None:
+        given.append("--columns")
+    if len(given) > 1:
+        refuse(arguments.command, f"{given[0]} can't be together with {given[1]}")
+
+
 def _question(arguments: argparse.Namespace) -> Optional[Question]:
     """All that the options ask, together; None if they ask nothing."""
     questions: List[Question] = [With(given_label(word)) for word in arguments.having]
     questions += [Not(With(given_label(word))) for word in arguments.without]
     questions += [question_of(text) for text in arguments.where]
+    questions += [With(POSITION)] * arguments.geojson
     return None if not questions else questions[0] if len(questions) == 1 else All(tuple(questions))
 
 
@@ -63,7 +79,7 @@ def _columns(arguments: argparse.Namespace, question: Optional[Question]) -> Lis
     if arguments.columns is not None:
         return [given_label(word) for word in arguments.columns.split(",")]
     in_question = labels_of(question) if question else []
-    return list(dict.fromkeys(["title", *in_question])) if arguments.csv or arguments.json else []
+    return list(dict.fromkeys(["title", *in_question])) if arguments.csv or arguments.json or arguments.geojson else []
 
 
 def _since(text: str) -> str:
@@ -83,6 +99,8 @@ def _since(text: str) -> str:
 def _print_pictures(arguments: argparse.Namespace, answer: Answer, columns: Sequence[str]) -> None:
     table = Table(arguments, ["picture", *_heads(columns)]) if arguments.csv else None
     listed = 0
+    if arguments.geojson:
+        print('{"type": "FeatureCollection", "features": [')
     for picture in answer.pictures():
         listed += 1
         texts = answer.texts_of(picture, columns) if columns else []
@@ -91,12 +109,24 @@ def _print_pictures(arguments: argparse.Namespace, answer: Answer, columns: Sequ
         elif arguments.json:
             captions = {label: list(of_label) for label, of_label in zip(columns, texts)}
             print_object("list", "picture", {**path_members(picture.path), "texts": captions})
+        elif arguments.geojson:
+            print("," * (listed > 1) + json.dumps(_feature(picture, columns, texts, answer)))
         elif arguments.null:
             sys.stdout.buffer.write(picture.path + b"\0")
         else:
             for line in _lines(picture, columns, texts):
                 print_line(line)
+    if arguments.geojson:
+        print("]}")
     _print_end(arguments, answer, listed)
+
+
+def _feature(picture: Fitting, columns: Sequence[str], texts: Sequence[Tuple[str, ...]], answer: Answer) -> Members:
+    """A picture on a map (RFC 7946), whose positions have the longitude first."""
+    place = next((place_of(text) for text in answer.texts_of(picture, [POSITION])[0]), None)
+    geometry = None if place is None else {"type": "Point", "coordinates": [place.longitude, place.latitude]}
+    properties = {**path_members(picture.path), **{label: "; ".join(of_label) for label, of_label in zip(columns, texts)}}
+    return {"type": "Feature", "geometry": geometry, "properties": properties}
 
 
 def _heads(columns: Sequence[str]) -> List[str]:
@@ -107,7 +137,7 @@ def _heads(columns: Sequence[str]) -> List[str]:
 def _cells(columns: Sequence[str], texts: Sequence[Tuple[str, ...]]) -> Iterator[Cell]:
     for label, of_label in zip(columns, texts):
         if label == POSITION:
-            yield from map(float, of_label[0].split(", ")) if of_label else (None, None)
+            yield from (place_of(of_label[0]) if of_label else None) or (None, None)
         else:
             yield "; ".join(of_label)
 
@@ -126,7 +156,7 @@ def _print_end(arguments: argparse.Namespace, answer: Answer, listed: int) -> No
         print_object("list", "summary", numbers)
         return
     end = f"{listed:,} of {_pictures(answer.count())}{_of_unknown(answer)}"
-    if not (arguments.csv or arguments.null):
+    if not (arguments.csv or arguments.null or arguments.geojson):
         print_line(end)
     elif answer.not_known():
         signals.say(f"exifnorm-pictures: note: {end}")

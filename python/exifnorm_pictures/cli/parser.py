@@ -376,6 +376,7 @@ def _list_arguments(parser: argparse.ArgumentParser) -> None:
     words = "in place of pictures, list the texts of this label, how many pictures have each, and beside it what is spelled alike"
     shown.add_argument("--count", metavar="LABEL", help=words)
     parser.add_argument("-0", "--null", action="store_true", help="only the names, each with NUL after it, as for xargs -0")
+    parser.add_argument("--geojson", action="store_true", help="the pictures with a position as one GeoJSON object, for a map")
     _sidecars_argument(parser)
     _many_arguments(parser)
 

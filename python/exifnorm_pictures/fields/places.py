@@ -24,6 +24,16 @@ class Place(NamedTuple):
         return f"{self.latitude:.6f}, {self.longitude:.6f}"
 
 
+def place_of(text: str) -> Optional[Place]:
+    """The place of a text, as `Place.text` has it; None of any other text.
+
+    >>> place_of("-33.500000, 7.202167"), place_of("33 S")
+    (Place(latitude=-33.5, longitude=7.202167), None)
+    """
+    match = re.fullmatch(r"(-?\d{1,2}\.\d{6}), (-?\d{1,3}\.\d{6})", text)
+    return Place(float(match[1]), float(match[2])) if match else None
+
+
 def position_of(fields: Iterable[Field]) -> Optional[Place]:
     """The position that Exif has, otherwise that of XMP; None if a part is missing or is no angle of the earth.
 
