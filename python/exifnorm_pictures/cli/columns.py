@@ -2,6 +2,7 @@
 
 from __future__ import annotations
 
+import functools
 import re
 import unicodedata
 from typing import Iterator, List, Sequence
@@ -15,7 +16,12 @@ def width(text: str) -> int:
     >>> width("Zürich"), width("京都"), width("e\\u0301")
     (6, 4, 1)
     """
-    return sum(0 if unicodedata.combining(it) else 2 if unicodedata.east_asian_width(it) in "WF" else 1 for it in text)
+    return len(text) if text.isascii() else sum(map(_width_of, text))
+
+
+@functools.lru_cache(maxsize=4096)
+def _width_of(character: str) -> int:
+    return 0 if unicodedata.combining(character) else 2 if unicodedata.east_asian_width(character) in "WF" else 1
 
 
 def columns(rows: Sequence[Sequence[str]], screen: int) -> Iterator[str]:
@@ -94,9 +100,11 @@ def folded(text: str, screen: int) -> List[str]:
 
 def _fitting(text: str, start: int, wanted: int) -> int:
     """The end of the characters from `start` on that fit, at least one."""
+    if text.isascii():
+        return min(len(text), start + max(wanted, 1))
     taken = 0
     for at in range(start, len(text)):
-        taken += width(text[at])
+        taken += _width_of(text[at])
         if taken > wanted:
             return max(at, start + 1)
     return len(text)

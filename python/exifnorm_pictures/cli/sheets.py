@@ -11,7 +11,7 @@ from typing import Iterator, Sequence, Union
 from ..files import atomic
 from ..files.session import Session
 from ..model.errors import Failure
-from ..model.texts import escaped, shown_path
+from ..model.texts import escaped, safe_lines, shown_path
 from .output import print_line
 from .tables import Cell
 
@@ -64,7 +64,7 @@ class Sheet:
 
 def _shown(cell: Union[str, bytes]) -> str:
     text = shown_path(cell) if isinstance(cell, bytes) else cell
-    return "".join(one if one in "\n\t" or one.isprintable() else escaped(one) for one in text)
+    return safe_lines(text)
 
 
 def _fitting(text: str) -> str:

@@ -12,7 +12,7 @@ import re
 import sys
 from typing import TYPE_CHECKING, Optional, Sequence, Union
 
-from ..model.texts import escaped, shown_path
+from ..model.texts import safe_lines, shown_path
 
 if TYPE_CHECKING:
     from .sheets import Sheet
@@ -30,7 +30,7 @@ def cell(text: str) -> str:
     >>> cell("=1+1"), cell("a;=1+1"), cell("a\x1bb"), cell("a\nb")
     ("'=1+1", "a;'=1+1", 'a\\x1bb', 'a\nb')
     """
-    return _FORMULA.sub("'", "".join(it if it in "\n\t" or it.isprintable() else escaped(it) for it in text))
+    return _FORMULA.sub("'", safe_lines(text))
 
 
 class Table:

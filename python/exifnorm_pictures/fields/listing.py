@@ -185,7 +185,10 @@ def _printable(octets: bytes) -> Optional[str]:
         text = octets.decode("utf-8")
     except UnicodeDecodeError:
         return None
-    return text if text.isprintable() or all(it.isprintable() or it in "\n\r\t" for it in text) else None
+    return text if text.isprintable() or text.translate(_LINES).isprintable() else None
+
+
+_LINES = dict.fromkeys(map(ord, "\n\r\t"))  # leaves these out
 
 
 def _wide_text(octets: bytes) -> Optional[str]:

@@ -21,9 +21,7 @@ def escaped(text: str) -> str:
     >>> escaped("a\nb\\c"), escaped(os.fsdecode(b"x\x85")), escaped("x\x85\u202e")
     ('a\\nb\\\\c', 'x\\x85', 'x\\u0085\\u202e')
     """
-    if text.isprintable() and "\\" not in text:
-        return text
-    return text.translate({ord(it): _escaped_character(it) for it in set(text)})  # few characters are different ones
+    return text if text.isprintable() and "\\" not in text else _escaped_but(text, "")
 
 
 def safe(text: str) -> str:
@@ -32,9 +30,21 @@ def safe(text: str) -> str:
     >>> safe("a\n\x9b\u202e")
     'a\\n\\u009b\\u202e'
     """
-    if text.isprintable():
-        return text
-    return "".join([it if it == "\\" else _escaped_character(it) for it in text])
+    return text if text.isprintable() else _escaped_but(text, "\\")
+
+
+def safe_lines(text: str) -> str:
+    r"""The same of a text that may have several lines and tabs.
+
+    >>> safe_lines("a\n\t\x9b")
+    'a\n\t\\u009b'
+    """
+    return text if text.isprintable() else _escaped_but(text, "\\\n\t")
+
+
+def _escaped_but(text: str, kept: str) -> str:
+    """The text with its characters escaped but for some."""
+    return text.translate({ord(it): _escaped_character(it) for it in set(text).difference(kept)})  # few characters are different ones
 
 
 _SHORT = {"\n": "\\n", "\r": "\\r", "\t": "\\t", "\\": "\\\\"}
