@@ -274,7 +274,13 @@ class Pieces(unittest.TestCase):
 
     def test_a_long_value(self):
         text = "".join(chr(0x61 + number % 26) for number in range(301))
-        self.assertEqual([report._value(it) for it in (text[:300], text)], [f"<code>{text[:300]}</code>", f"<code>{text[:300]} ..</code>"])
+        self.assertEqual([contents.shortened(it) for it in (text[:300], text)], [text[:300], f"{text[:300]} .."])
+        rows = [("IFD0:Make", text, text + "x", "")] * 41
+        _, result, note, count, first = json.loads(contents._text_of("different", text, rows))
+        self.assertEqual((result, note, count, len(first)), ("different", f"{text[:300]} ..", 41, 40))
+        self.assertEqual(first[0], ["IFD0:Make", f"{text[:300]} ..", f"{text[:300]} ..", ""])
+        other = [*rows[:40], ("IFD0:Make", text, text + "y", "")]
+        self.assertNotEqual(contents._text_of("different", text, rows), contents._text_of("different", text, other), "all of it counts")
 
 
 class Listed(unittest.TestCase):

@@ -18,6 +18,7 @@ from ..fields.plain_names import group_name, group_of
 from ..files.session import Session
 from ..judge.sides import Sides
 from ..model import steps
+from ..model.budgets import WAITING_BYTES
 from ..model.found import EXIF, NAMES, OWN, PROGRAMS
 from ..model.problems import Problem
 from ..model.records import Block, Picture, is_same_file
@@ -403,7 +404,7 @@ def number_undecided(counts: "Counter[Result]") -> int:
 class Equal:
     """Pictures whose changes are equal, kept in a temporary database until all are known."""
 
-    _MOST = 1000  # rows that are written at once, and changes that are looked up in memory
+    _MOST = 1000  # rows that are written at once, or fewer if they are long, and changes that are looked up in memory
 
     def __init__(self) -> None:
         self.base = sqlite3.connect("", isolation_level=None)
@@ -411,6 +412,7 @@ class Equal:
         self._known: Dict[bytes, int] = {}
         self._heads: List[Tuple[int, Optional[bytes], str]] = []
         self._names: List[Tuple[int, bytes]] = []
+        self._size = 0  # of what waits
         self._count = 0
 
     def close(self) -> None:
@@ -425,10 +427,11 @@ class Equal:
             self._count += 1
             number = self._count
             self._heads.append((number, key, text))
+            self._size += len(text)
         if key:
             self._known[key] = number
         self._names.append((number, name))
-        if len(self._names) >= self._MOST:
+        if len(self._names) >= self._MOST or self._size >= WAITING_BYTES:
             self._write()
 
     def _number(self, key: bytes) -> Optional[int]:
@@ -444,6 +447,7 @@ class Equal:
         self._heads.clear()
         self._names.clear()
         self._known.clear()
+        self._size = 0
 
     def all(self) -> Iterator[Tuple[str, int, Iterator[bytes]]]:
         """The changes, each with its number of pictures and their names, in the order in which they were first added."""

@@ -7,13 +7,12 @@ import sqlite3
 from typing import Dict, Iterable, Iterator, List, Tuple
 
 from ..files import signals
-from ..model.budgets import STEPS
+from ..model.budgets import STEPS, WAITING_BYTES
 from ..model.errors import Failure
 
 APPLICATION = 0x45584E54  # 'EXNT', which distinguishes an export from a catalogue and from other SQLite files
 VERSION = 2
-_ROWS = 1000  # that are written at once, or fewer of this many characters and bytes
-_SIZE = 4 << 20
+_ROWS = 1000  # that are written at once, or fewer if they are long
 _CACHE = 8_000  # kB
 
 SCHEMA = """
@@ -136,7 +135,7 @@ class Tables:
             self._size += sum(len(cell) for cell in row if isinstance(cell, (str, bytes)))
             if len(waiting) >= _ROWS:
                 self._write(table)
-            if self._size >= _SIZE:
+            if self._size >= WAITING_BYTES:
                 self._write_all()
 
     def _write_all(self) -> None:

@@ -11,7 +11,7 @@ from __future__ import annotations
 import hashlib
 import os
 import re
-from typing import Callable, Dict, Iterable, List, NamedTuple, Optional, Sequence, Set, Tuple
+from typing import Callable, Dict, Iterable, Iterator, List, NamedTuple, Optional, Sequence, Set, Tuple
 
 from ..files import opening
 from ..model.budgets import LIMITS, PACKET_BYTES, XMP_BYTES
@@ -41,6 +41,7 @@ class Folder:
         """Takes the names of all files of the folder."""
         self._of: Dict[bytes, List[Tuple[str, bytes]]] = {}  # by the picture's name in small letters
         self._further: Dict[bytes, int] = {}  # sidecars of such a name that are not read
+        self._known: Dict[bytes, Tuple[Sidecar, ...]] = {}  # those of such a name, which all pictures of the name share
         self.files: Set[bytes] = set()  # the sidecars that belong to a picture
         every = sorted(names)
         sidecars = [it for it in every if it.lower().endswith(b".xmp")]
@@ -77,15 +78,19 @@ class Folder:
 
     def of(self, picture: bytes) -> Tuple[Sidecar, ...]:
         """The sidecars of a picture, in a fixed order. The names of their blocks don't depend on that of the picture."""
-        sidecars: List[Sidecar] = []
+        name = picture.lower()
+        if name in self._of and name not in self._known:
+            self._known[name] = tuple(self._ordered(name))
+        return self._known.get(name, ())
+
+    def _ordered(self, name: bytes) -> Iterator[Sidecar]:
         counts: Dict[str, int] = {}
-        for what, file in sorted(self._of.get(picture.lower(), ())):
+        for what, file in sorted(self._of[name]):
             counts[what] = counts.get(what, 0) + 1
-            sidecars.append(Sidecar(what if counts[what] == 1 else f"{ordinal(counts[what])} {what}", file))
-        further = self._further.get(picture.lower(), 0)
+            yield Sidecar(what if counts[what] == 1 else f"{ordinal(counts[what])} {what}", file)
+        further = self._further.get(name, 0)
         if further:
-            sidecars.append(Sidecar(f"{further:,} further {NAME}{'s' * (further > 1)}", b""))
-        return tuple(sidecars)
+            yield Sidecar(f"{further:,} further {NAME}{'s' * (further > 1)}", b"")
 
 
 class Folders:

@@ -233,6 +233,11 @@ class Picture(NamedTuple):
         return self.exif_octets, self.iptc_octets, self.xmp_octets
 
     @property
+    def kept_bytes(self) -> int:
+        """About how many bytes its fields and texts have, if it was looked at just now."""
+        return sum(len(block.packed or b"") for block in self.blocks) + sum(len(text.text) for text in self.texts)
+
+    @property
     def state(self) -> str:
         """One word for the whole picture: a problem, `refused`, `accepted`, or `no block`; and whether the problem was there before."""
         if self.problem:

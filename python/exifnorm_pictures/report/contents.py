@@ -2,11 +2,12 @@
 
 from __future__ import annotations
 
+import hashlib
 import heapq
 import json
 from collections import Counter
 from dataclasses import dataclass, field
-from typing import Any, Dict, Iterator, List, Optional, Sequence, Set, Tuple
+from typing import Any, Dict, Iterable, Iterator, List, Optional, Sequence, Set, Tuple
 
 from ..catalogue.store import Catalogue, Run
 from ..comparison import changed, groups
@@ -27,6 +28,16 @@ from .contradictions import Contradictions, checked, texts
 _ORDER = {result: number for number, result in enumerate(Result)}
 # what a page has of each list
 MOST_GROUPS, MOST_OF_GROUP, MOST_CHANGES, MOST_REFUSED, MOST_NAMES, MOST_CONTRADICTIONS = 40, 12, 300, 60, 60, 60
+MOST_FIELDS = 40  # of a change
+LONGEST = 300  # characters of a name, a value or a note
+MOST_COUNTED = 10_000  # fields whose pictures are counted
+
+Line = Tuple[str, Optional[str], Optional[str], str]  # a field, its two values, and what is printed in their place
+
+
+def shortened(text: str) -> str:
+    """The beginning of a text that is too long for a page."""
+    return text if len(text) <= LONGEST else f"{text[:LONGEST]} .."
 
 
 @dataclass
@@ -69,7 +80,8 @@ class EqualChanges:
 
     result: str
     note: str
-    lines: List[Tuple[str, Optional[str], Optional[str], str]]  # a field, its two values, and what is printed in their place
+    lines: List[Line]  # the first ones
+    all_lines: int
     count: int
     names: List[bytes]
 
@@ -82,7 +94,8 @@ class Gathered:
     states: "Counter[str]" = field(default_factory=Counter)
     causes: "Counter[str]" = field(default_factory=Counter)
     refused: Dict[str, List[Refused]] = field(default_factory=dict)  # the first of each cause
-    parts: "Counter[str]" = field(default_factory=Counter)  # the unread parts, and the number of pictures with each
+    parts: "Counter[str]" = field(default_factory=Counter)  # the most frequent unread parts, and the number of pictures with each
+    all_parts: int = 0
     unread: int = 0
     maker_notes: int = 0  # pictures with a MakerNote
     problems: List[Picture] = field(default_factory=list)
@@ -167,9 +180,10 @@ def _refused_of_row(row: Tuple[Any, ...]) -> Refused:
 
 
 def _gather_parts(contents: Gathered, about: About) -> None:
-    query = f"SELECT what, count(*) FROM not_read JOIN pictures ON pictures.id = picture WHERE {_chosen(about)} GROUP BY what"
-    for what, count in about.catalogue.rows(query, (), _part_of_row):
-        contents.parts[what] += count
+    source = f"FROM not_read JOIN pictures ON pictures.id = picture WHERE {_chosen(about)}"
+    query = f"SELECT what, count(*) {source} GROUP BY what ORDER BY count(*) DESC, what LIMIT {MOST_REFUSED}"
+    contents.parts.update(dict(about.catalogue.rows(query, (), _part_of_row)))
+    contents.all_parts = next(about.catalogue.rows(f"SELECT count(DISTINCT what) {source}"))[0]
     query = f"SELECT count(*) FROM pictures WHERE not_read IS NOT '' AND {_chosen(about)}"
     contents.unread = next(about.catalogue.rows(query))[0]
     query = f"SELECT count(DISTINCT picture) FROM blocks JOIN pictures ON pictures.id = picture WHERE note IS NOT NULL AND {_chosen(about)}"
@@ -196,21 +210,35 @@ def _gather_changes(contents: Gathered, about: About) -> None:
     for comparison in found_changes:
         if comparison.result.has_changed is False:
             continue
-        contents.fields.update({change.name for change in comparison.changes})
+        _count_fields(contents.fields, (change.name for change in comparison.changes))
         to = f"to {shown_path(comparison.moved_to)}" if comparison.moved_to is not None else ""
-        text = [comparison.result, comparison.note or to, [(one.name, *sides(one), one.note) for one in comparison.changes]]
-        equal.add(json.dumps(text), comparison.name, comparison.moved_to is not None)
+        text = _text_of(comparison.result, comparison.note or to, [(one.name, *sides(one), one.note) for one in comparison.changes])
+        equal.add(text, comparison.name, comparison.moved_to is not None)
 
     def heads() -> Iterator[Tuple[int, int, int, EqualChanges]]:
         for number, (text, count, names) in enumerate(equal.all()):
-            result, note, lines = json.loads(text)
+            _, result, note, all_lines, first = json.loads(text)
             contents.all_changed += 1
             kept = [name for name, _ in zip(names, range(MOST_NAMES))]
-            yield _ORDER[result], -count, number, EqualChanges(result, note, lines, count, kept)
+            yield _ORDER[result], -count, number, EqualChanges(result, note, first, all_lines, count, kept)
 
     contents.changed = [it[3] for it in heapq.nsmallest(MOST_CHANGES, heads(), key=lambda it: it[:3])]
     equal.close()
     contents.left_out = list(lines(about.choice, True))
+
+
+def _text_of(result: Result, note: str, rows: List[Line]) -> str:
+    """What a page has of the changes of a picture, and a digest of them all: two are counted together only if all are equal."""
+    digest = hashlib.sha256(json.dumps([note, rows]).encode("ascii")).hexdigest()
+    first = [[cell if cell is None else shortened(cell) for cell in row] for row in rows[:MOST_FIELDS]]
+    return json.dumps([digest, result, shortened(note), len(rows), first])
+
+
+def _count_fields(counts: "Counter[str]", names: Iterable[str]) -> None:
+    """Counts one more picture for each of these fields. Of a field that isn't among the first ones nothing is counted."""
+    for name in set(map(shortened, names)):
+        if name in counts or len(counts) < MOST_COUNTED:
+            counts[name] += 1
 
 
 def members(about: About) -> Iterator[Members]:
@@ -267,7 +295,7 @@ def _changed_members(about: About) -> Iterator[Members]:
     for comparison in changed.changed(about.old, about.catalogue, results, about.only, session=about.session, choice=about.choice):
         if comparison.result.has_changed is False:
             continue
-        fields.update({change.change_name for change in comparison.changes})
+        _count_fields(fields, (change.change_name for change in comparison.changes))
         changes = [{"name": one.change_name, "before": bare(one.before), "after": bare(one.after)} for one in comparison.changes]
         moved = {} if comparison.moved_to is None else {"moved_to": path_members(comparison.moved_to)}
         yield {"changed": path_members(comparison.name), "result": comparison.result, "note": comparison.note, **moved, "fields": changes}

@@ -23,19 +23,23 @@ from ..refusals.causes import CAUSES, words_of
 from .contents import (
     MOST_CHANGES,
     MOST_CONTRADICTIONS,
+    MOST_COUNTED,
+    MOST_FIELDS,
     MOST_GROUPS,
     MOST_NAMES,
     MOST_OF_GROUP,
     MOST_REFUSED,
     EqualChanges,
     Gathered,
+    Line,
+    shortened,
     unproved,
 )
 from .contradictions import texts
 from .style import STYLE
 from .thumbnails import small_pictures
 
-MOST_OPEN, MOST_FIELDS = 8, 40  # changes that are shown unfolded, and fields of a change
+MOST_OPEN = 8  # changes that are shown unfolded
 
 WORDS = {
     **COUNTED,
@@ -145,7 +149,7 @@ def _changes(contents: Gathered) -> str:
     parts = ["<section><h2>What changed</h2>", _bars(results, "odd", _RESULT_TONES)]
     if contents.fields:
         parts += ["<h3>Fields that differ, by number of pictures</h3>", _bars(contents.fields.most_common(20), "odd")]
-        parts.append(_more(len(contents.fields), 20, "fields"))
+        parts.append(_more(len(contents.fields), 20, "fields" + " or more" * (len(contents.fields) == MOST_COUNTED)))
     for number, changes in enumerate(contents.changed):
         parts.append(_equal(changes, number < MOST_OPEN))
     parts.append(_more(contents.all_changed, MOST_CHANGES, "differences"))
@@ -174,13 +178,13 @@ def _equal(changes: EqualChanges, opened: bool) -> str:
             + "</ul>"
             + _more(changes.count, MOST_NAMES, "pictures")
         )
-    fields = _fields(changes.lines) if changes.lines else ""
+    fields = _fields(changes.lines, changes.all_lines) if changes.lines else ""
     return f"<details{' open' if opened and changes.count == 1 else ''}><summary>{label}</summary>{fields}{inside}</details>"
 
 
-def _fields(lines: List[Tuple[str, Optional[str], Optional[str], str]]) -> str:
-    rows = "".join(f"<tr><th>{_text(name)}</th>{_cells(before, after, note)}</tr>" for name, before, after, note in lines[:MOST_FIELDS])
-    more = _more(len(lines), MOST_FIELDS, "fields")
+def _fields(lines: List[Line], count: int) -> str:
+    rows = "".join(f"<tr><th>{_text(name)}</th>{_cells(before, after, note)}</tr>" for name, before, after, note in lines)
+    more = _more(count, MOST_FIELDS, "fields")
     return f'<table class="fields"><tr><th>Field</th><th>before</th><th>after</th></tr>{rows}</table>{more}'
 
 
@@ -189,7 +193,7 @@ def _cells(before: Optional[str], after: Optional[str], note: str) -> str:
 
 
 def _value(value: Optional[str]) -> str:
-    return '<i class="note">none</i>' if value is None else f"<code>{_text(value if len(value) <= 300 else value[:300] + ' ..')}</code>"
+    return '<i class="note">none</i>' if value is None else f"<code>{_text(value)}</code>"
 
 
 def _counted(count: int, what: str) -> str:
@@ -255,7 +259,7 @@ def _conflict(conflict: Conflict) -> str:
 
 
 def _caption(text: Optional[str]) -> str:
-    return '<i class="note">none</i>' if not text else _text(escaped(text if len(text) <= 300 else f"{text[:300]} .."))
+    return '<i class="note">none</i>' if not text else _text(escaped(shortened(text)))
 
 
 def _parts(contents: Gathered) -> str:
@@ -263,8 +267,8 @@ def _parts(contents: Gathered) -> str:
     notes = f"<p>{_text(of_maker_notes(contents.maker_notes))}</p>" if contents.maker_notes else ""
     if not contents.parts:
         return f"<section><h2>What was not read</h2>{notes}</section>\n" if notes else ""
-    rows = "".join(f"<tr><td>{count:,}</td><td>{_text(what)}</td></tr>" for what, count in contents.parts.most_common(MOST_REFUSED))
-    more = _more(len(contents.parts), MOST_REFUSED, "parts")
+    rows = "".join(f"<tr><td>{count:,}</td><td>{_text(shortened(what))}</td></tr>" for what, count in contents.parts.most_common())
+    more = _more(contents.all_parts, MOST_REFUSED, "parts")
     words = "These parts were compared by a digest of their bytes at most; pictures that differ in them are not the same."
     return f"<section><h2>What was not read</h2><p>{words}</p><table>{rows}</table>{more}{notes}</section>\n"
 

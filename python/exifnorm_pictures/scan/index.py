@@ -13,6 +13,7 @@ from typing import Callable, Dict, Iterable, Iterator, List, Optional, Sequence,
 from ..catalogue.store import Catalogue, Known
 from ..extract import programs
 from ..extract.sidecars import marks
+from ..model import budgets
 from ..model.found import EXIFTOOL, EXIV2, UNREAD_TRAILER
 from ..model.problems import AGAIN, GONE, NEEDED, Problem
 from ..model.records import Picture, is_as_before
@@ -215,7 +216,7 @@ class _Looking:
         self.version = ""  # of the library
         self.versions: Dict[str, Optional[str]] = {}  # of the other programs that have read a picture
         self.files = 0  # of batches that are ready
-        self.pictures = 0  # that are ready
+        self.pictures = self.size = 0  # that are ready, and their bytes
         self.done = 0
         self.last = time.monotonic()
 
@@ -232,7 +233,9 @@ class _Looking:
             self.ready.append(result)
             self.files += isinstance(result, Batch)
             self.pictures += sum(result.states.values()) if isinstance(result, Batch) else 1
-            if self.pictures >= BATCH or self.files >= FILES or time.monotonic() - self.last > LONGEST_WAIT:
+            self.size += 0 if isinstance(result, Batch) else result.kept_bytes
+            is_much = self.pictures >= BATCH or self.files >= FILES or self.size >= budgets.READY_BYTES
+            if is_much or time.monotonic() - self.last > LONGEST_WAIT:
                 self.commit()
         if self.ready:
             self.commit()
@@ -252,7 +255,7 @@ class _Looking:
                 self.count(result, self.options.how.lines)
         self.done += self.pictures
         self.ready.clear()
-        self.pictures = self.files = 0
+        self.pictures = self.size = self.files = 0
         self.last = time.monotonic()
         self.progress.done(self.done)
 

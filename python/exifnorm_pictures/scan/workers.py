@@ -20,6 +20,7 @@ from typing import Deque, Iterable, Iterator, List, NamedTuple, Sequence, Set
 from ..extract import programs
 from ..files import signals
 from ..files.session import Session
+from ..model.budgets import READY_BYTES
 from ..model.records import Picture
 from ..model.texts import reason
 from .batches import LONGEST_WAIT, Batch, How, Result, batch
@@ -68,12 +69,14 @@ def _by_several(work: Sequence[FoundFile], how: How) -> Iterator[Result]:
 
 
 def look_at_some(task: Task, how: How) -> Batch:
-    """A process's results for the first pictures of a task: for all of them, unless that takes too long."""
+    """A process's results for the first pictures of a task: for all of them, unless that takes too long or too much memory."""
     ends_at = time.monotonic() + LONGEST_WAIT
     entries: List[Picture] = []
+    size = 0
     for file in task.chunk:
         entries.append(_look(file, how))
-        if time.monotonic() > ends_at:
+        size += entries[-1].kept_bytes
+        if size >= READY_BYTES or time.monotonic() > ends_at:
             break
     return batch(task.file, entries, task.chunk[len(entries) :], how.lines)
 
