@@ -19,7 +19,7 @@ from made_files import A, B, K, L, T, T_OTHERWISE, U, XMP_HEAD, turned, xmp
 from made_files import app1, app13, app1_xmp, chunk, extension, jpeg, mpf, page, png, png_xmp, profile, resource, tiff, webp, with_record
 from studio import SMALL_JPEG, needs, read, run, write
 
-from exifnorm_pictures.cli import changed as states, mend as mend_cli
+from exifnorm_pictures.cli import looking, mend as mend_cli
 from exifnorm_pictures.refusals import mend
 from exifnorm_pictures.scan import batches, index
 from exifnorm_pictures.extract.formats import jpeg_tail
@@ -338,7 +338,7 @@ class Catalogues(Promises):
         for sides, moved in ((("@/x", "@/y"), ("a.jpg", "new.jpg")), (("@/both", "@/later"), ("F/y/a.jpg", "F/y/new.jpg"))):
             found = self.objects("changed", *sides, status=1)[0]
             self.assertEqual((found["path"], found["result"], found["moved_to"]["path"]), (moved[0], "moved", moved[1]))
-        with mock.patch.object(states, "index", wraps=states.index) as read_:
+        with mock.patch.object(looking, "index", wraps=looking.index) as read_:
             for more in ([], ["--quiet"]):
                 self.printed("changed", "@/x", "@/both", "--jobs", "3", *more, status=1)
                 self.assertEqual(self.complaint, "")

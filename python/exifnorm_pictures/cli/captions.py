@@ -4,7 +4,7 @@ from __future__ import annotations
 
 import argparse
 import os
-from typing import Iterator, List
+from typing import TYPE_CHECKING, Iterator, List
 
 from ..comparison.conflicts import best, conflicts, own_texts
 from ..fields.labels import WORDS, LabelText
@@ -17,8 +17,10 @@ from .exit_codes import SUCCESS
 from .labelled import is_of_many, members, not_read, origins, pictures, refused, together
 from .names import is_list
 from .objects import print_object
-from .output import print_line
-from .tables import Cell, Table
+from .output import print_line, table_of
+
+if TYPE_CHECKING:
+    from .tables import Cell
 
 _OWN = "a camera's or a program's own text"
 _WIDTH = max(map(len, WORDS)) + 1
@@ -27,7 +29,7 @@ _WIDTH = max(map(len, WORDS)) + 1
 def run(arguments: argparse.Namespace) -> int:
     """Lists captions of Exif, IPTC and XMP."""
     worst = SUCCESS
-    table = Table(arguments, ["picture", *WORDS, "camera's text", "contradicts itself", "not read"]) if arguments.csv else None
+    table = table_of(arguments, ["picture", *WORDS, "camera's text", "contradicts itself", "not read"])
     has_heads = is_list(arguments, arguments.pictures) or is_of_many(os.fsencode(arguments.pictures[0]))
     for reading in pictures(arguments):
         worst = max(worst, status_of(reading))

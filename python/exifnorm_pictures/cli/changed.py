@@ -30,7 +30,7 @@ from .choice import choice_of, listings_of, note_absent, refuse_unknown
 from .exit_codes import DIFFERENCE, SUCCESS, UNKNOWN
 from .looking import catalogue_of
 from .names import from_list, refuse_pictures, say_unknown
-from .output import print_line
+from .output import print_line, table_of
 from .summary import lines
 
 
@@ -50,7 +50,7 @@ def run(arguments: argparse.Namespace) -> int:
     notes = _Notes(arguments, pictures)
     with contextlib.ExitStack() as open_:
         _go_on_with_sidecars(arguments)
-        before, after = (open_.enter_context(catalogue_of(it, arguments)) for it in (arguments.before, arguments.after))
+        before, after = (open_.enter_context(catalogue_of(it, arguments, texts=False)) for it in (arguments.before, arguments.after))
         choice = choice_of(arguments)
         refuse_unknown(choice, itertools.chain(listings_of(before), listings_of(after)))
         comparisons = changes.changed(
@@ -58,8 +58,9 @@ def run(arguments: argparse.Namespace) -> int:
         )
         comparisons = _then_noted(comparisons, choice, before, after)
         listed = (it for it in comparisons if it.result.has_changed is not False or arguments.all)
-        if arguments.csv:
-            changed_tables.print_table(arguments, listed, choice)
+        table = table_of(arguments, changed_tables.HEADS)
+        if table:
+            changed_tables.print_table(table, listed, choice)
             for text in notes.of_pictures():
                 signals.say(f"exifnorm-pictures: note: {text}")
         elif arguments.json:

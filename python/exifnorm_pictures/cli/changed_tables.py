@@ -2,9 +2,8 @@
 
 from __future__ import annotations
 
-import argparse
 from collections import Counter
-from typing import Iterable, Optional, Sequence, Tuple
+from typing import TYPE_CHECKING, Iterable, Optional, Sequence, Tuple
 
 from ..comparison.changed import Compared
 from ..comparison.coded import Coded
@@ -20,17 +19,18 @@ from ..model.results import Result
 from ..model.steps import Step
 from ..model.texts import Members, path_members
 from .objects import print_object
-from .tables import Table
+
+if TYPE_CHECKING:
+    from .tables import Table
 
 Found = Iterable[Compared]
 
 _MAKER_NOTE = group_name(*MAKER_NOTE)
-_HEADS = ("picture", "result", "moved to", "field", "before", "after", "exact before", "exact after", "note", "coded picture")
+HEADS = ("picture", "result", "moved to", "field", "before", "after", "exact before", "exact after", "note", "coded picture")
 
 
-def print_table(arguments: argparse.Namespace, comparisons: Found, choice: Choice) -> None:
+def print_table(table: Table, comparisons: Found, choice: Choice) -> None:
     """A row for each field that differs, and one for each other picture."""
-    table = Table(arguments, _HEADS)
     for comparison in comparisons:
         about = (comparison.name, comparison.result, comparison.moved_to)
         for change in comparison.changes:

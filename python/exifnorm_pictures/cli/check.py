@@ -5,7 +5,7 @@ from __future__ import annotations
 import argparse
 import os
 from itertools import groupby
-from typing import Dict, List
+from typing import TYPE_CHECKING, Dict, List
 
 from ..catalogue.checking import Broken, Checked
 from ..fields.rules import WrongRules, rules_of
@@ -14,9 +14,11 @@ from ..model.texts import Members, escaped, path_members, shown_path
 from .exit_codes import DIFFERENCE, SUCCESS, UNKNOWN
 from .looking import catalogue_of, refuse_for_catalogues
 from .objects import print_object
-from .output import print_line
+from .output import print_line, table_of
 from .parser import refuse
-from .tables import Table
+
+if TYPE_CHECKING:
+    from .tables import Table
 
 _LONGEST = 10_000_000  # bytes of rules, and of a file of words
 
@@ -32,8 +34,9 @@ def run(arguments: argparse.Namespace) -> int:
         raise WrongRules(f"{escaped(arguments.rules)} has no rule")
     with catalogue_of(source, arguments) as catalogue, catalogue.reading():
         checked = Checked(catalogue, rules)
-        if arguments.csv:
-            _print_table(arguments, checked)
+        table = table_of(arguments, ["picture", "line", "rule", "label", "text"])
+        if table:
+            _print_table(arguments, table, checked)
         elif arguments.json:
             for broken in checked.broken(arguments.by_picture):
                 print_object("check", "picture", _members(checked, broken))
@@ -80,8 +83,7 @@ def _print_lines(arguments: argparse.Namespace, checked: Checked) -> None:
             print_line(f"  {shown_path(path)}: {', '.join(map(_what, of_picture))}")
 
 
-def _print_table(arguments: argparse.Namespace, checked: Checked) -> None:
-    table = Table(arguments, ["picture", "line", "rule", "label", "text"])
+def _print_table(arguments: argparse.Namespace, table: Table, checked: Checked) -> None:
     for broken in checked.broken(arguments.by_picture):
         rule = checked.rules[broken.number]
         table.row(broken.path, rule.line, rule.text, broken.label, broken.text)

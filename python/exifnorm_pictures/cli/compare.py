@@ -6,7 +6,7 @@ import argparse
 import os
 import shutil
 from collections import Counter
-from typing import Iterator, List, Optional, Sequence
+from typing import TYPE_CHECKING, Iterator, List, Optional, Sequence
 
 from ..comparison.coded import Coded
 from ..comparison.proved import head_of_file
@@ -27,8 +27,10 @@ from .columns import columns
 from .exit_codes import SUCCESS, UNKNOWN
 from .names import refuse_folders
 from .objects import picture_object, print_object
-from .output import print_line
-from .tables import Table
+from .output import print_line, table_of
+
+if TYPE_CHECKING:
+    from .tables import Table
 
 
 def run(arguments: argparse.Namespace) -> int:
@@ -43,10 +45,11 @@ def run(arguments: argparse.Namespace) -> int:
     rows = rows if arguments.exact else with_position(rows, old, new)
     names = [os.fsencode(it) for it in (arguments.before, arguments.after)]
     choice.add_left_out(comparison.left_out)
+    table = table_of(arguments, ["field", "before", "after", "exact before", "exact after", "note"])
     if arguments.json:
         print_object("compare", "comparison", _members(comparison, rows, names, choice))
-    elif arguments.csv:
-        _print_table(arguments, comparison, rows, names, list(lines(choice)))
+    elif table:
+        _print_table(table, comparison, rows, names, list(lines(choice)))
     else:
         for line in _lines(comparison, rows, names, arguments.exact, list(lines(choice))):
             print_line(line)
@@ -157,17 +160,14 @@ def _cells(row: Row, exact: bool) -> Sequence[str]:
 # --csv
 
 
-def _print_table(
-    arguments: argparse.Namespace, comparison: Comparison, rows: Sequence[Row], names: Sequence[bytes], notes: Sequence[str]
-) -> None:
+def _print_table(table: Table, comparison: Comparison, rows: Sequence[Row], names: Sequence[bytes], notes: Sequence[str]) -> None:
     """A row for each field that differs, and at the end one for each reason why the answer isn't whole."""
-    table = Table(arguments, ["field", "before", "after", "exact before", "exact after", "note"])
     for row in rows:
         table.row(row.name, *row.plain, *row.exact, row.note or ("equal number" if row.is_equal_number else None))
     problems = [f"{shown_path(name)}: {it.problem}: {it.detail}" for name, it in zip(names, comparison.records) if it.problem]
     note = "" if problems or not comparison.found.note else f" ({comparison.found.note})"
-    for note in notes:
-        table.row(None, None, None, None, None, note)
+    for text in notes:
+        table.row(None, None, None, None, None, text)
     if _status(comparison) == UNKNOWN:
         table.row(None, None, None, None, None, "; ".join([_sentence(comparison, rows) + note, *problems]))
 

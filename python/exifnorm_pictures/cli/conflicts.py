@@ -5,7 +5,7 @@ from __future__ import annotations
 import argparse
 from collections import Counter
 from dataclasses import dataclass, field
-from typing import Dict, Iterator, List, Sequence, Set
+from typing import TYPE_CHECKING, Dict, Iterator, List, Sequence, Set
 
 from ..comparison.conflicts import Conflict, ConflictKind, conflicts
 from ..fields.choosing import UnknownField
@@ -17,8 +17,10 @@ from .captions import text_members
 from .exit_codes import DIFFERENCE, SUCCESS, UNKNOWN
 from .labelled import members, origins, pictures, refused, together
 from .objects import print_object
-from .output import print_line
-from .tables import Cell, Table
+from .output import print_line, table_of
+
+if TYPE_CHECKING:
+    from .tables import Cell, Table
 
 LONGEST = 160  # characters of a text that is shown whole
 
@@ -40,7 +42,7 @@ class _Counts:
 def run(arguments: argparse.Namespace) -> int:
     """Lists contradictions inside pictures."""
     counts, chosen = _Counts(), _chosen(arguments)
-    table = Table(arguments, ["picture", "label", "kind", "detail", *STANDARDS]) if arguments.csv else None
+    table = table_of(arguments, ["picture", "label", "kind", "detail", *STANDARDS])
     for reading in pictures(arguments):
         every = [one for one in conflicts(reading.texts) if not one.is_alike]
         counted = [one for one in every if one.label in chosen]

@@ -4,7 +4,6 @@ from __future__ import annotations
 
 import argparse
 import os
-import shlex
 from typing import Callable, Iterator, List, Tuple
 
 from ..extract.named import blocks_of
@@ -66,6 +65,8 @@ def _print(arguments: argparse.Namespace, reading: Reading, head: List[str], des
 
 def _of_folder(command: str, name: bytes) -> str:
     """What to do with a folder where pictures are expected."""
+    import shlex  # which nothing else needs
+
     files = escaped(os.path.join(shlex.quote(os.fsdecode(name)), "*"))
     return f"a folder: {command} takes pictures, such as {files}; captions, conflicts and index take folders"
 

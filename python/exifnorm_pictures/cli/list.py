@@ -9,7 +9,7 @@ import sys
 import time
 from datetime import datetime, timezone
 from itertools import groupby
-from typing import Iterator, List, Optional, Sequence, Tuple
+from typing import TYPE_CHECKING, Iterator, List, Optional, Sequence, Tuple
 
 from ..catalogue.asking import Answer, Fitting, Scope
 from ..fields.labels import POSITION, PRIVATE
@@ -20,9 +20,11 @@ from ..model.texts import Members, escaped, path_members, shown_path
 from .exit_codes import SUCCESS, UNKNOWN
 from .looking import catalogue_of, refuse_for_catalogues
 from .objects import print_object
-from .output import print_line
+from .output import print_line, table_of
 from .parser import refuse
-from .tables import Cell, Table
+
+if TYPE_CHECKING:
+    from .tables import Cell
 
 _WIDEST = 40  # characters in front of which the counts of --count stand
 
@@ -97,7 +99,7 @@ def _since(text: str) -> str:
 
 
 def _print_pictures(arguments: argparse.Namespace, answer: Answer, columns: Sequence[str]) -> None:
-    table = Table(arguments, ["picture", *_heads(columns)]) if arguments.csv else None
+    table = table_of(arguments, ["picture", *_heads(columns)])
     listed = 0
     if arguments.geojson:
         print('{"type": "FeatureCollection", "features": [')
@@ -183,7 +185,7 @@ def _pictures(count: int) -> str:
 
 def _print_counts(arguments: argparse.Namespace, answer: Answer, label: str) -> None:
     """Each text of a label with the number of pictures that have it; those that are spelled otherwise below it."""
-    table = Table(arguments, [label, "pictures", "like"]) if arguments.csv else None
+    table = table_of(arguments, [label, "pictures", "like"])
     for _, spellings in groupby(answer.counted(label), lambda row: row[2]):
         first = ""
         for text, pictures, _ in spellings:

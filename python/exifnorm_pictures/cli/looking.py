@@ -15,14 +15,15 @@ from .output import closed_folder
 from .parser import refuse
 
 
-def how_of(arguments: argparse.Namespace, room: str, lines: Optional[Lines] = None) -> How:
-    """How a command looks at pictures."""
+def how_of(arguments: argparse.Namespace, room: str, lines: Optional[Lines] = None, texts: bool = True) -> How:
+    """How a command looks at pictures. With `texts` they are kept by label, for questions."""
     notes, pixels, sidecars = (getattr(arguments, it, False) for it in ("maker_notes", "pixels", "sidecars"))
-    return How(arguments.jobs, notes, arguments.whole, pixels, sidecars, arguments.limit, room, arguments.session.debug, lines)
+    return How(arguments.jobs, notes, arguments.whole, pixels, sidecars, arguments.limit, room, arguments.session.debug, lines, texts)
 
 
-def catalogue_of(name: str, arguments: argparse.Namespace) -> Catalogue:
-    """A catalogue, or a new one of a folder, which is removed with the session. Raises `NoCatalogue`, also if a folder below can't be read."""
+def catalogue_of(name: str, arguments: argparse.Namespace, texts: bool = True) -> Catalogue:
+    """A catalogue, or a new one of a folder, with the texts by label or not, which is removed with the session. Raises `NoCatalogue`, also if a
+    folder below can't be read."""
     if not os.path.isdir(name):
         return Catalogue(name)
     room = tempfile.mkdtemp(dir=arguments.session.room)
@@ -30,7 +31,8 @@ def catalogue_of(name: str, arguments: argparse.Namespace) -> Catalogue:
     try:
         closed: List[str] = []
         quiet = arguments.quiet or not sys.stderr.isatty()
-        index(IndexOptions([os.fsencode(name)], quiet=quiet, how=how_of(arguments, room, closed_folder), print_line=closed.append), made)
+        how = how_of(arguments, room, closed_folder, texts)
+        index(IndexOptions([os.fsencode(name)], quiet=quiet, how=how, print_line=closed.append), made)
         if closed:  # its pictures would seem to be missing
             raise NoCatalogue("; ".join(closed))
     except BaseException:

@@ -6,7 +6,7 @@ import json
 import re
 import shutil
 import sys
-from typing import TYPE_CHECKING, List, Sequence
+from typing import TYPE_CHECKING, List, Optional, Sequence
 
 from ..model.found import damage
 from ..model.problems import Problem
@@ -17,6 +17,8 @@ from .columns import NARROWEST, folded
 
 if TYPE_CHECKING:
     import argparse
+
+    from .tables import Table
 
 
 def print_line(text: str) -> None:
@@ -35,6 +37,15 @@ def output(arguments: argparse.Namespace, lines: Sequence[str], members: Members
     else:
         for line in lines:
             print_line(line)
+
+
+def table_of(arguments: argparse.Namespace, heads: Sequence[str]) -> Optional[Table]:
+    """The table that --csv or --xlsx asks for, if one of them was given."""
+    if not arguments.csv:
+        return None
+    from .tables import Table  # whose regular expressions take long to compile
+
+    return Table(arguments.sheet, heads)
 
 
 # What ExifTool says of a file that is no picture, but may have been one

@@ -99,7 +99,8 @@ def parsed(words: Optional[Sequence[str]] = None) -> argparse.Namespace:
     given = list(sys.argv[1:] if words is None else words)
     if given[:1] == ["help"]:
         given = [*given[1:2], "--help"]
-    whole, commands = parsers()
+    # all parsers are needed only to list the commands
+    whole, commands = parsers(given[0] if given and given[0] in ("--version", *(name for name, *_ in _COMMANDS)) else None)
     for word in itertools.takewhile(lambda word: word != "--", given):
         if word.startswith("--") and word.endswith("=--"):  # of which argparse makes an empty list
             commands.get(given[0], whole).error(f"argument {word[:-3]}: expected a value, and not --")
@@ -114,11 +115,11 @@ def parsed(words: Optional[Sequence[str]] = None) -> argparse.Namespace:
 
 def refuse(command: str, message: str) -> NoReturn:
     """Ends the process with what is wrong with the arguments of a command, after its usage."""
-    parsers()[1][command].error(message)
+    parsers(command)[1][command].error(message)
 
 
-def parsers() -> "Tuple[_Parser, Dict[str, _Parser]]":
-    """The parser of the arguments, and those of each command."""
+def parsers(only: Optional[str] = None) -> "Tuple[_Parser, Dict[str, _Parser]]":
+    """The parser of the arguments, and those of each command, or of one alone: to make all of them takes longer than to read a picture."""
     whole = _Parser(
         prog="exifnorm-pictures",
         description="Compares the Exif, IPTC and XMP metadata of many pictures: finds pictures that\n"
@@ -130,6 +131,8 @@ def parsers() -> "Tuple[_Parser, Dict[str, _Parser]]":
     commands = whole.add_subparsers(dest="command", metavar="COMMAND", required=True)
     each: Dict[str, _Parser] = {}
     for name, words, build in _COMMANDS:
+        if only not in (None, name):
+            continue
         parser = each[name] = commands.add_parser(
             name,
             help=words,

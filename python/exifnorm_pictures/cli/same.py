@@ -6,7 +6,7 @@ import argparse
 import contextlib
 import json
 from collections import Counter
-from typing import Dict, Iterator, List, Optional, Sequence, Tuple
+from typing import TYPE_CHECKING, Dict, Iterator, List, Optional, Sequence, Tuple
 
 from ..catalogue.store import Catalogue
 from ..comparison import groups
@@ -24,9 +24,11 @@ from .choice import choice_of, listings_of, note_absent, refuse_unknown
 from .exit_codes import UNKNOWN
 from .names import chosen_paths, say_unknown
 from .objects import line_of, print_object
-from .output import print_line
+from .output import print_line, table_of
 from .parser import PIXELS
-from .tables import Table
+
+if TYPE_CHECKING:
+    from .tables import Table
 
 
 def run(arguments: argparse.Namespace) -> int:
@@ -37,7 +39,7 @@ def run(arguments: argparse.Namespace) -> int:
         catalogue = open_.enter_context(Catalogue(arguments.catalogue))
         only = None if chosen is None else catalogue.choose(chosen)
         has_keep = arguments.kind == "all" and not arguments.no_look
-        table = Table(arguments, _HEADS) if arguments.csv else None
+        table = table_of(arguments, _HEADS)
         choice = choice_of(arguments)
         refuse_unknown(choice, listings_of(catalogue))
         note_absent(choice, listings_of(catalogue), catalogue.with_maker_note() if choice.asks_for_private else 0)

@@ -3,7 +3,7 @@
 from __future__ import annotations
 
 import argparse
-from typing import Iterator, List
+from typing import TYPE_CHECKING, Iterator, List
 
 from ..fields.block_fields import fields_of
 from ..fields.listing import Field, exact, readable
@@ -19,7 +19,10 @@ from .columns import width
 from .each_block import Described, each_block, each_picture, status_of
 from .exit_codes import SUCCESS
 from .objects import block_object, picture_object, print_object
-from .tables import Table
+from .output import table_of
+
+if TYPE_CHECKING:
+    from .tables import Table
 
 
 def run(arguments: argparse.Namespace) -> int:
@@ -27,9 +30,7 @@ def run(arguments: argparse.Namespace) -> int:
     if not arguments.json and not arguments.csv:
         return each_block(arguments, lambda _, __, it: _described(it, arguments.exact))
     worst = SUCCESS
-    table = (
-        Table(arguments, ["picture", "block", "field", "key", "type", "count", "value", "exact value", "note"]) if arguments.csv else None
-    )
+    table = table_of(arguments, ["picture", "block", "field", "key", "type", "count", "value", "exact value", "note"])
     for reading in each_picture(arguments):
         worst = max(worst, status_of(reading))
         if table:

@@ -7,7 +7,6 @@ of lines and tabs inside a text stay.
 
 from __future__ import annotations
 
-import argparse
 import re
 import sys
 from typing import TYPE_CHECKING, Optional, Sequence, Union
@@ -36,9 +35,9 @@ def cell(text: str) -> str:
 class Table:
     """The table that --csv or --xlsx asks for: on standard output, or in a spreadsheet file."""
 
-    def __init__(self, arguments: argparse.Namespace, heads: Sequence[str]) -> None:
+    def __init__(self, sheet: Optional[Sheet], heads: Sequence[str]) -> None:
         self._width = len(heads)
-        self._sheet: Optional[Sheet] = arguments.sheet
+        self._sheet = sheet
         if self._sheet:
             self._sheet.heads(heads)
             return

@@ -36,8 +36,8 @@ _TIFF_TYPES = frozenset(["TIFF", *(ending.upper() for ending in (*raw_files.READ
 # itself, so that a picture can't make a text look like other bytes. -m: continue after minor errors.
 _OPTIONS = ("-q", "-q", "-m", "-json", "-a", "-G4", "-b", "-api", "Filter=s/^(base64|text):/text:$1:/")
 
-_PLAIN = re.compile(rb"/[A-Za-z0-9_./+,@%~()=-]*")
-_EXTENSION = re.compile(rb"\.[A-Za-z0-9]{1,8}\Z")
+_PLAIN = rb"/[A-Za-z0-9_./+,@%~()=-]*"
+_EXTENSION = rb"\.[A-Za-z0-9]{1,8}\Z"
 
 
 class Process:
@@ -69,9 +69,9 @@ class Process:
     def _handed_over(self, path: bytes, number: int) -> bytes:
         """The path itself if it is plain, otherwise a link to it in this process's folder."""
         whole = os.path.abspath(path)
-        if _PLAIN.fullmatch(whole):
+        if re.fullmatch(_PLAIN, whole):
             return whole
-        extension = _EXTENSION.search(path)
+        extension = re.search(_EXTENSION, path)
         link = f"./link{number or ''}{extension[0].decode('ascii') if extension else ''}"
         there = os.path.join(self.room, link)
         with contextlib.suppress(FileNotFoundError):

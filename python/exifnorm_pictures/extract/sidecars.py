@@ -22,9 +22,9 @@ from . import raw_files
 NAME = "XMP sidecar"
 MOST = 100  # sidecars of a picture that are read; real ones have one for each of their versions
 _RAW = "|".join(raw_files.ALL).encode()
-_RAW_NAME = re.compile(rb"\.(?:%s)\Z" % _RAW)
-_PICTURE_NAME = re.compile(rb"\.(?:%s|jpe?g|jpe|jfif|tiff?|png|webp|heic|heif|hif|avif|psd|psb|jxl|jp2|j2k|jpf|jpx|gif|bmp)\Z" % _RAW)
-_VERSION = re.compile(rb"(.*)_(\d\d)(\.[^.]+)\Z", re.S)
+_RAW_NAME = rb"\.(?:%s)\Z" % _RAW  # regular expressions, which are compiled at the first use, that of --sidecars
+_PICTURE_NAME = rb"\.(?:%s|jpe?g|jpe|jfif|tiff?|png|webp|heic|heif|hif|avif|psd|psb|jxl|jp2|j2k|jpf|jpx|gif|bmp)\Z" % _RAW
+_VERSION = rb"(?s:(.*)_(\d\d)(\.[^.]+)\Z)"
 
 
 class Sidecar(NamedTuple):
@@ -48,7 +48,7 @@ class Folder:
         if sidecars:
             self._pictures: Dict[bytes, Set[bytes]] = {}  # names in small letters, by themselves and without their extensions
             for low in {name.lower() for name in every}:
-                if _PICTURE_NAME.search(low):
+                if re.search(_PICTURE_NAME, low):
                     self._pictures.setdefault(low, set()).add(low)
                     self._pictures.setdefault(low[: low.rindex(b".")], set()).add(low)
             for sidecar in sidecars:
@@ -58,16 +58,16 @@ class Folder:
         """Gives a sidecar to its pictures."""
         bare = sidecar.lower()[: -len(b".xmp")]
         what, pictures = NAME, self._pictures.get(bare, set())
-        if _PICTURE_NAME.search(bare):
+        if re.search(_PICTURE_NAME, bare):
             pictures = pictures & {bare}
-            version = _VERSION.match(bare)
+            version = re.match(_VERSION, bare)
             if not pictures and version:
                 what = f"{NAME} of version {int(version[2])}"
                 picture = version[1] + version[3]
                 pictures = self._pictures.get(picture, set()) & {picture}
         else:
             pictures = pictures - {bare}
-            pictures = {name for name in pictures if _RAW_NAME.search(name)} or pictures
+            pictures = {name for name in pictures if re.search(_RAW_NAME, name)} or pictures
         for name in pictures:
             mine = self._of.setdefault(name, [])
             if len(mine) < MOST:

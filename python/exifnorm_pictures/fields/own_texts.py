@@ -28,13 +28,12 @@ _TEXTS = {
     "SAMSUNG CSC",
 }
 # In capitals, as cameras write it: GE DIGITAL CAMERA, KODAK DIGITAL STILL CAMERA
-_CAMERA = re.compile(r"(\S+ ){0,4}DIGITAL (STILL |VIDEO )?(CAMERA|CAMCORDER|IMAGE)( PICTURES?)?")
+_CAMERA = r"(\S+ ){0,4}DIGITAL (STILL |VIDEO )?(CAMERA|CAMCORDER|IMAGE)( PICTURES?)?"
 # Design rule for Camera File system (JEITA CP-3461): DCIM, a folder of three digits and five letters, four letters and four digits
-_FILE = re.compile(r"(.*\bDCIM[\\/])?(\d{3}\w{5}[\\/])?[A-Z0-9_]{4}\d{4}\.[A-Z0-9]{3,4}", re.I)
-_PROGRAM = re.compile(
+_FILE = r"(.*\bDCIM[\\/])?(\d{3}\w{5}[\\/])?[A-Z0-9_]{4}\d{4}\.[A-Z0-9]{3,4}"
+_PROGRAM = (
     r"(created|edited|made|processed|saved) (with|by|in|using) (the )?(gimp|adobe|imagemagick|inkscape|paint\.net|paint shop|picasa|ebay)\b.*"
-    r"|software: .*|file written by adobe photoshop.*|creator: gd-jpeg .*|optimized by jpegmini .*|lead technologies inc\..*|intel\(r\) jpeg library.*",
-    re.I,
+    r"|software: .*|file written by adobe photoshop.*|creator: gd-jpeg .*|optimized by jpegmini .*|lead technologies inc\..*|intel\(r\) jpeg library.*"
 )
 _FILLING = {"DIGITAL", "STILL", "CAMERA", "IMAGE", "PICTURE", "PHOTO", "DSC", "JPEG", "EXIF", "CORPORATION", "CORP", "INC", "CO", "LTD"}
 
@@ -48,7 +47,7 @@ def is_own(text: str, make: str = "", model: str = "") -> bool:
     line = " ".join(text.strip(" \0").split())
     if not line:
         return False
-    if line.upper() in _TEXTS or _CAMERA.fullmatch(line) or _FILE.fullmatch(line) or _PROGRAM.fullmatch(line):
+    if line.upper() in _TEXTS or re.fullmatch(_CAMERA, line) or re.fullmatch(_FILE, line, re.I) or re.fullmatch(_PROGRAM, line, re.I):
         return True
     words, names = _words(line), _words(f"{make} {model}")
     return any(it in names and it not in _FILLING for it in words) and all(it in names or it in _FILLING for it in words)

@@ -3,15 +3,17 @@
 from __future__ import annotations
 
 from dataclasses import dataclass, field
-from typing import List, Optional
+from typing import TYPE_CHECKING, List, Optional
 
 from ..extract.extraction import too_much
 from ..fields.block_fields import fields_of
-from ..fields.labels import STANDARDS, LabelText, camera_of, of_block, with_own
 from ..model.budgets import TooMuch
 from ..model.found import EXIF, NAMES, Blocks, FoundBlock, damage
 from ..model.records import Block
 from .judge import judge_all
+
+if TYPE_CHECKING:
+    from ..fields.labels import LabelText
 
 
 @dataclass
@@ -55,6 +57,8 @@ class Reading:
     def texts(self) -> List[LabelText]:
         """The texts by label, in the order of the standards. Those of a refused block are read after its repair, if one is known."""
         if self._texts is None:
+            from ..fields.labels import STANDARDS, camera_of, of_block, with_own  # which show and explain don't need
+
             texts = [
                 text._replace(block="" if block.name == NAMES[block.kind] else block.name)
                 for block in self.blocks

@@ -8,7 +8,6 @@ from typing import TYPE_CHECKING, Iterator, List, Optional, Sequence, Tuple
 
 from exifnorm import LibraryMissing
 
-from ..catalogue import label_texts
 from ..extract import extraction, programs, sidecars
 from ..extract.formats.streams import digest_of_file
 from ..fields.block_fields import fields_of
@@ -49,7 +48,7 @@ def _look(file: FoundFile, how: How, session: Session, packs: bool) -> Picture:
         if file.sidecars:
             whole_file = sidecars.with_sidecars(whole_file, file.path, file.sidecars)
         reading = _maker_notes(session, file.path, judged) if how.maker_notes else None
-        texts, judged = _kept(judged, reading) if packs else ((), judged)
+        texts, judged = _kept(judged, reading, how.texts) if packs else ((), judged)
         pixels = _pixels(file.path, blocks) if how.pixels else (None, "", "", None)
     except LibraryMissing:  # an OSError too, but not of this file
         raise
@@ -84,9 +83,13 @@ def _read(file: FoundFile, how: How, session: Session, packs: bool) -> Tuple[Blo
         return Blocks(problem=Problem.TOO_SLOW, detail=str(error)), []
 
 
-def _kept(judged: Sequence[Block], reading: "Optional[Reading]") -> Tuple[Tuple[KeptText, ...], List[Block]]:
-    """The texts that a catalogue keeps by label, and the blocks without the fields that were made of them."""
-    texts = label_texts.rows_of([(block, fields_of(block)) for block in judged], reading.values if reading else {})
+def _kept(judged: Sequence[Block], reading: "Optional[Reading]", has_texts: bool) -> Tuple[Tuple[KeptText, ...], List[Block]]:
+    """The texts by label, for a catalogue that has them, and the blocks without the fields that were made of them."""
+    texts: Tuple[KeptText, ...] = ()
+    if has_texts:
+        from ..catalogue import label_texts  # which takes long to import
+
+        texts = label_texts.rows_of([(block, fields_of(block)) for block in judged], reading.values if reading else {})
     return texts, [block._replace(made=None) for block in judged]
 
 

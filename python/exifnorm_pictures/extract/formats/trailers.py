@@ -15,13 +15,13 @@ class Trailer(NamedTuple):
     may_hold_blocks: bool  # that ExifTool can extract
 
 
-_SIGNS = (
-    (re.compile(rb"AXS[!*].{8}\Z", re.S), Trailer("AFCP", True)),
-    (re.compile(rb"\xa1\xb2\xc3\xd4\Z"), Trailer("FotoStation", True)),
-    (re.compile(rb"cbipcbbl\Z"), Trailer("PhotoMechanic", True)),
-    (re.compile(rb"\0\0(?:QDIOBS|SEFT)\Z"), Trailer("Samsung", False)),
-    (re.compile(rb"zmie~\0\0[\x06\x0a].{4,8}[\x10\x18][\x04\x08]\Z", re.S), Trailer("MIE", True)),
-    (re.compile(rb"CANON OPTIONAL DATA\0.{44}\Z", re.S), Trailer("Canon VRD", True)),
+_SIGNS = (  # regular expressions, which are compiled at the first trailer
+    (rb"AXS[!*].{8}\Z", Trailer("AFCP", True)),
+    (rb"\xa1\xb2\xc3\xd4\Z", Trailer("FotoStation", True)),
+    (rb"cbipcbbl\Z", Trailer("PhotoMechanic", True)),
+    (rb"\0\0(?:QDIOBS|SEFT)\Z", Trailer("Samsung", False)),
+    (rb"zmie~\0\0[\x06\x0a].{4,8}[\x10\x18][\x04\x08]\Z", Trailer("MIE", True)),
+    (rb"CANON OPTIONAL DATA\0.{44}\Z", Trailer("Canon VRD", True)),
 )
 _LONGEST = 64
 
@@ -36,4 +36,4 @@ def known_trailer(stream: Stream, end: int) -> Optional[Trailer]:
     start = max(end - _LONGEST, 0)
     stream.seek(start)
     last = stream.read(end - start)
-    return next((it for sign, it in _SIGNS if sign.search(last)), None)
+    return next((it for sign, it in _SIGNS if re.search(sign, last, re.S)), None)
