@@ -52,13 +52,12 @@ class Process:
 
     def ask(self, paths: Sequence[bytes], words: Sequence[str], options: Sequence[str]) -> List[Dict[str, str]]:
         """The tags of some files for the arguments `words`, each by its copy and name as in `Copy1:IPTC`. Raises `Failed`."""
-        assert self.process.stdin is not None
         self.number += 1
         names = [self._handed_over(path, number) for number, path in enumerate(paths)]
         done = b"{done %d}\n" % self.number
         lines = [*(it.encode("ascii") for it in (*options, *words)), *names, b"-echo3", done.rstrip(b"\n"), b"-execute", b""]
         try:
-            self.process.stdin.write(b"\n".join(lines))
+            programs.write(self.process, b"\n".join(lines), self.seconds)
         except OSError:
             raise Failed("ExifTool ended before it was asked") from None
         output = programs.read_until(self.process, lambda it: it.endswith(done), self.seconds)

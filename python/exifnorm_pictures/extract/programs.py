@@ -151,6 +151,20 @@ def end(started: "subprocess.Popen[bytes]") -> None:
                 pass
 
 
+def write(started: "subprocess.Popen[bytes]", octets: bytes, seconds: float) -> None:
+    """Gives a program its input, which it may leave in the pipe. Raises `TooSlow` if it doesn't read, and `BrokenPipeError` if it has ended."""
+    assert started.stdin is not None
+    number = started.stdin.fileno()
+    os.set_blocking(number, False)
+    ends = time.monotonic() + seconds
+    rest = memoryview(octets)
+    while rest:
+        left = ends - time.monotonic()
+        if left <= 0 or not select.select([], [number], [], left)[1]:
+            raise TooSlow(f"{_name(started.args)} took longer than {seconds:g} seconds")  # type: ignore[arg-type]
+        rest = rest[os.write(number, rest) :]
+
+
 def read_until(started: "subprocess.Popen[bytes]", complete: Callable[[bytearray], bool], seconds: float) -> bytes:
     """A program's output until it is complete or ends. Raises `Failed` at the limits."""
     assert started.stdout is not None
