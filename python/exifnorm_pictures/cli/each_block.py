@@ -33,13 +33,13 @@ def each_picture(arguments: argparse.Namespace) -> Iterator[Reading]:
     )
 
 
-def each_block(arguments: argparse.Namespace, describe: Describe, refused_too: bool = False) -> int:
-    """Prints something about each block of each picture. Returns the greatest status."""
+def each_block(arguments: argparse.Namespace, describer: Callable[[], Describe], refused_too: bool = False) -> int:
+    """Prints something about each block of each picture, for which `describer` is called once. Returns the greatest status."""
     worst = SUCCESS
     has_heads = is_list(arguments, arguments.pictures)
     for reading in each_picture(arguments):
         worst = max(worst, status_of(reading))
-        _print(arguments, reading, [f"== {shown_path(reading.name)}"] if has_heads else [], describe, refused_too)
+        _print(arguments, reading, [f"== {shown_path(reading.name)}"] if has_heads else [], describer(), refused_too)
     return worst
 
 

@@ -35,7 +35,7 @@ def run(arguments: argparse.Namespace) -> int:
         members = {**with_kind(explained.members()), "repair": [one._asdict() for one in block.steps], "mend": _members(mended)}
         return [line, *explained.lines()[1:], *_repair(block), *_lines(mended)], members
 
-    return each_block(arguments, describe, refused_too=True)
+    return each_block(arguments, lambda: describe, refused_too=True)
 
 
 def _tried(session: Session, name: bytes) -> Optional[mend.Mended]:

@@ -12,7 +12,8 @@ from ..fields.plain_values import plain
 from ..fields.typed import typed
 from ..judge.reading import Reading
 from ..model import steps
-from ..model.found import PROGRAMS, each_kind
+from ..model.budgets import SHOWN_CHARACTERS, SHOWN_FIELDS
+from ..model.found import PROGRAMS, FoundBlock, each_kind
 from ..model.records import Block
 from ..model.texts import Members, escaped
 from .columns import width
@@ -28,7 +29,7 @@ if TYPE_CHECKING:
 def run(arguments: argparse.Namespace) -> int:
     """Lists the fields of pictures."""
     if not arguments.json and not arguments.csv:
-        return each_block(arguments, lambda _, __, it: _described(it, arguments.exact))
+        return each_block(arguments, lambda: _Lines(arguments.exact).of)
     worst = SUCCESS
     table = table_of(arguments, ["picture", "block", "field", "key", "type", "count", "value", "exact value", "note"])
     for reading in each_picture(arguments):
@@ -40,21 +41,58 @@ def run(arguments: argparse.Namespace) -> int:
     return worst
 
 
+class _Shown:
+    """The fields of a picture that are printed. Pages can share a block of many fields, so that a small file has millions."""
+
+    def __init__(self) -> None:
+        self._fields, self._characters = SHOWN_FIELDS, SHOWN_CHARACTERS
+        self.has_more = False  # whether a field of the last block is left out
+
+    def of(self, block: Block) -> List[Field]:
+        """The fields of a block, or the first ones."""
+        if self._is_full:  # then no further fields are made
+            self.has_more = bool(block.is_accepted or block.repair)
+            return []
+        first: List[Field] = []
+        for field in fields_of(block):
+            if self._is_full:
+                break
+            first.append(field)
+            self._fields -= 1
+            self._characters -= len(plain(field)) + len(exact(field))
+        self.has_more = len(first) < len(fields_of(block))
+        return first
+
+    @property
+    def _is_full(self) -> bool:
+        return self._fields <= 0 or self._characters <= 0
+
+
+_MORE = f"further fields are not shown: more than {SHOWN_FIELDS:,} of a picture, or {SHOWN_CHARACTERS >> 20} MB"
+
+
 # Lines
 
 
-def _described(block: Block, is_exact: bool) -> Described:
-    """The lines of a block."""
-    by = f", extracted by {PROGRAMS[block.extractor]}" if block.extractor in PROGRAMS else ""
-    lines = list(readable(fields_of(block), block.name + by)) if is_exact else [f"{block.name}{by}:", *_plain_lines(fields_of(block))]
-    return (lines if block.is_accepted else [*_repaired(block), *lines[1:]]), {}
+class _Lines:
+    """The lines of the blocks of a picture."""
+
+    def __init__(self, is_exact: bool) -> None:
+        self._is_exact, self._shown = is_exact, _Shown()
+
+    def of(self, _: bytes, __: FoundBlock, block: Block) -> Described:
+        """The lines of a block."""
+        by = f", extracted by {PROGRAMS[block.extractor]}" if block.extractor in PROGRAMS else ""
+        fields = self._shown.of(block)
+        lines = list(readable(fields, block.name + by)) if self._is_exact else [f"{block.name}{by}:", *map(_plain_line, fields)]
+        lines += [f"  {_MORE}"] * self._shown.has_more
+        return (lines if block.is_accepted else [*_repaired(block), *lines[1:]]), {}
 
 
-def _plain_lines(fields: List[Field]) -> Iterator[str]:
-    """Each field with its name and its plain value. The column is always the same, so that a further field changes no other line."""
-    for field in fields:
-        name = group_name(field.where, field.key)
-        yield f"  {name}{' ' * max(0, _COLUMN - width(name))}  {escaped(plain(field))}"
+def _plain_line(field: Field) -> str:
+    """A field with its name and its plain value. The column is always the same, so that a further field changes no other line."""
+    name = group_name(field.where, field.key)
+    return f"  {name}{' ' * max(0, _COLUMN - width(name))}  {escaped(plain(field))}"
 
 
 _COLUMN = 30  # characters of a name, of which few have more
@@ -74,16 +112,19 @@ def _repaired(block: Block) -> List[str]:
 
 def _print_rows(table: Table, reading: Reading) -> None:
     """A row for each field, and one for all that isn't one: a refused block, a part that was not read, a picture without a block."""
+    shown = _Shown()
     for block in reading.blocks:
         note = "read after repair in memory" if block.repair else None
         if not block.is_accepted:
             table.row(
                 reading.name, block.name, *_NO_FIELD, block.line + (f"; repaired in memory: {steps.words(block.steps)}" if note else "")
             )
-        for field in fields_of(block):
+        for field in shown.of(block):
             name = (group_name(field.where, field.key), exact_key(field.where, field.key))
             values = (*name, field.type, field.elements, plain(field), exact(field))
             table.row(reading.name, block.name, *values, note)
+        if shown.has_more:
+            table.row(reading.name, block.name, *_NO_FIELD, _MORE)
     for text in _notes(reading):
         table.row(reading.name, None, *_NO_FIELD, text)
 
@@ -104,14 +145,16 @@ def _notes(reading: Reading) -> Iterator[str]:
 
 
 def _members(reading: Reading) -> Members:
-    blocks = [{**block_object(one), **_block_members(one)} for one in reading.blocks]
+    shown = _Shown()
+    blocks = [{**block_object(one), **_block_members(one, shown)} for one in reading.blocks]
     about = {**picture_object(reading.name, reading.problem, reading.detail), "type": reading.read.type or None}
     return {**about, "blocks": blocks, "not_read": reading.not_read}
 
 
-def _block_members(block: Block) -> Members:
+def _block_members(block: Block, shown: _Shown) -> Members:
     repair = [step._asdict() for step in block.steps]
-    return {"extractor": block.extractor, "repair": repair, "fields": list(map(_field_members, fields_of(block)))}
+    fields = list(map(_field_members, shown.of(block)))
+    return {"extractor": block.extractor, "repair": repair, "fields": fields, "has_more_fields": shown.has_more}
 
 
 def _field_members(field: Field) -> Members:
