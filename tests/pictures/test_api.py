@@ -21,11 +21,14 @@ from made_files import app1, app1_xmp, chunk, exif, jpeg, png, png_xmp, resource
 from made_more_files import gif, gif_xmp, psd
 from made_raw import arw, cr2, dng, nef, orf, pef, rw2, srw, whole_raf
 from studio import SMALL_JPEG, TOP, needs, tool
+from test_bigtiff import big, fields
 from test_captions import data_set, with_record
+from test_cr3 import cr3, structures
 
 import exifnorm
 import exifnorm_pictures as pictures
 from exifnorm_pictures import many
+from exifnorm_pictures.extract import readers
 
 BEFORE, AFTER = (Path(TOP) / "samples" / it for it in ("before", "after"))
 BOWL = "ceramics/2003-12-bowl.jpg"
@@ -100,8 +103,16 @@ FORMATS = {
     "srw": srw(),
     "rw2": rw2(),
     "raf": whole_raf(),
+    "cr3": cr3(*structures(), packet=T),
+    "btf": big(fields()),
     "xmp": T,
 }
+
+
+def test_each_format_has_its_file():
+    """A new format needs one above, for the tests of all formats."""
+    heads = {name: (data[: readers.HEAD], f"a.{name}".encode()) for name, data in FORMATS.items()}
+    assert {it.name for it in readers.FORMATS} == {next(it.name for it in readers.FORMATS if it.is_of(*head)) for head in heads.values()}
 
 
 class Unseekable(io.RawIOBase):

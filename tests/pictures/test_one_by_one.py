@@ -53,9 +53,13 @@ def answered(process, name, wanted, end=b"\n"):
     return printed
 
 
-ANSWER = sorted(
-    name for name, it in parser.parsers()[1].items() if {"pictures", "names"} & {action.dest for action in it._actions}
-)  # the commands that do something with each picture that is named
+def answers(command):
+    """Whether a command does something with each picture that is named."""
+    arguments = {action.dest for action in command._actions}
+    return "files_from" in arguments and bool({"pictures", "names"} & arguments)
+
+
+ANSWER = [name for name, command in parser.parsers()[1].items() if answers(command)]
 
 
 @pytest.mark.parametrize("end", [b"\n", b"\0"], ids=["lines", "NUL"])

@@ -1,7 +1,10 @@
 """An option that a command accepts has an effect, or is refused."""
 
 import argparse
+import ast
 import importlib
+import re
+from pathlib import Path
 
 import pytest
 from made_files import A, app1, jpeg
@@ -66,6 +69,48 @@ def test_each_option_is_looked_at(command, archive, capsys):
     arguments.read.clear()
     importlib.import_module(f"exifnorm_pictures.cli.{command}").run(arguments)
     assert accepted <= arguments.read, "an option of this command is never looked at"
+
+
+def options():
+    """The options of all commands, those with the same words in --help as one: their spellings, and the commands that have them."""
+    meanings = {}
+    for name, command in parser.parsers()[1].items():
+        for action in command._actions:
+            if action.option_strings and action.dest != "help":
+                meanings.setdefault((tuple(action.option_strings), action.help), set()).add(name)
+    return [(set(spellings), commands) for (spellings, _), commands in meanings.items()]
+
+
+def functions(body):
+    """The functions and other statements of a module, also those of its classes."""
+    for statement in body:
+        yield from functions(statement.body) if isinstance(statement, ast.ClassDef) else [statement]
+
+
+def words_of(statement):
+    texts = (node.value for node in ast.walk(statement) if isinstance(node, ast.Constant) and isinstance(node.value, str))
+    return {word for text in texts for word in text.split()}
+
+
+def test_each_option_has_a_test(checks):
+    """One that gives it to a command that has it."""
+    modules = [path for path in Path(__file__).parent.glob("test_*.py") if path.name != Path(__file__).name]
+    tried = [words_of(statement) for path in modules for statement in functions(ast.parse(path.read_text(encoding="utf-8")).body)]
+    for spellings, commands in options():
+        is_tried = any(words & spellings and words & commands for words in tried)
+        checks.check(f"{' '.join(sorted(spellings))} of {', '.join(sorted(commands))}", is_tried, "no test gives it to the command")
+
+
+def test_each_option_is_in_the_manual_page(checks):
+    """Below a command that has it, or with the options of several commands."""
+    page = (Path(TOP) / "docs/exifnorm-pictures.1").read_text(encoding="utf-8").partition(".SH EXAMPLES")[0].replace("\\-", "-")
+    commands_, _, of_several = page.partition("\n.SH FIELDS THAT COUNT")
+    parts = re.split(r'(?m)^\.TP\n\.BI "(\w+) ', commands_)
+    sections = dict(zip(parts[1::2], parts[2::2]))
+    for spellings, commands in options():
+        texts = [sections[name] for name in commands] + [of_several] * (len(commands) > 1 or bool(spellings & {"--csv", "-0"}))
+        is_there = any(re.search(rf"(?<![\w-]){spelling}(?![\w-])", text) for spelling in spellings for text in texts)
+        checks.check(f"{' '.join(sorted(spellings))} of {', '.join(sorted(commands))}", is_there, "the manual page doesn't have it there")
 
 
 @pytest.mark.parametrize(
