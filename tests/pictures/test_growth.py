@@ -198,6 +198,7 @@ COMMANDS = {
     "relocate": ["moving P Q"],
     "verify": ["--catalogue C --quiet --jobs 1"],
     "same": ["--catalogue C", "--catalogue C --json --ignore dc:none"],
+    "history": ["A C D"],
     "changed": ["C D --each --no-exiftool --quiet --jobs 1", "C D --json --ignore dc:none --no-exiftool --quiet --jobs 1"],
     "compare": ["A B --no-exiftool", "A B --json --exact --no-exiftool"],
     "show": ["A", "A --json", "A --csv"],

@@ -23,6 +23,7 @@ COMMANDS = {
     "verify": (*LISTED, "--catalogue", "c"),
     "same": (*LISTED, "--catalogue", "c"),
     "changed": (*LISTED, "p", "p"),
+    "history": ("p/a.jpg", "c"),
     "compare": (BOWL, PHONE),
     "show": LISTED,
     "captions": LISTED,

@@ -74,14 +74,15 @@ def _members(comparison: Compared) -> Members:
         values = [{"name": one.name, "before": one.before, "after": one.after} for one in comparison.maker_note]
         members["maker_note"] = {"reads": "otherwise" if values else "the same", "values": values}
     members["repairs"] = [_repair_members(*one) for one in comparison.repairs]
-    return {**members, "fields": [_field_members(one) for one in comparison.changes], "left_out": comparison.left_out}
+    return {**members, "fields": [field_members(one) for one in comparison.changes], "left_out": comparison.left_out}
 
 
 def _repair_members(name: str, before: Sequence[Step], after: Sequence[Step]) -> Members:
     return {"name": name, "before": [one._asdict() for one in before], "after": [one._asdict() for one in after]}
 
 
-def _field_members(difference: Difference) -> Members:
+def field_members(difference: Difference) -> Members:
+    """A field that differs, as an object."""
     plain = plain_sides(difference)
     sides = {"before": _side_members(plain[0], difference.before), "after": _side_members(plain[1], difference.after)}
     name = {

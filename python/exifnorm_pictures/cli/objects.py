@@ -16,6 +16,7 @@ _VERSIONS = {
     "compare": 1,
     "conflicts": 1,
     "export": 1,
+    "history": 1,
     "index": 1,
     "list": 1,
     "relocate": 1,

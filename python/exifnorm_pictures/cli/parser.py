@@ -17,21 +17,21 @@ PIXELS = "pixels"  # the kind of groups with the same coded picture
 _STATUSES = """Statuses:
   0    done, or the same (index: also if pictures are refused, which the
        catalogue records)
-  1    different (changed, compare: something differs, also after repair, was
-       moved or is missing; same: MakerNotes of a group differ in bytes;
-       verify: a file is damaged, missing or has another picture; conflicts: a
-       picture contradicts itself; check: a rule is broken; relocate:
-       a file isn't there, or has another size or time; mend: the copy differs
-       in a printed value)
-  2    it can't be decided wholly (changed, compare, show, captions, conflicts,
-       explain: a block is refused or unreadable, a file is damaged, or a
-       picture wasn't read; changed, compare: or a part of one wasn't; changed,
-       compare, same: the same only after a repair, or but for a MakerNote;
-       same: or they may be so; list: pictures that weren't wholly read may
-       fit; check: or may break a rule; index: a picture that should be
-       readable isn't, or a program failed at it, and not so at the last run;
-       verify: a file can't be read, or has no digest; mend: no remedy worked,
-       the file is damaged, or the picture wasn't read)
+  1    different (changed, compare, history: something differs, also after
+       repair, was moved or is missing; same: MakerNotes of a group differ in
+       bytes; verify: a file is damaged, missing or has another picture;
+       conflicts: a picture contradicts itself; check: a rule is broken;
+       relocate: a file isn't there, or has another size or time; mend: the
+       copy differs in a printed value)
+  2    it can't be decided wholly (changed, compare, history, show, captions,
+       conflicts, explain: a block is refused or unreadable, a file is damaged,
+       or a picture wasn't read; changed, compare, history: or a part of one
+       wasn't; changed, compare, history, same: the same only after a repair,
+       or but for a MakerNote; same: or they may be so; list: pictures that
+       weren't wholly read may fit; check: or may break a rule; index: a picture
+       that should be readable isn't, or a program failed at it, and not so at
+       the last run; verify: a file can't be read, or has no digest; mend: no
+       remedy worked, the file is damaged, or the picture wasn't read)
   3    bad arguments; index: no name leads to a folder or a file
   4    the command itself failed: the catalogue, a stream, an output file, the
        disk or the memory
@@ -148,7 +148,7 @@ def parsers(only: Optional[str] = None) -> "Tuple[_Parser, Dict[str, _Parser]]":
             forms.add_argument("--xlsx", type=_name, metavar="FILE", help=words)
         forms.add_argument("--json", action="store_true", help="print one JSON object for each line")
         parser.add_argument("--debug", action="store_true", help="print the traceback of an internal error, as EXIFNORM_DEBUG=1 does")
-        if name not in ("merge", "compare", "list", "check", "relocate"):
+        if name not in ("merge", "compare", "history", "list", "check", "relocate"):
             parser.add_argument(
                 "--files-from", metavar="LIST", help="read names from the file LIST, - for standard input: one for each line"
             )
@@ -316,6 +316,13 @@ def _changed_arguments(parser: argparse.ArgumentParser) -> None:
     _many_arguments(parser)
 
 
+def _history_arguments(parser: argparse.ArgumentParser) -> None:
+    _example(parser, "history vase.jpg monday.catalogue my.catalogue")
+    parser.add_argument("picture", type=_name, metavar="PICTURE", help="its path in the newest catalogue that has it; it need not be there")
+    words = "catalogues of one archive, as index --keep-old keeps them; their order doesn't matter"
+    parser.add_argument("catalogues", nargs="+", type=_name, metavar="CATALOGUE", help=words)
+
+
 def _verify_arguments(parser: argparse.ArgumentParser) -> None:
     _example(parser, "verify --catalogue archive.catalogue --evidence sums.txt")
     parser.add_argument("folders", nargs="*", type=_name, metavar="FOLDER", help="a folder, with all below it (all that were indexed)")
@@ -477,6 +484,7 @@ _COMMANDS: Tuple[Tuple[str, str, Callable[[argparse.ArgumentParser], None]], ...
     ("verify", "read files again, and tell what is damaged from what is captioned", _verify_arguments),
     ("same", "list groups of pictures that mean the same", _same_arguments),
     ("changed", "list the differences between two catalogues or folders, with the fields", _changed_arguments),
+    ("history", "what changed in one picture from catalogue to catalogue, also if it moved", _history_arguments),
     ("compare", "compare two pictures: what differs, side by side, in plain words", _compare_arguments),
     ("list", "list the pictures whose captions, names, keywords or rights fit a question", _list_arguments),
     ("check", "list the pictures that break your own rules", _check_arguments),
