@@ -312,11 +312,11 @@ def test_an_edit_within_a_tick(later, archive):
 def test_a_signal_in_a_long_query(number, archive):
     """A signal ends a command also while SQLite works."""
     code = (
-        "import sys\nfrom exifnorm_pictures.comparison import groups\nfrom exifnorm_pictures.cli import same\n"
-        "def endless(catalogue, *_, **__):\n"
+        "import sys\nfrom exifnorm_pictures.comparison.groups import Groups\n"
+        "def endless(groups, *_, **__):\n"
         "    print('begun', flush=True)\n"
-        "    yield from catalogue.rows('WITH RECURSIVE n(i) AS (SELECT 1 UNION ALL SELECT i + 1 FROM n) SELECT i FROM n WHERE i < 0')\n"
-        "groups.groups = endless\n"
+        "    yield from groups.catalogue.rows('WITH RECURSIVE n(i) AS (SELECT 1 UNION ALL SELECT i + 1 FROM n) SELECT i FROM n WHERE i < 0')\n"
+        "Groups.by_meaning = endless\n"
         "from exifnorm_pictures.cli.main import main\nsys.exit(main(sys.argv[1:]))\n"
     )
     words = ["env", f"--default-signal={number.name[3:]}", sys.executable, "-c", code, "same", "--catalogue", "c"]

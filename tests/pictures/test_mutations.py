@@ -17,7 +17,8 @@ import made_raw
 from studio import Studio, needs, run, write
 
 from exifnorm_pictures.catalogue.store import Catalogue
-from exifnorm_pictures.comparison import groups
+from exifnorm_pictures.comparison.group import Basis
+from exifnorm_pictures.comparison.groups import Groups
 from exifnorm_pictures.model import budgets
 
 
@@ -119,8 +120,8 @@ class TestSame:
         assert done.returncode in (0, 2) and b"internal error" not in done.stderr + done.stdout, done
         found = []
         with Catalogue(str(tmp_path / "c")) as catalogue:
-            for it in groups.groups(catalogue):
-                if it.basis in (groups.MEANING, groups.REPAIR):
+            for it in Groups(catalogue).by_meaning():
+                if it.basis in (Basis.MEANING, Basis.REPAIR):
                     found.append([os.path.relpath(os.fsdecode(one.path), tmp_path) for one in it.members][:MOST])
         assert sum(map(len, found)) >= least, "too few pictures are the same to show anything"
         tags = tags_of(tmp_path, [name for group in found for name in group])

@@ -19,6 +19,8 @@ from exifnorm_pictures.catalogue import store
 from exifnorm_pictures.catalogue.store import VERSION, Catalogue, NoCatalogue
 from exifnorm_pictures.comparison import changed, groups, pairs as pairing
 from exifnorm_pictures.comparison.differing import bare
+from exifnorm_pictures.comparison.group_sentence import sentence_of
+from exifnorm_pictures.comparison.groups import Groups
 from exifnorm_pictures.fields import normal_form
 from exifnorm_pictures.fields.listing import Field, numbers_text
 from exifnorm_pictures.fields.packing import packed
@@ -274,21 +276,21 @@ class Tables(WithPictures):
             picture("n", problem="NoPicture"),
             picture("o", problem="Vanished"),
         )
-        found = [[os.path.basename(it).decode() for it in one.pictures()] for one in groups.groups(made, look=False)]
+        found = [[os.path.basename(it).decode() for it in one.pictures()] for one in Groups(made, look=False).by_meaning()]
         self.assertEqual(found, [["a", "b", "c"], ["d", "e"], ["i", "j"]])
         self.assertEqual(groups.totals(made), (3, 7))
         self.assertEqual(groups.left_out(made), 3)
         self.assertEqual(groups.totals(made, (EXIF,)), (2, 8))
         self.assertEqual(groups.left_out(made, (EXIF,)), 2)
         self.assertEqual(
-            [it.sentence() for it in groups.groups(made, (EXIF, IPTC), look=False)][0], "Exif and IPTC are the same in the same bytes"
+            [sentence_of(it) for it in Groups(made, look=False).by_meaning((EXIF, IPTC))][0], "Exif and IPTC are the same in the same bytes"
         )
 
     def test_bytes_that_differ_in_one_kind(self):
         other = [it._replace(octets="0" * 64) if it.kind == IPTC else it for it in picture("a").blocks]
         made = self.catalogue("c", with_blocks(picture("a"), other), picture("b"))
-        self.assertEqual([it.sentence() for it in groups.groups(made, look=False)], ["Exif, IPTC and XMP are the same"])
-        self.assertEqual([it.same_bytes for it in groups.groups(made, (EXIF,), look=False)], [True])
+        self.assertEqual([sentence_of(it) for it in Groups(made, look=False).by_meaning()], ["Exif, IPTC and XMP are the same"])
+        self.assertEqual([it.same_bytes for it in Groups(made, look=False).by_meaning((EXIF,))], [True])
 
     def test_counts_of_a_report(self):
         old = [picture(it) for it in "abcd"]
@@ -750,7 +752,7 @@ class EqualChanges(unittest.TestCase):
 class Statuses(unittest.TestCase):
     def test_of_changed(self):
         """The greatest status of all results; 1 is a difference that is known, and nothing else."""
-        from exifnorm_pictures.cli.changed import status_of
+        from exifnorm_pictures.cli.exit_codes import status_of_results
 
         expected = {
             "same": 0,
@@ -784,7 +786,9 @@ class Statuses(unittest.TestCase):
         }
         self.assertEqual({*expected, "absent", "left out"}, set(Result))  # which only a kind of block has
         for one, status in expected.items():
-            self.assertEqual(status_of(Counter([Result(one)])), status, one)
+            self.assertEqual(status_of_results(Counter([Result(one)])), status, one)
             for other in expected:
-                self.assertEqual(status_of(Counter([Result(one), Result(other), Result.SAME])), max(status, expected[other]), (one, other))
-        self.assertEqual(status_of(Counter()), 0)
+                self.assertEqual(
+                    status_of_results(Counter([Result(one), Result(other), Result.SAME])), max(status, expected[other]), (one, other)
+                )
+        self.assertEqual(status_of_results(Counter()), 0)

@@ -27,7 +27,7 @@ from ..model.results import Result
 from ..model.texts import shown_path
 from . import changed_tables
 from .choice import choice_of, listings_of, note_absent, refuse_unknown
-from .exit_codes import DIFFERENCE, SUCCESS, UNKNOWN
+from .exit_codes import status_of_results
 from .looking import catalogue_of
 from .names import from_list, refuse_pictures, say_unknown
 from .output import print_line, table_of
@@ -71,7 +71,7 @@ def run(arguments: argparse.Namespace) -> int:
             _print_summary(comparisons, counts, choice, notes)
         if names:
             say_unknown(names, _knows(before, after))
-    return status_of(counts)
+    return status_of_results(counts)
 
 
 Found = Iterable[changes.Compared]
@@ -116,13 +116,6 @@ def _print_summary(comparisons: Found, counts: "Counter[Result]", choice: Choice
     screen = shutil.get_terminal_size().columns if sys.stdout.isatty() else None
     for text in lines(counted, counts, [*notes.of_pictures(), *lines_of_choice(choice, True)], screen):
         print_line(text)
-
-
-def status_of(counts: "Counter[Result]") -> int:
-    """The greatest status of some results."""
-    if any(it.is_open for it in counts):
-        return UNKNOWN
-    return DIFFERENCE if any(it.has_changed for it in counts) else SUCCESS
 
 
 def _knows(*sides: Catalogue) -> Callable[[bytes], bool]:

@@ -5,7 +5,6 @@ from __future__ import annotations
 import argparse
 import os
 import shutil
-from collections import Counter
 from typing import TYPE_CHECKING, Iterator, List, Optional, Sequence
 
 from ..comparison.coded import Coded
@@ -21,10 +20,9 @@ from ..model.records import WORDS, Picture
 from ..model.results import Result
 from ..model.texts import Members, escaped, shown_path
 from ..scan.batches import How
-from .changed import status_of
 from .choice import choice_of, note_absent, other_name, refuse_unknown
 from .columns import columns
-from .exit_codes import SUCCESS, UNKNOWN
+from .exit_codes import SUCCESS, UNKNOWN, status_of_results
 from .names import refuse_folders
 from .objects import picture_object, print_object
 from .output import print_line, table_of
@@ -71,7 +69,7 @@ def _status(comparison: Comparison) -> int:
         return SUCCESS
     if any(it.problem in NO_BYTES for it in comparison.records):
         return UNKNOWN
-    return status_of(Counter([comparison.result]))
+    return status_of_results([comparison.result])
 
 
 # The page

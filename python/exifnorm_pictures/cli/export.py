@@ -39,7 +39,7 @@ def run(arguments: argparse.Namespace) -> int:
         say_unknown(chosen or (), catalogue.has)
     counts = {name: written.counts.get(name, 0) for name in ("pictures", "fields", "captions", "conflicts", "groups")}
     if arguments.json:
-        left_out = {"texts_not_kept": work.missing, "absent_groups": work.fewest.absent}
+        left_out = {"texts_not_kept": work.missing, "absent_groups": work.groups.absent}
         left_out["maker_notes_not_read"] = work.maker_notes
         print_object("export", "summary", {**path_members(os.fsencode(arguments.file)), "rows": counts, **left_out})
     else:
@@ -50,9 +50,9 @@ def run(arguments: argparse.Namespace) -> int:
             print_line(f"{work.missing:,} {which} a text that is NULL: it is {why}")
         if work.maker_notes:
             print_line(of_maker_notes(work.maker_notes))
-        if work.fewest.absent:
-            which = "group is left out, because its" if work.fewest.absent == 1 else "groups are left out, because their"
-            print_line(f"{work.fewest.absent:,} {which} files are gone or have changed since they were indexed")
+        if work.groups.absent:
+            which = "group is left out, because its" if work.groups.absent == 1 else "groups are left out, because their"
+            print_line(f"{work.groups.absent:,} {which} files are gone or have changed since they were indexed")
     return SUCCESS
 
 

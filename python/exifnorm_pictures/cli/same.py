@@ -6,12 +6,14 @@ import argparse
 import contextlib
 import json
 from collections import Counter
-from typing import TYPE_CHECKING, Dict, Iterator, List, Optional, Sequence, Tuple
+from typing import TYPE_CHECKING, Dict, Iterator, List, Sequence, Tuple
 
 from ..catalogue.store import Catalogue
-from ..comparison import groups
-from ..comparison.keeping import NOT_KNOWN, Keep, keeping
-from ..comparison.readings import Unknown, of_unknown
+from ..comparison.group import Group, Link
+from ..comparison.group_sentence import sentence_of
+from ..comparison.groups import Groups, left_out, without_coded_picture
+from ..comparison.keeping import KEEP_ALL, NOT_KNOWN, Keep, keeping
+from ..comparison.readings import of_unknown
 from ..fields.choosing import Choice
 from ..fields.left_out import BY_LISTING, members_of, of_labels
 from ..files import signals
@@ -19,9 +21,8 @@ from ..model.results import Result
 from ..model.errors import WrongUse
 from ..model.records import KINDS, KIND_OF, WORDS, Picture
 from ..model.texts import Members, path_members, shown_path
-from .changed import status_of
 from .choice import choice_of, listings_of, note_absent, refuse_unknown
-from .exit_codes import UNKNOWN
+from .exit_codes import UNKNOWN, status_of_results
 from .names import chosen_paths, say_unknown
 from .objects import line_of, print_object
 from .output import print_line, table_of
@@ -31,6 +32,37 @@ if TYPE_CHECKING:
     from .tables import Table
 
 
+class _Listed:
+    """What `same` lists, and the numbers of it."""
+
+    def __init__(self, arguments: argparse.Namespace, choice: Choice) -> None:
+        self.arguments, self.choice = arguments, choice
+        self.table = table_of(arguments, _HEADS)
+        self.groups: "Counter[str]" = Counter()  # of pictures, and of other files
+        self.pictures: "Counter[str]" = Counter()  # in them
+        self.results: "Counter[Result]" = Counter()
+        self.partial = 0  # groups that are the same but for fields that are left out
+        self.unknown_pictures = 0  # groups of which it isn't known whether their pictures are the same, too
+
+    def add(self, group: Group) -> None:
+        """Prints a group, and counts it."""
+        what = "pictures" if group.are_pictures else "files"
+        self.groups[what] += 1
+        self.pictures[what] += group.count
+        self.partial += group.shared.is_partial
+        self.results.update([group.result] if group.result else [])
+        number = sum(self.groups.values())
+        has_keep = self.arguments.kind == "all" and not self.arguments.no_look and not self.choice
+        keeps = keeping(group, bool(self.arguments.json or self.table)) if has_keep else {}
+        if self.arguments.json:
+            _print_group(number, group, keeps)
+        elif self.table:
+            _print_rows(self.table, number, group, keeps)
+        else:
+            _print_lines(group, number, keeps)
+            self.unknown_pictures += any(one.why == NOT_KNOWN for one in keeps.values())
+
+
 def run(arguments: argparse.Namespace) -> int:
     """Lists the groups of pictures that mean the same."""
     kinds = KINDS if arguments.kind in ("all", PIXELS) else (KIND_OF[arguments.kind],)
@@ -38,91 +70,39 @@ def run(arguments: argparse.Namespace) -> int:
     with contextlib.ExitStack() as open_:
         catalogue = open_.enter_context(Catalogue(arguments.catalogue))
         only = None if chosen is None else catalogue.choose(chosen)
-        has_keep = arguments.kind == "all" and not arguments.no_look
-        table = table_of(arguments, _HEADS)
         choice = choice_of(arguments)
         refuse_unknown(choice, listings_of(catalogue))
         note_absent(choice, listings_of(catalogue), catalogue.with_maker_note() if choice.asks_for_private else 0)
-        fewest = groups.Fewest(arguments.least_fields)
-        unknown: Unknown = Counter()
-        results: "Counter[Result]" = Counter()
-        listed: "Counter[str]" = Counter()
-        grouped: "Counter[str]" = Counter()
-        partial = unknown_pictures = 0
-        for group in _groups(catalogue, arguments, kinds, only, choice, fewest, unknown):
-            what = "pictures" if group.are_pictures else "files"
-            listed[what], grouped[what], partial = listed[what] + 1, grouped[what] + group.count, partial + group.is_partial
-            results.update([group.result] if group.result else [])
-            count = sum(listed.values())
-            keeps = keeping(group, bool(arguments.json or table)) if has_keep and not choice else {}
-            if arguments.json:
-                _print_group(count, group, keeps)
-            elif table:
-                _print_rows(table, count, group, keeps)
-            else:
-                _print_lines(group, count, keeps)
-                unknown_pictures += any(one.why == NOT_KNOWN for one in keeps.values())
-        if not table:
-            left = 0 if arguments.kind == PIXELS else groups.left_out(catalogue, kinds, only)
-            if arguments.json:
-                totals = {"groups": sum(listed.values()), "pictures": sum(grouped.values()), "undecided": left}
-                print_object(
-                    "same",
-                    "summary",
-                    {
-                        **totals,
-                        "small_groups": fewest.small,
-                        "absent_groups": fewest.absent,
-                        "maker_notes_unknown": dict(unknown),
-                        **members_of(choice),
-                    },
-                )
-            else:
-                _print_totals(listed, grouped, left, fewest)
-                if unknown:
-                    print_line(of_unknown(unknown))
-                for text in of_labels(choice):
-                    print_line(text)
-                if partial:
-                    print_line(BY_LISTING)
-                if unknown_pictures:
-                    print_line(_ONLY_METADATA)
-                if arguments.kind == PIXELS:
-                    _print_without_digest(groups.without_coded_picture(catalogue, only)[1])
+        groups = Groups(catalogue, only, not arguments.no_look, None if arguments.kind == PIXELS else arguments.session)
+        listed = _Listed(arguments, choice)
+        for group in _asked(groups, arguments, kinds, choice):
+            listed.add(group)
+        left = 0 if arguments.kind == PIXELS or listed.table else left_out(catalogue, kinds, only)
+        if arguments.json:
+            print_object("same", "summary", _summary(listed, groups, left))
+        elif listed.table:
+            _add_notes(listed.table, groups, choice)
         else:
-            for note in of_labels(choice):
-                table.row(*(None,) * 6, note)
-            for note in [of_unknown(unknown)] * bool(unknown) + [_of_absent(fewest.absent)] * bool(fewest.absent):
-                signals.say(f"exifnorm-pictures: note: {note}")
+            _print_totals(listed, groups, left)
         say_unknown(chosen or (), catalogue.has)
-    return UNKNOWN if unknown else status_of(results)
+    return UNKNOWN if groups.unknown else status_of_results(listed.results)
 
 
 class NoDigests(WrongUse):
     """No digests of coded pictures, or options that have nothing to do with them."""
 
 
-def _groups(
-    catalogue: Catalogue,
-    arguments: argparse.Namespace,
-    kinds: Sequence[str],
-    only: Optional[str],
-    choice: Choice,
-    fewest: groups.Fewest,
-    unknown: Unknown,
-) -> Iterator[groups.Group]:
+def _asked(groups: Groups, arguments: argparse.Namespace, kinds: Sequence[str], choice: Choice) -> Iterator[Group]:
     """The groups of the kind that is asked for. Raises `NoDigests`."""
     if arguments.kind != PIXELS:
-        return groups.groups(
-            catalogue, kinds, only, look=not arguments.no_look, choice=choice, fewest=fewest, unknown=unknown, session=arguments.session
-        )
+        return groups.by_meaning(kinds, choice, arguments.least_fields)
     if choice or arguments.least_fields:
         raise NoDigests("--kind pixels compares coded pictures and no fields: leave out the options for fields")
-    count = groups.without_coded_picture(catalogue, only)[0]
+    count = without_coded_picture(groups.catalogue, groups.only)[0]
     if count:
         have = "1 picture has" if count == 1 else f"{count:,} pictures have"
         raise NoDigests(f"{have} no digest of the coded picture yet: `index --pixels` adds it")
-    return groups.of_coded_pictures(catalogue, only, not arguments.no_look, fewest)
+    return groups.by_coded_picture()
 
 
 # Lines
@@ -130,21 +110,31 @@ def _groups(
 Keeps = Dict[int, Keep]  # by the number of a picture; empty if no file was looked at, or fields are left out
 
 
-def _print_totals(listed: "Counter[str]", grouped: "Counter[str]", left: int, fewest: groups.Fewest) -> None:
-    if sum(listed.values()) > 1:
+def _print_totals(listed: _Listed, groups: Groups, left: int) -> None:
+    if sum(listed.groups.values()) > 1:
         print_line("")
-    count, files = listed["pictures"], listed["files"]
-    more = f", and {files} group{'s' * (files != 1)} of {grouped['files']} files that are no pictures" if files else ""
-    print_line(f"{count} group{'s' * (count != 1)} of {grouped['pictures']} pictures{more}")
-    if fewest.small:
-        print_line(
-            f"{fewest.small} more, of pictures with fewer than {fewest.fields} fields, {'are' if fewest.small > 1 else 'is'} not listed"
-        )
-    if fewest.absent:
-        print_line(_of_absent(fewest.absent))
+    for text in _totals(listed, groups, left):
+        print_line(text)
+
+
+def _totals(listed: _Listed, groups: Groups, left: int) -> Iterator[str]:
+    count, files = listed.groups["pictures"], listed.groups["files"]
+    more = f", and {files} group{'s' * (files != 1)} of {listed.pictures['files']} files that are no pictures" if files else ""
+    yield f"{count} group{'s' * (count != 1)} of {listed.pictures['pictures']} pictures{more}"
+    if groups.small:
+        are = "are" if groups.small > 1 else "is"
+        yield f"{groups.small} more, of pictures with fewer than {listed.arguments.least_fields} fields, {are} not listed"
+    if groups.absent:
+        yield _of_absent(groups.absent)
     if left:
         why = "can't be the same by meaning: a block is refused or unreadable, or a part was not read"
-        print_line(f"{left} picture{'s' * (left > 1)} {why}")
+        yield f"{left} picture{'s' * (left > 1)} {why}"
+    yield from [of_unknown(groups.unknown)] * bool(groups.unknown)
+    yield from of_labels(listed.choice)
+    yield from [BY_LISTING] * bool(listed.partial)
+    yield from [_ONLY_METADATA] * bool(listed.unknown_pictures)
+    if listed.arguments.kind == PIXELS:
+        yield from _without_digest(without_coded_picture(groups.catalogue, groups.only)[1])
 
 
 def _of_absent(count: int) -> str:
@@ -152,26 +142,26 @@ def _of_absent(count: int) -> str:
     return f"{count:,} more {'is' if is_one else 'are'} not listed, because {'its' if is_one else 'their'} files are gone or have changed since they were indexed"
 
 
-def _print_without_digest(count: int) -> None:
+def _without_digest(count: int) -> Iterator[str]:
     if count:
         have = "1 picture has" if count == 1 else f"{count:,} pictures have"
-        print_line(f"{have} no digest of the coded picture: the file is of another format than JPEG, PNG, TIFF and WebP, or is damaged")
+        yield f"{have} no digest of the coded picture: the file is of another format than JPEG, PNG, TIFF and WebP, or is damaged"
 
 
 _ONLY_METADATA = "Only metadata was compared, and pictures with the same metadata may differ: index --pixels compares them too"
 _ALL_THE_SAME = "the pictures are the same too: any one may stay"
 
 
-def _print_lines(group: groups.Group, number: int, keeps: Keeps) -> None:
+def _print_lines(group: Group, number: int, keeps: Keeps) -> None:
     if number > 1:
         print_line("")
-    print_line(f"{group.count} {'pictures' if group.are_pictures else 'files'}: {group.sentence()}:")
-    links: Dict[bytes, List[groups.Link]] = {}
-    for link in group.links:
+    print_line(f"{group.count} {'pictures' if group.are_pictures else 'files'}: {sentence_of(group)}:")
+    links: Dict[bytes, List[Link]] = {}
+    for link in group.files.links:
         links.setdefault(link.of, []).append(link)
     reasons = set(group.reasons.values())
     has_same_pictures = sum(one.keep is False for one in keeps.values()) == group.count - 1 > 0
-    about = {} if has_same_pictures or all(one.why in (NOT_KNOWN, groups.KEEP_ALL) for one in keeps.values()) else keeps
+    about = {} if has_same_pictures or all(one.why in (NOT_KNOWN, KEEP_ALL) for one in keeps.values()) else keeps
     for picture in group.members:
         reason, others = group.reasons.get(picture.id, ""), group.others.get(picture.id, 0)
         more = f", and {others:,} that {'are' if others > 1 else 'is'} in a group with it above" if others else ""
@@ -184,8 +174,8 @@ def _print_lines(group: groups.Group, number: int, keeps: Keeps) -> None:
     if has_same_pictures:
         print_line(f"    {_ALL_THE_SAME}")
     if group.rests_on_readings:
-        print_line(f"    {groups.KEEP_ALL}")
-    for what, paths in (("gone", group.gone), ("changed since it was indexed", group.changed)):
+        print_line(f"    {KEEP_ALL}")
+    for what, paths in (("gone", group.files.gone), ("changed since it was indexed", group.files.changed)):
         for path in paths:
             print_line(f"    not counted, {what}: {shown_path(path)}")
 
@@ -195,9 +185,9 @@ def _print_lines(group: groups.Group, number: int, keeps: Keeps) -> None:
 _HEADS = ("group", "pictures", "what is the same", "rests on", "picture", "keep", "note")
 
 
-def _print_rows(table: Table, number: int, group: groups.Group, keeps: Keeps) -> None:
+def _print_rows(table: Table, number: int, group: Group, keeps: Keeps) -> None:
     """A row for each picture, and one without a word on keeping for each file that doesn't count."""
-    about = (number, group.count, group.sentence(), group.basis)
+    about = (number, group.count, sentence_of(group), group.basis)
     for picture in group.members:
         keep = keeps.get(picture.id, Keep())
         table.row(*about, picture.path, None if keep.keep is None else int(keep.keep), _note(group, picture, keep))
@@ -205,36 +195,50 @@ def _print_rows(table: Table, number: int, group: groups.Group, keeps: Keeps) ->
         table.row(*about, path, None, note)
 
 
-def _note(group: groups.Group, picture: Picture, keep: Keep) -> str:
+def _add_notes(table: Table, groups: Groups, choice: Choice) -> None:
+    """The labels in the table, and on standard error what isn't known or listed."""
+    for note in of_labels(choice):
+        table.row(*(None,) * 6, note)
+    for note in [of_unknown(groups.unknown)] * bool(groups.unknown) + [_of_absent(groups.absent)] * bool(groups.absent):
+        signals.say(f"exifnorm-pictures: note: {note}")
+
+
+def _note(group: Group, picture: Picture, keep: Keep) -> str:
     others = group.others.get(picture.id, 0)
     more = [f"and {others:,} that {'are' if others > 1 else 'is'} in an earlier group with it"] if others else []
-    more += [keep.note or groups.KEEP_ALL * group.rests_on_readings]
+    more += [keep.note or KEEP_ALL * group.rests_on_readings]
     return "; ".join(filter(None, [group.reasons.get(picture.id), *more]))
 
 
-def _not_counted(group: groups.Group) -> Iterator[Tuple[bytes, str]]:
+def _not_counted(group: Group) -> Iterator[Tuple[bytes, str]]:
     """Further names of files, and files that are gone or have changed, each with the reason."""
-    yield from ((link.path, f"not counted, {link.how}: {shown_path(link.of)}") for link in group.links)
-    yield from ((path, "not counted, gone") for path in group.gone)
-    yield from ((path, "not counted, changed since it was indexed") for path in group.changed)
+    yield from ((link.path, f"not counted, {link.how}: {shown_path(link.of)}") for link in group.files.links)
+    yield from ((path, "not counted, gone") for path in group.files.gone)
+    yield from ((path, "not counted, changed since it was indexed") for path in group.files.changed)
 
 
 # --json
 
 
-def _print_group(number: int, group: groups.Group, keeps: Keeps) -> None:
+def _summary(listed: _Listed, groups: Groups, left: int) -> Members:
+    totals = {"groups": sum(listed.groups.values()), "pictures": sum(listed.pictures.values()), "undecided": left}
+    missing = {"small_groups": groups.small, "absent_groups": groups.absent, "maker_notes_unknown": dict(groups.unknown)}
+    return {**totals, **missing, **members_of(listed.choice)}
+
+
+def _print_group(number: int, group: Group, keeps: Keeps) -> None:
     """One object. Its pictures come last, and one by one: they may be all of an archive."""
     known = {
         "number": number,
         "count": group.count,
-        "description": group.sentence(),
+        "description": sentence_of(group),
         "basis": group.basis,
         "digests": {WORDS[kind]: digest for kind, digest in group.digests.items()},
         "same_bytes": group.same_bytes,
-        "wholly_read": not group.not_read and group.basis == groups.MEANING,
-        "links": [{**path_members(one.path), "of": path_members(one.of), "how": one.how} for one in group.links],
-        "gone": [path_members(one) for one in group.gone],
-        "changed": [path_members(one) for one in group.changed],
+        "wholly_read": group.is_wholly_read,
+        "links": [{**path_members(one.path), "of": path_members(one.of), "how": one.how} for one in group.files.links],
+        "gone": [path_members(one) for one in group.files.gone],
+        "changed": [path_members(one) for one in group.files.changed],
     }
     print(line_of("same", "group", known)[:-1], end=', "pictures": [')
     for at, picture in enumerate(group.members):
@@ -242,6 +246,6 @@ def _print_group(number: int, group: groups.Group, keeps: Keeps) -> None:
     print("]}")
 
 
-def _picture_members(group: groups.Group, picture: Picture, keep: Keep) -> Members:
+def _picture_members(group: Group, picture: Picture, keep: Keep) -> Members:
     known = {"keep": keep.keep, "keep_note": keep.note or None, "reason": group.reasons.get(picture.id) or None}
     return {**path_members(picture.path), **known, "others": group.others.get(picture.id, 0)}

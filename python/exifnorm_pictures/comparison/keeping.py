@@ -10,12 +10,13 @@ from typing import Dict, List, NamedTuple, Optional, Sequence, Tuple
 
 from ..model.records import Picture
 from ..model.texts import shown_path
-from .groups import KEEP_ALL, Group
+from .group import Group
 
 NOT_KNOWN = "whether its picture is that of another one isn't known: index --pixels finds out"
 OTHER = "no other one has the same picture"
 OTHER_BESIDE = "one with the same picture has another colour profile or comment"
 OTHER_FILE = "no other file has the same bytes, and pictures of this format aren't compared"
+KEEP_ALL = "which one to keep isn't known: equal readings don't show whose offsets are still right"  # of groups that rest on MakerNotes
 NOT_ALL = "its file has other bytes, outside of metadata, picture, colour profile and comments"
 
 _Key = Tuple[str, str]  # what was compared, and its digest

@@ -61,8 +61,9 @@ class Read(NamedTuple):
 class Readings:
     """What ExifTool reads of the MakerNotes of a catalogue's pictures: each is asked for once, if it isn't kept, and only its key is in memory."""
 
-    def __init__(self, catalogue: Catalogue, look: bool, session: Optional[Session], unknown: Unknown) -> None:
-        self.catalogue, self.look, self.session, self.unknown = catalogue, look, session, unknown
+    def __init__(self, catalogue: Catalogue, look: bool, session: Optional[Session]) -> None:
+        self.catalogue, self.look, self.session = catalogue, look, session
+        self.unknown: Unknown = Counter()  # the pictures of which it isn't known
         self._known: Dict[int, Optional[Read]] = {}
         self._counted: Set[int] = set()
 

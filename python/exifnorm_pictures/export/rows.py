@@ -9,7 +9,8 @@ from typing import Iterator, List, Optional, Sequence, Tuple
 from ..catalogue.store import Catalogue
 from ..catalogue.texts import texts_of
 from ..comparison.conflicts import conflicts
-from ..comparison.groups import Fewest, groups
+from ..comparison.group_sentence import sentence_of
+from ..comparison.groups import Groups
 from ..comparison.keeping import Keep, keeping
 from ..fields.labels import LabelText
 from ..fields.listing import Field, exact
@@ -35,7 +36,7 @@ class Export:
         self.catalogue, self.tables, self.only, self.session = catalogue, tables, only, session
         self.missing = 0  # pictures with a text that is too long to be kept
         self.maker_notes = 0  # pictures with a MakerNote
-        self.fewest = Fewest()  # counts the groups that are left out
+        self.groups = Groups(catalogue, only, bool(session), session)
 
     def all(self, quiet: bool) -> None:
         """Adds each picture, and then the groups. Prints its progress, unless it is quiet."""
@@ -44,11 +45,9 @@ class Export:
         for count, picture in enumerate(self.catalogue.pictures(self.only), 1):
             self._picture(picture)
             progress.done(count)
-        for number, group in enumerate(
-            groups(self.catalogue, only=self.only, look=bool(self.session), fewest=self.fewest, session=self.session), 1
-        ):
+        for number, group in enumerate(self.groups.by_meaning(), 1):
             keeps = keeping(group) if self.session else {}
-            about = (number, group.basis, group.sentence())
+            about = (number, group.basis, sentence_of(group))
             self.tables.add("groups", ((*about, it.id, *_keep_row(keeps.get(it.id, Keep()))) for it in group.members))
 
     def _picture(self, picture: Picture) -> None:

@@ -4,6 +4,7 @@ from __future__ import annotations
 
 import hashlib
 import heapq
+import itertools
 import json
 from collections import Counter
 from dataclasses import dataclass, field
@@ -14,6 +15,8 @@ from ..comparison import changed, groups
 from ..comparison.coded import Coded
 from ..comparison.conflicts import Conflict
 from ..comparison.differing import bare
+from ..comparison.group_sentence import sentence_of
+from ..comparison.keeping import KEEP_ALL
 from ..comparison.readings import Unknown
 from ..comparison.wording import sides
 from ..fields.choosing import EVERYTHING, Choice
@@ -135,18 +138,7 @@ def gather(about: About) -> Gathered:
         if len(kept_) < MOST_REFUSED:
             kept_.append(block)
     _gather_parts(contents, about)
-    contents.all_groups = groups.totals(catalogue, only=about.table(), choice=about.choice)
-    for group in groups.groups(
-        catalogue,
-        only=about.table(),
-        most=MOST_GROUPS,
-        look=about.look,
-        choice=about.choice,
-        unknown=contents.unknown,
-        session=about.session,
-    ):
-        sentence = group.sentence() + f"; {groups.KEEP_ALL}" * group.rests_on_readings
-        contents.groups.append((group.count, sentence, list(group.pictures(MOST_OF_GROUP))))
+    _gather_groups(contents, about)
     for checked_picture in checked(catalogue, catalogue.pictures(about.table())):
         contents.contradictions.add(checked_picture, MOST_CONTRADICTIONS)
     if about.old is not None:
@@ -193,6 +185,15 @@ def _gather_parts(contents: Gathered, about: About) -> None:
 def _part_of_row(row: Tuple[str, int]) -> Tuple[str, int]:
     has(str, row[0])
     return row
+
+
+def _gather_groups(contents: Gathered, about: About) -> None:
+    contents.all_groups = groups.totals(about.catalogue, only=about.table(), choice=about.choice)
+    by_files = groups.Groups(about.catalogue, about.table(), about.look, about.session)
+    for group in itertools.islice(by_files.by_meaning(choice=about.choice), MOST_GROUPS):
+        sentence = sentence_of(group) + f"; {KEEP_ALL}" * group.rests_on_readings
+        contents.groups.append((group.count, sentence, list(group.pictures(MOST_OF_GROUP))))
+    contents.unknown = by_files.unknown
 
 
 def _gather_changes(contents: Gathered, about: About) -> None:
@@ -253,13 +254,17 @@ def members(about: About) -> Iterator[Members]:
         "causes": dict(causes),
         **({"unproved": without_proof} if without_proof else {}),
     }
-    unknown: Unknown = Counter()
-    for group in groups.groups(catalogue, only=about.table(), look=about.look, choice=about.choice, unknown=unknown, session=about.session):
-        wholly_read = not group.not_read and group.basis == groups.MEANING
-        known = {"description": group.sentence(), "basis": group.basis, "same_bytes": group.same_bytes, "wholly_read": wholly_read}
-        yield {"same": [path_members(it) for it in group.pictures()], **known}
-    if unknown:
-        yield {"maker_notes_unknown": dict(unknown)}
+    by_files = groups.Groups(catalogue, about.table(), about.look, about.session)
+    for group in by_files.by_meaning(choice=about.choice):
+        yield {
+            "same": [path_members(it) for it in group.pictures()],
+            "description": sentence_of(group),
+            "basis": group.basis,
+            "same_bytes": group.same_bytes,
+            "wholly_read": group.is_wholly_read,
+        }
+    if by_files.unknown:
+        yield {"maker_notes_unknown": dict(by_files.unknown)}
     if about.old is not None:
         yield from _changed_members(about)
     for checked_picture in checked(catalogue, catalogue.pictures(about.table())):

@@ -1,0 +1,159 @@
+"""A group of pictures of which the same is true: what SQLite found of them, what their files say, and more about each picture."""
+
+from __future__ import annotations
+
+import os
+from dataclasses import dataclass, field
+from typing import Dict, Iterator, List, NamedTuple, Optional, Tuple
+
+from ..model.found import EXIF
+from ..model.problems import Problem
+from ..model.records import KINDS, Picture
+from ..model.results import Result
+from ..model.words import Word
+
+
+class Basis(Word):
+    """What the pictures of a group have in common. A picture can be in groups of several kinds."""
+
+    is_later: bool  # whether a group joins pictures of earlier groups, and has one of each
+    has_reasons: bool  # whether a block of some pictures is refused
+
+    def __new__(cls, word: str, is_later: bool = False, has_reasons: bool = False) -> "Basis":
+        basis = str.__new__(cls, word)
+        basis._value_ = word
+        basis.is_later, basis.has_reasons = is_later, has_reasons
+        return basis
+
+    MEANING = ("meaning",)
+    FIELDS = ("fields",)  # the meaning but for the fields left out, by the listing of fields, which is tested and not proved
+    BYTES = ("bytes", False, True)
+    MAKER_NOTE = ("maker note", True)
+    REPAIR = ("repair", True, True)
+    CODED_PICTURE = ("coded picture",)  # the metadata may differ
+
+
+class Shared(NamedTuple):
+    """What SQLite found that some pictures have in common."""
+
+    basis: Basis
+    kinds: Tuple[str, ...]
+    is_partial: bool = False  # they are the same but for fields that are left out
+    has_choice: bool = False  # whether fields may be left out
+
+
+class Link(NamedTuple):
+    """A further name of a picture."""
+
+    path: bytes
+    of: bytes
+    how: str = "the same file by another name"
+
+    @classmethod
+    def to(cls, path: bytes, of: bytes) -> "Link":
+        """A further name, looked at."""
+        if os.path.islink(path):
+            return cls(path, of, "a symbolic link to it")
+        if os.path.realpath(path) == os.path.realpath(of):
+            return cls(path, of, "the same file through a linked folder; to delete it deletes the picture")
+        return cls(path, of, "a hard link to it")
+
+
+@dataclass
+class Files:
+    """The files of some pictures, as they are now."""
+
+    pictures: List[Picture] = field(default_factory=list)  # different files that are there as they were looked at
+    links: List[Link] = field(default_factory=list)
+    gone: List[bytes] = field(default_factory=list)
+    changed: List[bytes] = field(default_factory=list)
+    lost: List[Picture] = field(default_factory=list)  # those that are gone or have changed, where their MakerNotes count
+
+    def only(self, pictures: List[Picture]) -> "Files":
+        """These pictures, with their further names."""
+        here = {it.path for it in pictures}
+        return Files(pictures, [it for it in self.links if it.of in here], self.gone, self.changed)
+
+
+@dataclass
+class Group:
+    """Pictures of which the same is true."""
+
+    shared: Shared
+    files: Files
+    reasons: Dict[int, str] = field(default_factory=dict)  # the refusals or repairs of a picture, by its number
+    others: Dict[int, int] = field(default_factory=dict)  # how many more pictures an earlier group has, of which this picture is one
+    not_read: str = ""  # the parts that were not read, and have the same bytes
+    result: Optional[Result] = None  # that `changed` has for two of its pictures, where it isn't decided wholly, or a MakerNote differs
+
+    @property
+    def basis(self) -> Basis:
+        """What they have in common."""
+        return self.shared.basis
+
+    @property
+    def members(self) -> List[Picture]:
+        """The pictures that are listed."""
+        return self.files.pictures
+
+    @property
+    def count(self) -> int:
+        """How many pictures are listed."""
+        return len(self.members)
+
+    @property
+    def digests(self) -> Dict[str, str]:
+        """The digest of each kind that they have, as far as it is known."""
+        first, digests = self.members[0], {}
+        if self.shared.is_partial or self.basis == Basis.CODED_PICTURE:  # no digest is of what they have in common
+            return {}
+        for kind, digest in zip(KINDS, first.meanings):
+            if kind in self.shared.kinds and digest != "" and (kind != EXIF or not self.has_other_notes):
+                digests[kind] = digest or (first.exif_repaired if kind == EXIF and self.basis == Basis.REPAIR else "") or ""
+        return digests
+
+    @property
+    def same_bytes(self) -> bool:
+        """Whether their blocks are the same byte for byte."""
+        at = [KINDS.index(it) for it in self.shared.kinds]
+        first = self.members[0].octets
+        return all(it.octets[number] == first[number] for it in self.members for number in at)
+
+    @property
+    def is_wholly_read(self) -> bool:
+        """Whether all of their metadata were read, and mean the same."""
+        return not self.not_read and self.basis == Basis.MEANING
+
+    def pictures(self, most: int = -1) -> Iterator[bytes]:
+        """Each picture of the group, or the first ones, by path."""
+        return (it.path for it in (self.members if most < 0 else self.members[:most]))
+
+    @property
+    def are_pictures(self) -> bool:
+        """Whether ExifTool or a reader takes the files for pictures."""
+        return self.members[0].problem != Problem.NO_PICTURE
+
+    @property
+    def has_other_notes(self) -> bool:
+        """Whether the MakerNotes have different bytes."""
+        return self.basis == Basis.MAKER_NOTE and len({meaning_of_exif(it) for it in self.members}) > 1
+
+    @property
+    def has_refused(self) -> bool:
+        """Whether a block of a picture is refused or unreadable."""
+        return any(it.meanings[KINDS.index(kind)] is None for it in self.members for kind in self.shared.kinds)
+
+    @property
+    def rests_on_readings(self) -> bool:
+        """Whether MakerNotes count as the same because ExifTool reads the same: then one of them may be damaged."""
+        return self.basis == Basis.MAKER_NOTE or (self.basis == Basis.REPAIR and self.has_moved_notes)
+
+    @property
+    def has_moved_notes(self) -> bool:
+        """Whether the MakerNotes are at different places."""
+        return len({it.maker_notes for it in self.members}) > 1
+
+
+def meaning_of_exif(picture: Picture) -> Optional[str]:
+    """The digest of what Exif means, after repair too."""
+    return picture.exif_repaired if picture.exif is None else picture.exif
