@@ -30,7 +30,7 @@ TOP = Path(__file__).resolve().parent.parent
 TESTS = TOP / "tests" / "library"
 ATTRIBUTE = '"probe-stack"='  # each function of the module has it
 COUNTERS = "-fsanitize-coverage=inline-8bit-counters,pc-table,trace-cmp"
-LAWS = ["fuzz.c", "fuzz/laws.c", "fuzz/heads.c", "fuzz/pictures.c", "fuzz/memory.c"]
+LAWS = ["fuzz.c", *(f"fuzz/{it}.c" for it in ("laws", "made", "heads", "blocks", "pictures", "area", "memory"))]
 FLAGS = ["-g", "-O2", "-DLIBFUZZER", "-DWRAPPED", f"-I{TOP}/crates/px_c/include"]
 WRAPS = [f"-Wl,--wrap={it}" for it in ("malloc", "calloc", "realloc", "free")]
 # The toolchain's clang calls them for the thread sanitizer. That of Debian's older clang lacks them, but watches those of the C library.
@@ -61,11 +61,17 @@ def run(*words: str | Path, folder: Path) -> None:
 # ---- the instrumented library and the target
 
 
-def compile_module(module: Path, kind: Kind, clang: Path, folder: Path) -> Path:
-    """Compiles the module with the instrumentation of a kind, in a folder. Returns the object file."""
-    text, object_file = folder / "module.ll", folder / f"{CRATE}.o"
+def module_text(module: Path, clang: Path, folder: Path) -> Path:
+    """Writes the module as text, as the toolchain gives it to clang."""
+    text = folder / "module.ll"
     unchanged = ["-Xclang", "-disable-llvm-passes"]
     run(clang, "--no-default-config", *unchanged, "-S", "-emit-llvm", "-x", "ir", module / "module.bc", "-o", text, folder=folder)
+    return text
+
+
+def compile_module(module: Path, kind: Kind, clang: Path, folder: Path) -> Path:
+    """Compiles the module with the instrumentation of a kind, in a folder. Returns the object file."""
+    text, object_file = module_text(module, clang, folder), folder / f"{CRATE}.o"
     for it in kind.sanitizer:  # which clang gives only to functions that ask for it
         asked = it.replace("-fsanitize=", "sanitize_")
         text.write_text(text.read_text(encoding="utf-8").replace(ATTRIBUTE, f"{asked} {ATTRIBUTE}"), encoding="utf-8")
@@ -76,10 +82,15 @@ def compile_module(module: Path, kind: Kind, clang: Path, folder: Path) -> Path:
     return object_file
 
 
+def kept_module() -> tuple[Path, Path]:
+    """The library's module, and the toolchain's folder."""
+    crates = Crates.read(TOP)
+    return kept(crates), Path(Compiler(crates, TOP, sys.stderr).kit)
+
+
 def build_library(kind: Kind, library: Path) -> None:
     """Writes the library with the instrumentation of a kind."""
-    crates = Crates.read(TOP)
-    module, kit = kept(crates), Path(Compiler(crates, TOP, sys.stderr).kit)
+    module, kit = kept_module()
     tools = kit / "toolchain" / "bin"
     with tempfile.TemporaryDirectory() as name:
         object_file = compile_module(module, kind, tools / "clang", Path(name))

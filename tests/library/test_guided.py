@@ -18,7 +18,18 @@ from compiling import HEADERS, HERE, need
 
 KEPT = HERE / "fuzz" / "corpus.zip"
 RUNS, SEED = 1_500_000, 1  # about a minute of a processor
-CALLS = ("check", "normalise", "show", "captions", "compare", "jpeg_parts", "photoshop_resources", "jpeg_same", "cause_name", "version")
+CALLS = (
+    "check",
+    "normalise",
+    "show",
+    "captions",
+    "compare",
+    "jpeg_parts",
+    "jpeg_blocks",
+    "photoshop_resources",
+    "jpeg_same",
+    "jpeg_unread",
+)
 pytestmark = pytest.mark.xdist_group("fuzz targets")  # they are built once
 
 

@@ -11,6 +11,7 @@ import subprocess
 from dataclasses import dataclass, field
 
 import pytest
+from fuzz_target import LAWS as LAWS_IN_C
 
 from commands import run, text_of
 from compiling import HEADERS, HERE
@@ -70,7 +71,14 @@ FINDS = {
     "HEAD_ROOM": "HEAD_ROOM_FILLED HEAD_ROOM_COUNT",
     "RESOURCES": "RESOURCES_CUT RESOURCE_LONG",
     "RESOURCES_ROOM": "RESOURCES_ROOM_COUNT",
-    "PICTURES": "PICTURES_ALWAYS_SAME PICTURES_NEVER_SAME PICTURES_SAME_ONE_WAY",
+    "BLOCKS": "BLOCK_MISSED BLOCK_OF_OTHER_KIND BLOCK_SHORT BLOCK_IN_PICTURE JOINED_TURNED BLOCKS_BEHIND JOINED_BEHIND",
+    "BLOCKS_ROOM": "BLOCKS_ROOM_FILLED BLOCKS_ROOM_COUNT",
+    "BLOCKS_FAULT": "BLOCKS_OF_CUT BLOCKS_FAULT_BESIDE UNREAD_OF_CUT",
+    "BLOCKS_CHECKED": "PICTURE_OF_NO_KIND PICTURES_NEVER_SAME",
+    "UNREAD": "UNREAD_NONE UNREAD_BESIDE UNREAD_IN_PICTURE",
+    "UNREAD_MEMORY": "UNREAD_IGNORES_NULL",
+    "NOT_READ": "SAME_THOUGH_UNREAD DIFFERENT_SINCE_UNREAD SECOND_UNREAD_IS_SAME SECOND_UNREAD_IS_FIRST UNREAD_PLACE_UNSET UNREAD_SETS UNREAD_IF_DIFFERENT",
+    "PICTURES": "READ_IS_UNREAD PICTURES_ALWAYS_SAME PICTURES_NEVER_SAME PICTURES_SAME_ONE_WAY",
     "PICTURE_FAULT": "PICTURE_OF_FIRST PICTURE_OF_NO_NUMBER PICTURE_OF_NO_KIND PICTURE_SETS",
     "PICTURE_MEMORY": "PICTURE_IGNORES_NULL PICTURE_SETS_WITHOUT_MEMORY",
 }
@@ -108,8 +116,7 @@ class Fuzz:
         self.shared, self.corpus, self.program, self.wrong = shared, folder / "corpus", folder / "fuzz", folder / "wrong"
         write_corpus(self.corpus)
         self.wrong.mkdir()
-        sources = [HERE / it for it in ("fuzz.c", "fuzz/laws.c", "fuzz/heads.c", "fuzz/pictures.c", "fuzz/changes.c", "fuzz/memory.c")]
-        run(*CC, "-rdynamic", "-o", self.program, *sources, shared)
+        run(*CC, "-rdynamic", "-o", self.program, *(HERE / it for it in (*LAWS_IN_C, "fuzz/changes.c")), shared)
         wrong = self.wrong / "libexifnorm.so.1"
         run(*CC, "-shared", "-fPIC", "-Wl,-soname,libexifnorm.so.1", "-o", wrong, HERE / "fuzz" / "wrong.c", "-ldl")
 

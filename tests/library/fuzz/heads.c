@@ -1,34 +1,15 @@
-/* The laws of the calls for JPEGs. The bytes of a block decide how a head and some of Photoshop's resources are made, so what the calls must
- * find is known. Both end where a page begins that can't be read, and the arrays end where one begins that can't be written. */
-#define _GNU_SOURCE
+/* The laws of the calls for the parts of a JPEG's head and for Photoshop's resources, over made ones. Both end where a page begins that can't be
+ * read, and the arrays end where one begins that can't be written. */
+#include "area.h"
 #include "laws.h"
+#include "made.h"
 #include <exifnorm.h>
 #include <string.h>
-#include <sys/mman.h>
 
-enum { PARTS = 24, DATA = 32, LONGEST = 4096, PAGE = 4096, FILLER = 0xA5, UNSET = 0x5EED5EED };
+enum { LONGEST = LONGEST_HEAD, FILLER = 0xA5, UNSET = 0x5EED5EED };
 
 typedef struct exifnorm_jpeg_part Part;
 typedef struct exifnorm_photoshop_resource Resource;
-
-/* What decides: the bytes of a block, again and again. */
-struct script {
-    const unsigned char *bytes;
-    size_t length, at;
-};
-
-/* A head: its bytes, its parts, and the offset at which each begins, with its bytes FF. */
-struct head {
-    unsigned char bytes[LONGEST];
-    size_t length, count, begin[PARTS + 1];
-    Part parts[PARTS + 1];
-};
-
-struct resources {
-    unsigned char bytes[LONGEST];
-    size_t length, count;
-    Resource found[PARTS];
-};
 
 /* What a call returned. */
 struct found {
@@ -39,104 +20,14 @@ struct found {
     Resource *resources;
 };
 
-static const struct {
-    uint32_t marker;
-    size_t length;
-    const char *bytes;
-} marks[] = {{0xFE, 0, ""}, {0xE1, 6, "Exif\0"}, {0xED, 14, "Photoshop 3.0"}, {0xE1, 29, "http://ns.adobe.com/xap/1.0/"},
-             {0xE1, 35, "http://ns.adobe.com/xmp/extension/"}};
-
 static unsigned char *input, *output; /* where the bytes and the arrays end */
 static struct head head;
 static struct resources them;
 
-static unsigned char *end_of_area(size_t size) {
-    unsigned char *start = mmap(NULL, size + PAGE, PROT_READ | PROT_WRITE, MAP_PRIVATE | MAP_ANONYMOUS, -1, 0);
-    return start != MAP_FAILED && mprotect(start + size, PAGE, PROT_NONE) == 0 ? start + size : NULL;
-}
-
 int open_heads(void) {
     input = end_of_area(2 * LONGEST);
-    output = end_of_area(2 * PAGE);
+    output = end_of_area(2 * LONGEST);
     return input && output;
-}
-
-static unsigned next(struct script *script) {
-    return script->length ? script->bytes[script->at++ % script->length] : 0;
-}
-
-static void put(unsigned char *bytes, size_t *length, const void *more, size_t count) {
-    memcpy(bytes + *length, more, count);
-    *length += count;
-}
-
-/* Some bytes of the script. */
-static size_t data(struct script *script, unsigned char *bytes) {
-    size_t count = next(script) % DATA;
-    for (size_t i = 0; i < count; i++)
-        bytes[i] = (unsigned char)next(script);
-    return count;
-}
-
-/* ---- heads */
-
-static int has_header(const unsigned char *bytes, size_t length) {
-    return length >= 4 && (memcmp(bytes, "II*", 4) == 0 || memcmp(bytes, "MM\0*", 4) == 0);
-}
-
-static void add_alone(unsigned marker) {
-    put(head.bytes, &head.length, (unsigned char[]){0xFF, (unsigned char)marker}, 2);
-    head.parts[head.count++] = (Part){marker, EXIFNORM_JPEG_OTHER, 0, head.length, 0};
-}
-
-static void add_segment(uint32_t marker, uint32_t kind, uint32_t last, const unsigned char *bytes, size_t size) {
-    size_t mark = marks[kind].length, length = 2 + mark + size;
-    int goes_on = kind == last && (kind == EXIFNORM_JPEG_PHOTOSHOP || (kind == EXIFNORM_JPEG_EXIF && !has_header(bytes, size)));
-    put(head.bytes, &head.length, (unsigned char[]){0xFF, (unsigned char)marker, (unsigned char)(length >> 8), (unsigned char)length}, 4);
-    put(head.bytes, &head.length, marks[kind].bytes, mark);
-    head.parts[head.count++] = (Part){marker, kind, kind != EXIFNORM_JPEG_OTHER && !goes_on, head.length, size};
-    put(head.bytes, &head.length, bytes, size);
-}
-
-/* One part, after those that were added. */
-static void add_part(struct script *script) {
-    unsigned char bytes[DATA + 4];
-    unsigned way = next(script), kind = way % 8;
-    uint32_t last = head.count ? head.parts[head.count - 1].kind : EXIFNORM_JPEG_OTHER;
-    size_t size;
-    for (unsigned fill = way / 8 % 16; fill > 12; fill--)
-        put(head.bytes, &head.length, "\xff", 1);
-    if (kind == 0) {
-        add_alone(way / 128 ? 0x01 : 0xD0 + way / 8 % 9);
-    } else if (kind < 5) {
-        size = data(script, bytes);
-        add_segment(marks[kind].marker, kind, last, bytes, size);
-    } else if (kind == 5) { /* Exif with a header */
-        memcpy(bytes, way / 128 ? "II*" : "MM\0*", 4);
-        size = data(script, bytes + 4);
-        add_segment(0xE1, EXIFNORM_JPEG_EXIF, last, bytes, size + 4);
-    } else { /* at the marker of Exif, but of no kind; or at another one, with its mark */
-        memcpy(bytes, kind == 6 ? "EXIF" : "Exif\0", 4);
-        size = data(script, bytes + 4);
-        add_segment(kind == 6 ? 0xE1 : 0xC0 + way / 8 % 16, EXIFNORM_JPEG_OTHER, last, bytes, size + 4);
-    }
-}
-
-static void make_head(struct script *script) {
-    unsigned count = next(script) % PARTS;
-    head.length = head.count = 0;
-    put(head.bytes, &head.length, "\xff\xd8", 2);
-    while (count-- > 0) {
-        head.begin[head.count] = head.length;
-        add_part(script);
-        if (head.parts[head.count - 1].marker == 0xDA)
-            return;
-    }
-    head.begin[head.count] = head.length;
-    if (next(script) % 2)
-        add_alone(0xD9);
-    else
-        add_segment(0xDA, EXIFNORM_JPEG_OTHER, EXIFNORM_JPEG_OTHER, (const unsigned char *)"scan", 4);
 }
 
 /* ---- calls */
@@ -213,7 +104,7 @@ static void judge_without(size_t at) {
 
 static void judge_parts(struct script *script) {
     unsigned char bytes[LONGEST + 16];
-    make_head(script);
+    make_head(script, &head);
     size_t length = head.length;
     struct found it = parts_of(head.bytes, length, head.count + 2);
     holds(LAW_HEAD, it.status == EXIFNORM_DONE && is_unset(it.fault) && are_parts(it, head.count, 2));
@@ -228,20 +119,6 @@ static void judge_parts(struct script *script) {
     judge_without(next(script) % head.count);
 }
 
-static void add_resource(struct script *script) {
-    unsigned char bytes[DATA], name[DATA];
-    size_t size = data(script, bytes), letters = data(script, name);
-    unsigned char high = (unsigned char)next(script), low = (unsigned char)next(script);
-    put(them.bytes, &them.length, &"8BIMPHUTAgHgDCSRMeSa"[next(script) % 5 * 4], 4);
-    put(them.bytes, &them.length, (unsigned char[]){high, low, (unsigned char)letters}, 3);
-    put(them.bytes, &them.length, name, letters);
-    put(them.bytes, &them.length, "\0\0\0\0", letters % 2 ? 3 : 4); /* a byte that pads the name, and three of the length */
-    them.bytes[them.length++] = (unsigned char)size;
-    them.found[them.count++] = (Resource){256 * (size_t)high + low, them.length, size};
-    put(them.bytes, &them.length, bytes, size);
-    put(them.bytes, &them.length, "\0", size % 2);
-}
-
 static int are_resources(struct found it, size_t more) {
     if (it.status != EXIFNORM_DONE || it.count != them.count)
         return 0;
@@ -253,9 +130,7 @@ static int are_resources(struct found it, size_t more) {
 }
 
 static void judge_resources(struct script *script) {
-    them.length = them.count = 0;
-    for (unsigned count = next(script) % PARTS; count > 0; count--)
-        add_resource(script);
+    make_resources(script, PARTS - 1, &them);
     put(them.bytes, &them.length, "8BIM\4\4\0\0\0\0\0\1", next(script) % 13);
     holds(LAW_RESOURCES, are_resources(resources_of(them.bytes, them.length, them.count + 2), 2));
     if (them.count == 0)

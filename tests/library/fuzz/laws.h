@@ -51,6 +51,13 @@
     LAW(HEAD_ROOM, "for an array that is too short for the parts their number is returned, and nothing is written") \
     LAW(RESOURCES, "Photoshop's resources are those that were made, whatever follows them") \
     LAW(RESOURCES_ROOM, "for an array that is too short for them their number is returned, and nothing is written") \
+    LAW(BLOCKS, "the blocks of a picture are its pieces, joined where a block has several") \
+    LAW(BLOCKS_ROOM, "for an array that is too short for blocks or for joined bytes both numbers are returned, and nothing is written") \
+    LAW(BLOCKS_FAULT, "the calls for blocks and for what is not read refuse a head that is cut, at the part that is cut") \
+    LAW(BLOCKS_CHECKED, "a picture is refused for the first block that check refuses, Exif before IPTC, and otherwise the same as itself") \
+    LAW(UNREAD, "the place that is not read is the first one by the rules of the format, or there is none") \
+    LAW(UNREAD_MEMORY, "a failed allocation while such a place is looked for is NO_MEMORY, or makes no difference") \
+    LAW(NOT_READ, "pictures that are the same but for a place that is not read are not called the same, and the first such place is named") \
     LAW(PICTURES, "two pictures are the same exactly if they have as many blocks, and these mean the same") \
     LAW(PICTURE_FAULT, "a picture with a refused block is refused, with the block's kind, number, cause and offset, on either side") \
     LAW(PICTURE_MEMORY, "a failed allocation while pictures are compared is NO_MEMORY, and sets nothing")
@@ -78,10 +85,14 @@ int holds(int law, int is_so);
 /* Allocates the buffers in which blocks are judged; 0 if there is no memory. */
 int open_room(void);
 int open_heads(void);
+int open_blocks(void);
 int open_pictures(void);
 
 /* Judges a head and Photoshop's resources that are made from the bytes of a block. */
 void judge_heads(const unsigned char *block, size_t length);
+
+/* Judges the blocks of another such head, and what isn't read in it. */
+void judge_blocks(const unsigned char *block, size_t length);
 
 /* Judges pictures that are made of a block, whose check returned this cause, or 0, and this offset. */
 void judge_pictures(const unsigned char *block, size_t length, uint32_t cause, uint32_t place);

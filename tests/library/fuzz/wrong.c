@@ -81,6 +81,30 @@
     MISTAKE(RESOURCE_LONG, "the data of a resource have their padding") \
     MISTAKE(RESOURCES_CUT, "the last of Photoshop's resources is missing") \
     MISTAKE(RESOURCES_ROOM_COUNT, "for an array that is too short for resources its own length is returned") \
+    MISTAKE(BLOCK_MISSED, "the first block of a picture is missing") \
+    MISTAKE(BLOCK_OF_OTHER_KIND, "a block of extended XMP is one of XMP") \
+    MISTAKE(BLOCK_SHORT, "the last byte of a block in several pieces is missing") \
+    MISTAKE(BLOCK_IN_PICTURE, "a block in several pieces is in the picture") \
+    MISTAKE(JOINED_TURNED, "the joined bytes begin with their last byte") \
+    MISTAKE(BLOCKS_BEHIND, "an element is written after the blocks") \
+    MISTAKE(JOINED_BEHIND, "a byte is written after the joined bytes") \
+    MISTAKE(BLOCKS_ROOM_FILLED, "arrays that are too short for the blocks are cleared") \
+    MISTAKE(BLOCKS_ROOM_COUNT, "for arrays that are too short for the blocks their own lengths are returned") \
+    MISTAKE(BLOCKS_OF_CUT, "blocks are found in a head that is cut, and no fault") \
+    MISTAKE(BLOCKS_FAULT_BESIDE, "the offset of a head's fault is one too high, for its blocks alone") \
+    MISTAKE(UNREAD_NONE, "all of a picture is read") \
+    MISTAKE(UNREAD_BESIDE, "the place that is not read is one too high") \
+    MISTAKE(UNREAD_IN_PICTURE, "a place in the joined bytes is one in the picture") \
+    MISTAKE(UNREAD_OF_CUT, "all of a head that is cut is read") \
+    MISTAKE(UNREAD_IGNORES_NULL, "all of a picture is read if an allocation failed") \
+    MISTAKE(SAME_THOUGH_UNREAD, "pictures are the same although a part is not read") \
+    MISTAKE(DIFFERENT_SINCE_UNREAD, "pictures are different because a part is not read") \
+    MISTAKE(SECOND_UNREAD_IS_SAME, "only a part of the first picture that is not read makes a difference") \
+    MISTAKE(SECOND_UNREAD_IS_FIRST, "a part of the second picture that is not read is one of the first") \
+    MISTAKE(UNREAD_PLACE_UNSET, "the place that is not read is not set") \
+    MISTAKE(UNREAD_SETS, "the result is set although a part is not read") \
+    MISTAKE(READ_IS_UNREAD, "a part of two pictures that are the same is never read") \
+    MISTAKE(UNREAD_IF_DIFFERENT, "different pictures have the place that is not read in place of a result") \
     MISTAKE(PICTURES_ALWAYS_SAME, "all pictures are the same") \
     MISTAKE(PICTURES_NEVER_SAME, "no two pictures are the same") \
     MISTAKE(PICTURES_SAME_ONE_WAY, "a longer first picture is never the same") \
@@ -102,6 +126,8 @@ typedef uint32_t Check(const unsigned char *, size_t, uint32_t *, struct exifnor
 typedef uint32_t Text(const unsigned char *, size_t, unsigned char *, size_t, size_t *, struct exifnorm_fault *);
 typedef uint32_t Parts(const unsigned char *, size_t, struct exifnorm_jpeg_part *, size_t, size_t *, struct exifnorm_jpeg_fault *);
 typedef uint32_t Resources(const unsigned char *, size_t, struct exifnorm_photoshop_resource *, size_t, size_t *);
+typedef uint32_t Blocks(const unsigned char *, size_t, struct exifnorm_jpeg_block *, size_t, unsigned char *, size_t, struct exifnorm_jpeg_sizes *, struct exifnorm_jpeg_fault *);
+typedef uint32_t Unread(const unsigned char *, size_t, struct exifnorm_unread_part *, struct exifnorm_jpeg_fault *);
 typedef uint32_t Compare(const unsigned char *, size_t, const unsigned char *, size_t, uint32_t *, struct exifnorm_fault *);
 typedef uint32_t Same(const unsigned char *, size_t, const unsigned char *, size_t, uint32_t *, struct exifnorm_unread_part *, struct exifnorm_picture_fault *);
 
@@ -110,6 +136,8 @@ static Text *right_normalise, *right_show, *right_captions;
 static Compare *right_compare;
 static Parts *right_parts;
 static Resources *right_resources;
+static Blocks *right_blocks;
+static Unread *right_unread;
 static Same *right_same;
 static int wrong;
 static const char *alone;
@@ -121,6 +149,8 @@ Text its_normalise, its_show, its_captions;
 Compare its_compare;
 Parts its_jpeg_parts;
 Resources its_photoshop_resources;
+Blocks its_jpeg_blocks;
+Unread its_jpeg_unread;
 Same its_jpeg_same;
 #define ITS(type, name) its_##name
 #define FIND_RIGHT()
@@ -145,6 +175,8 @@ __attribute__((constructor)) static void open_right(void) {
     right_compare = ITS(Compare, compare);
     right_parts = ITS(Parts, jpeg_parts);
     right_resources = ITS(Resources, photoshop_resources);
+    right_blocks = ITS(Blocks, jpeg_blocks);
+    right_unread = ITS(Unread, jpeg_unread);
     right_same = ITS(Same, jpeg_same);
     while (wrong < COUNT && strcmp(names[wrong], name) != 0)
         wrong++;
@@ -486,6 +518,84 @@ uint32_t exifnorm_photoshop_resources(const unsigned char *bytes, size_t length,
     return status;
 }
 
+/* A mistake in the blocks that were found. */
+static uint32_t changed_blocks(struct exifnorm_jpeg_block *blocks, size_t room, unsigned char *out, size_t out_length, struct exifnorm_jpeg_sizes *sizes) {
+    if (wrong == BLOCK_MISSED && sizes->blocks > 0)
+        memmove(blocks, blocks + 1, --sizes->blocks * sizeof *blocks);
+    for (size_t i = 0; i < sizes->blocks; i++) {
+        if (wrong == BLOCK_OF_OTHER_KIND && blocks[i].kind == EXIFNORM_JPEG_EXTENDED_XMP)
+            blocks[i].kind = EXIFNORM_JPEG_XMP;
+        if (wrong == BLOCK_SHORT && blocks[i].joined && blocks[i].size > 0)
+            blocks[i].size--;
+        if (wrong == BLOCK_IN_PICTURE)
+            blocks[i].joined = 0;
+    }
+    if (wrong == JOINED_TURNED && sizes->joined > 0)
+        out[0] = out[sizes->joined - 1];
+    if (wrong == BLOCKS_BEHIND && sizes->blocks < room)
+        blocks[sizes->blocks].kind = 0;
+    if (wrong == JOINED_BEHIND && sizes->joined < out_length)
+        out[sizes->joined] = 0;
+    return EXIFNORM_DONE;
+}
+
+uint32_t exifnorm_jpeg_blocks(const unsigned char *bytes, size_t length, struct exifnorm_jpeg_block *blocks, size_t room, unsigned char *out, size_t out_length, struct exifnorm_jpeg_sizes *sizes, struct exifnorm_jpeg_fault *fault) {
+    if (is_right("jpeg_blocks"))
+        return right_blocks(bytes, length, blocks, room, out, out_length, sizes, fault);
+    if (wrong == NONE_OF_THEM_ANSWERS)
+        return EXIFNORM_DONE;
+    uint32_t status = right_blocks(bytes, length, blocks, room, out, out_length, sizes, fault);
+    if (status == EXIFNORM_DONE)
+        return changed_blocks(blocks, room, out, out_length, sizes);
+    if (status == EXIFNORM_REFUSED && wrong == BLOCKS_FAULT_BESIDE)
+        fault->place++;
+    if (status == EXIFNORM_REFUSED && wrong == BLOCKS_OF_CUT)
+        return *sizes = (struct exifnorm_jpeg_sizes){0, 0}, EXIFNORM_DONE;
+    if (status == EXIFNORM_TOO_LITTLE_ROOM && wrong == BLOCKS_ROOM_FILLED)
+        memset(blocks, 0, room * sizeof *blocks), memset(out, 0, out_length);
+    if (status == EXIFNORM_TOO_LITTLE_ROOM && wrong == BLOCKS_ROOM_COUNT)
+        *sizes = (struct exifnorm_jpeg_sizes){room, out_length};
+    return status;
+}
+
+uint32_t exifnorm_jpeg_unread(const unsigned char *bytes, size_t length, struct exifnorm_unread_part *unread, struct exifnorm_jpeg_fault *fault) {
+    static const struct exifnorm_unread_part none = {0, 0, 0};
+    if (is_right("jpeg_unread"))
+        return right_unread(bytes, length, unread, fault);
+    if (wrong == NONE_OF_THEM_ANSWERS)
+        return EXIFNORM_DONE;
+    uint32_t status = right_unread(bytes, length, unread, fault);
+    if ((status == EXIFNORM_NO_MEMORY && wrong == UNREAD_IGNORES_NULL) || (status == EXIFNORM_REFUSED && wrong == UNREAD_OF_CUT) ||
+        (status == EXIFNORM_DONE && wrong == UNREAD_NONE))
+        return *unread = none, EXIFNORM_DONE;
+    if (status == EXIFNORM_DONE && wrong == UNREAD_BESIDE)
+        unread->start += unread->found;
+    if (status == EXIFNORM_DONE && wrong == UNREAD_IN_PICTURE)
+        unread->joined = 0;
+    return status;
+}
+
+/* A mistake in the result for two pictures that are the same, or are different, as far as they are read. */
+static uint32_t changed_same(const unsigned char *first, size_t first_length, uint32_t *same, struct exifnorm_unread_part *unread, uint32_t status) {
+    struct exifnorm_unread_part place = {0, 0, 0};
+    struct exifnorm_jpeg_fault none;
+    int is_unread = status == EXIFNORM_NOT_READ || status == EXIFNORM_SECOND_NOT_READ;
+    if (is_unread && (wrong == SAME_THOUGH_UNREAD || wrong == DIFFERENT_SINCE_UNREAD))
+        return *same = wrong == SAME_THOUGH_UNREAD, EXIFNORM_DONE;
+    if (status == EXIFNORM_SECOND_NOT_READ && wrong == SECOND_UNREAD_IS_SAME)
+        return *same = 1, EXIFNORM_DONE;
+    if (is_unread && wrong == UNREAD_PLACE_UNSET)
+        *unread = place;
+    if (is_unread && wrong == UNREAD_SETS)
+        *same = 1;
+    if (status == EXIFNORM_DONE && *same == 1 && wrong == READ_IS_UNREAD)
+        return *unread = place, EXIFNORM_NOT_READ;
+    if (status == EXIFNORM_DONE && *same == 0 && wrong == UNREAD_IF_DIFFERENT && right_unread(first, first_length, &place, &none) == EXIFNORM_DONE &&
+        place.found)
+        return *unread = place, EXIFNORM_NOT_READ;
+    return wrong == SECOND_UNREAD_IS_FIRST && is_unread ? EXIFNORM_NOT_READ : status;
+}
+
 uint32_t exifnorm_jpeg_same(const unsigned char *first, size_t first_length, const unsigned char *second, size_t second_length, uint32_t *same, struct exifnorm_unread_part *unread, struct exifnorm_picture_fault *fault) {
     if (is_right("jpeg_same"))
         return right_same(first, first_length, second, second_length, same, unread, fault);
@@ -501,7 +611,7 @@ uint32_t exifnorm_jpeg_same(const unsigned char *first, size_t first_length, con
     if (status == EXIFNORM_DONE && (wrong == PICTURES_NEVER_SAME || (wrong == PICTURES_SAME_ONE_WAY && first_length > second_length)))
         *same = 0;
     if (status != EXIFNORM_REFUSED && status != EXIFNORM_SECOND_REFUSED)
-        return status;
+        return changed_same(first, first_length, same, unread, status);
     if (wrong == PICTURE_OF_NO_NUMBER)
         fault->number = 0;
     if (wrong == PICTURE_OF_NO_KIND)

@@ -1,0 +1,292 @@
+/* The laws of a picture's blocks, and of the places in it that aren't read (docs/FORMAT.md, section 9), over made heads. A head ends where a page
+ * begins that can't be read, and the arrays end where one begins that can't be written. */
+#include "area.h"
+#include "laws.h"
+#include "made.h"
+#include "memory.h"
+#include <exifnorm.h>
+#include <string.h>
+#include <strings.h>
+
+enum { MOST_BLOCKS = PARTS + 2, MOST_RESOURCES = LONGEST_HEAD / 12, FILLER = 0xA5, UNSET = 0x5EED5EED };
+
+typedef struct exifnorm_jpeg_block Block;
+typedef struct exifnorm_jpeg_part Part;
+typedef struct exifnorm_photoshop_resource Resource;
+typedef struct exifnorm_picture_fault PictureFault;
+typedef struct exifnorm_unread_part Place;
+
+/* What the call for blocks returned, or must return. */
+struct blocks {
+    uint32_t status;
+    struct exifnorm_jpeg_sizes sizes;
+    struct exifnorm_jpeg_fault fault;
+    Block *list;
+    unsigned char *joined;
+};
+
+static const Place NO_PLACE = {0, 0, 0};
+static unsigned char *picture_end, *list_end, *joined_end;
+static struct head head;
+static struct blocks expected;
+
+int open_blocks(void) {
+    static Block list[MOST_BLOCKS];
+    static unsigned char joined[LONGEST_HEAD];
+    expected.list = list;
+    expected.joined = joined;
+    picture_end = end_of_area(LONGEST_HEAD);
+    list_end = end_of_area((MOST_BLOCKS + 1) * sizeof(Block));
+    joined_end = end_of_area(LONGEST_HEAD + 1);
+    return picture_end && list_end && joined_end;
+}
+
+/* ---- what is expected */
+
+/* A piece of a block. The first piece is joined as soon as another one follows. */
+static void expect_piece(const Part *part) {
+    struct exifnorm_jpeg_sizes *sizes = &expected.sizes;
+    if (part->begins) {
+        expected.list[sizes->blocks++] = (Block){part->kind, 0, part->start, part->size};
+        return;
+    }
+    Block *block = &expected.list[sizes->blocks - 1];
+    if (!block->joined) {
+        size_t start = block->start;
+        block->joined = 1;
+        block->start = sizes->joined;
+        put(expected.joined, &sizes->joined, head.bytes + start, block->size);
+    }
+    put(expected.joined, &sizes->joined, head.bytes + part->start, part->size);
+    block->size += part->size;
+}
+
+static void expect_blocks(void) {
+    expected.sizes = (struct exifnorm_jpeg_sizes){0, 0};
+    for (size_t i = 0; i < head.count; i++)
+        if (head.parts[i].kind != EXIFNORM_JPEG_OTHER)
+            expect_piece(&head.parts[i]);
+}
+
+static const unsigned char *bytes_of(const Block *block) {
+    return (block->joined ? expected.joined : head.bytes) + block->start;
+}
+
+/* Whether ExifTool takes the data of APP1 for Exif: the name and a zero, after at most four bytes, and one byte more. */
+static int seems_exif(const unsigned char *bytes, size_t size) {
+    for (size_t at = 0; at <= 4 && at + 6 <= size; at++)
+        if (strncasecmp((const char *)bytes + at, "exif", 5) == 0)
+            return 1;
+    return 0;
+}
+
+static int is_unread_part(const Part *part) {
+    if (part->kind != EXIFNORM_JPEG_OTHER || part->size == 0)
+        return 0;
+    return part->marker == 0xED || (part->marker == 0xE1 && seems_exif(head.bytes + part->start, part->size));
+}
+
+static size_t resources_of(const Block *block, Resource *resources) {
+    size_t count = 0;
+    uint32_t status = exifnorm_photoshop_resources(bytes_of(block), block->size, resources, MOST_RESOURCES, &count);
+    return holds(LAW_RESOURCES, status == EXIFNORM_DONE) ? count : 0;
+}
+
+/* The place in a block of resources that isn't read. */
+static Place unread_in_block(const Block *block) {
+    static Resource resources[MOST_RESOURCES];
+    const unsigned char *bytes = bytes_of(block);
+    size_t at = 0, count = resources_of(block, resources);
+    for (size_t i = 0; i < count; i++) {
+        Resource it = resources[i];
+        int is_doubtful = it.number == 0x0422 || (it.number == 0x0404 && memcmp(bytes + at, "8BIM", 4) != 0);
+        if (is_doubtful && it.size > 0)
+            return (Place){1, block->joined, block->start + it.start};
+        at = it.start + it.size + it.size % 2;
+    }
+    for (size_t i = at; i < block->size; i++)
+        if (bytes[i] != 0)
+            return (Place){1, block->joined, block->start + at};
+    return NO_PLACE;
+}
+
+/* The first place that isn't read: segments before resources. */
+static Place first_place(void) {
+    for (size_t i = 0; i < head.count; i++)
+        if (is_unread_part(&head.parts[i]))
+            return (Place){1, 0, head.parts[i].start};
+    for (size_t i = 0; i < expected.sizes.blocks; i++) {
+        Place place = expected.list[i].kind == EXIFNORM_JPEG_PHOTOSHOP ? unread_in_block(&expected.list[i]) : NO_PLACE;
+        if (place.found)
+            return place;
+    }
+    return NO_PLACE;
+}
+
+/* The fault of one block, by `check`, which tells the kinds apart by the first bytes. The cause is 0 if there is none. */
+static struct exifnorm_fault fault_of(const unsigned char *block, size_t length, int is_record) {
+    struct exifnorm_fault fault = {0, 0};
+    uint32_t kind;
+    if (is_record && (length == 0 || block[0] != 0x1C))
+        return (struct exifnorm_fault){EXIFNORM_CAUSE_NO_MARKER, 0};
+    if (!is_record && length > 0 && (block[0] == 0x1C || block[0] == 'E'))
+        return (struct exifnorm_fault){EXIFNORM_CAUSE_UNKNOWN_KIND, 0};
+    uint32_t status = exifnorm_check(block, length, &kind, &fault);
+    holds(LAW_ANSWERS, status == EXIFNORM_DONE || status == EXIFNORM_REFUSED);
+    return fault;
+}
+
+static PictureFault exif_fault(void) {
+    size_t number = 0;
+    for (size_t i = 0; i < expected.sizes.blocks; i++) {
+        const Block *block = &expected.list[i];
+        if (block->kind != EXIFNORM_JPEG_EXIF)
+            continue;
+        struct exifnorm_fault fault = fault_of(bytes_of(block), block->size, 0);
+        if (fault.cause)
+            return (PictureFault){fault.cause, EXIFNORM_EXIF, number, fault.place};
+        number++;
+    }
+    return (PictureFault){0, 0, 0, 0};
+}
+
+/* That of the IPTC in a block of resources. Counts the blocks of IPTC before it. */
+static PictureFault fault_in_resources(const Block *block, size_t *number) {
+    static Resource resources[MOST_RESOURCES];
+    size_t count = resources_of(block, resources);
+    for (size_t i = 0; i < count; i++) {
+        if (resources[i].number != 0x0404 || resources[i].size == 0)
+            continue;
+        struct exifnorm_fault fault = fault_of(bytes_of(block) + resources[i].start, resources[i].size, 1);
+        if (fault.cause)
+            return (PictureFault){fault.cause, EXIFNORM_IIM, *number, fault.place};
+        ++*number;
+    }
+    return (PictureFault){0, 0, 0, 0};
+}
+
+/* The first fault of the blocks: Exif before IPTC. */
+static PictureFault first_fault(void) {
+    PictureFault fault = exif_fault();
+    size_t number = 0;
+    for (size_t i = 0; i < expected.sizes.blocks && !fault.cause; i++)
+        if (expected.list[i].kind == EXIFNORM_JPEG_PHOTOSHOP)
+            fault = fault_in_resources(&expected.list[i], &number);
+    return fault;
+}
+
+/* ---- calls */
+
+static int is_filled(const void *bytes, size_t length) {
+    for (size_t i = 0; i < length; i++)
+        if (((const unsigned char *)bytes)[i] != FILLER)
+            return 0;
+    return 1;
+}
+
+/* The first bytes of the head. */
+static const unsigned char *picture(size_t length) {
+    return memcpy(picture_end - length, head.bytes, length);
+}
+
+static struct blocks blocks_of(size_t length, size_t room, size_t joined_room) {
+    struct blocks found = {UNSET, {UNSET, UNSET}, {UNSET, UNSET}, (Block *)(void *)list_end - room, joined_end - joined_room};
+    memset(found.list, FILLER, room * sizeof *found.list);
+    memset(found.joined, FILLER, joined_room);
+    found.status = exifnorm_jpeg_blocks(picture(length), length, found.list, room, found.joined, joined_room, &found.sizes, &found.fault);
+    return found;
+}
+
+static int is_block(Block one, Block other) {
+    return one.kind == other.kind && one.joined == other.joined && one.start == other.start && one.size == other.size;
+}
+
+static int are_sizes(struct exifnorm_jpeg_sizes sizes) {
+    return sizes.blocks == expected.sizes.blocks && sizes.joined == expected.sizes.joined;
+}
+
+static int are_blocks(struct blocks found) {
+    if (found.status != EXIFNORM_DONE || found.fault.cause != UNSET || !are_sizes(found.sizes))
+        return 0;
+    for (size_t i = 0; i < found.sizes.blocks; i++)
+        if (!is_block(found.list[i], expected.list[i]))
+            return 0;
+    return memcmp(found.joined, expected.joined, found.sizes.joined) == 0;
+}
+
+static int is_place(Place one, Place other) {
+    return one.found == other.found && one.joined == other.joined && one.start == other.start;
+}
+
+/* ---- laws */
+
+static void judge_places(void) {
+    size_t blocks = expected.sizes.blocks, joined = expected.sizes.joined;
+    struct blocks found = blocks_of(head.length, blocks + 1, joined + 1);
+    holds(LAW_BLOCKS, are_blocks(found) && is_filled(found.list + blocks, sizeof *found.list) && found.joined[joined] == FILLER);
+    if (blocks > 0) {
+        found = blocks_of(head.length, blocks - 1, joined);
+        holds(LAW_BLOCKS_ROOM, found.status == EXIFNORM_TOO_LITTLE_ROOM && are_sizes(found.sizes) &&
+                                   is_filled(found.list, (blocks - 1) * sizeof *found.list) && is_filled(found.joined, joined));
+    }
+    if (joined > 0) {
+        found = blocks_of(head.length, blocks, joined - 1);
+        holds(LAW_BLOCKS_ROOM, found.status == EXIFNORM_TOO_LITTLE_ROOM && are_sizes(found.sizes) &&
+                                   is_filled(found.list, blocks * sizeof *found.list) && is_filled(found.joined, joined - 1));
+    }
+}
+
+/* Each call refuses a head that is cut. */
+static void judge_refusal(size_t length) {
+    Place place = {UNSET, UNSET, UNSET};
+    struct exifnorm_jpeg_fault fault = {UNSET, UNSET};
+    struct blocks found = blocks_of(length, MOST_BLOCKS, LONGEST_HEAD);
+    size_t part = 0;
+    while (head.parts[part].start + head.parts[part].size <= length)
+        part++;
+    uint32_t status = exifnorm_jpeg_unread(picture(length), length, &place, &fault);
+    holds(LAW_BLOCKS_FAULT, found.status == EXIFNORM_REFUSED && found.fault.cause == EXIFNORM_JPEG_HEAD_CUT &&
+                                found.fault.place == head.begin[part]);
+    holds(LAW_BLOCKS_FAULT, status == EXIFNORM_REFUSED && fault.cause == EXIFNORM_JPEG_HEAD_CUT && fault.place == head.begin[part] &&
+                                place.found == UNSET);
+}
+
+static void judge_unread(Place expected_place) {
+    Place place = {UNSET, UNSET, UNSET}, none = place;
+    struct exifnorm_jpeg_fault fault = {UNSET, UNSET};
+    uint32_t status = exifnorm_jpeg_unread(picture(head.length), head.length, &place, &fault);
+    holds(LAW_UNREAD, status == EXIFNORM_DONE && is_place(place, expected_place) && fault.cause == UNSET);
+    size_t live = memory.live;
+    start_counting(1);
+    status = exifnorm_jpeg_unread(picture(head.length), head.length, &none, &fault);
+    stop_counting();
+    holds(LAW_UNREAD_MEMORY, memory.refused ? status == EXIFNORM_NO_MEMORY && none.found == UNSET : is_place(none, place));
+    holds(LAW_FREED, memory.live == live);
+}
+
+/* The picture beside itself: its first fault, or the same, or the place that isn't read. */
+static void judge_same(Place place) {
+    Place found_place = {UNSET, UNSET, UNSET};
+    PictureFault expected_fault = first_fault(), fault = {UNSET, UNSET, UNSET, UNSET};
+    uint32_t same = UNSET;
+    const unsigned char *bytes = picture(head.length);
+    uint32_t status = exifnorm_jpeg_same(bytes, head.length, bytes, head.length, &same, &found_place, &fault);
+    if (expected_fault.cause)
+        holds(LAW_BLOCKS_CHECKED, status == EXIFNORM_REFUSED && fault.cause == expected_fault.cause && fault.kind == expected_fault.kind &&
+                                      fault.number == expected_fault.number && fault.place == expected_fault.place);
+    else if (place.found)
+        holds(LAW_NOT_READ, status == EXIFNORM_NOT_READ && is_place(found_place, place) && same == UNSET && fault.cause == UNSET);
+    else
+        holds(LAW_BLOCKS_CHECKED, status == EXIFNORM_DONE && same == 1 && found_place.found == UNSET && fault.cause == UNSET);
+}
+
+void judge_blocks(const unsigned char *block, size_t length) {
+    struct script script = {block, length, 0};
+    make_head(&script, &head);
+    expect_blocks();
+    Place place = first_place();
+    judge_places();
+    judge_refusal(2 + next(&script) * 32 % (head.length - 2));
+    judge_unread(place);
+    judge_same(place);
+}
