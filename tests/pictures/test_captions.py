@@ -9,30 +9,18 @@ import struct
 import subprocess
 
 import pytest
+from labelled_fields import FIELDS
 from made_blocks import ASCII, BLOCKS, LONG, UNDEFINED, block, entry, table, with_exif
 from made_files import app1, app1_xmp, app13, jpeg, mpf, resource, xmp
 from studio import SMALL_JPEG, needs, tool
 
-from exifnorm_pictures.fields.labels import LABELS
+from exifnorm_pictures.fields.labels import DATE, LABELS
 
-# A text for each label, in each standard, by the names of ExifTool's tags
+# The fields that a label has in each standard; Windows and TIFF have further ones
 TAGS = {
-    "title": ["IPTC:ObjectName", "XMP-dc:Title"],
-    "caption": ["IFD0:ImageDescription", "IPTC:Caption-Abstract", "XMP-dc:Description"],
-    "headline": ["IPTC:Headline", "XMP-photoshop:Headline"],
-    "creator": ["IFD0:Artist", "IPTC:By-line", "XMP-dc:Creator"],
-    "creator's job": ["IPTC:By-lineTitle", "XMP-photoshop:AuthorsPosition"],
-    "credit": ["IPTC:Credit", "XMP-photoshop:Credit"],
-    "source": ["IPTC:Source", "XMP-photoshop:Source"],
-    "copyright": ["IFD0:Copyright", "IPTC:CopyrightNotice", "XMP-dc:Rights"],
-    "keywords": ["IPTC:Keywords", "XMP-dc:Subject"],
-    "job identifier": ["IPTC:OriginalTransmissionReference", "XMP-photoshop:TransmissionReference"],
-    "location": ["IPTC:Sub-location", "XMP-iptcCore:Location"],
-    "city": ["IPTC:City", "XMP-photoshop:City"],
-    "state": ["IPTC:Province-State", "XMP-photoshop:State"],
-    "country": ["IPTC:Country-PrimaryLocationName", "XMP-photoshop:Country"],
-    "instructions": ["IPTC:SpecialInstructions", "XMP-photoshop:Instructions"],
-    "usage terms": ["XMP-xmpRights:UsageTerms"],
+    label.word: [field for field in FIELDS.get(label.word, []) if not field.startswith(("IFD0:XP", "XMP-tiff:"))]
+    for label in LABELS
+    if label.word != DATE
 }
 
 

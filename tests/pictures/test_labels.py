@@ -5,42 +5,19 @@ from pathlib import Path
 
 import pytest
 from exifnorm_pictures.fields.labels import POSITION, PRIVATE, fields_by_label
+from labelled_fields import FIELDS
 from made_files import app1, exif, jpeg
 from studio import TOP, needs, put
 from test_captions import data_set, with_record, with_texts
 
-# By the IPTC Photo Metadata Standard (mapping of IIM and XMP), the guidelines of the Metadata Working Group, and Windows' own tags
-FIELDS = {
-    "creator": ["IFD0:Artist", "IPTC:By-line", "XMP-dc:Creator", "XMP-tiff:Artist", "IFD0:XPAuthor"],
-    "caption": ["IFD0:ImageDescription", "IPTC:Caption-Abstract", "XMP-dc:Description"],
-    "title": ["IPTC:ObjectName", "XMP-dc:Title", "IFD0:XPTitle"],
-    "copyright": ["IFD0:Copyright", "IPTC:CopyrightNotice", "XMP-dc:Rights"],
-    "keywords": ["IPTC:Keywords", "XMP-dc:Subject", "IFD0:XPKeywords"],
-    "credit": ["IPTC:Credit", "XMP-photoshop:Credit"],
-    "headline": ["IPTC:Headline", "XMP-photoshop:Headline"],
-    "creator's job": ["IPTC:By-lineTitle", "XMP-photoshop:AuthorsPosition"],
-    "date created": ["ExifIFD:DateTimeOriginal", "XMP-photoshop:DateCreated"],
-    "source": ["IPTC:Source", "XMP-photoshop:Source"],
-    "job identifier": ["IPTC:OriginalTransmissionReference", "XMP-photoshop:TransmissionReference"],
-    "location": ["IPTC:Sub-location", "XMP-iptcCore:Location"],
-    "city": ["IPTC:City", "XMP-photoshop:City"],
-    "state": ["IPTC:Province-State", "XMP-photoshop:State"],
-    "country": ["IPTC:Country-PrimaryLocationName", "XMP-photoshop:Country"],
-    "instructions": ["IPTC:SpecialInstructions", "XMP-photoshop:Instructions"],
-    "usage terms": ["XMP-xmpRights:UsageTerms"],
-    "comment": ["ExifIFD:UserComment"],
-    "serial": ["ExifIFD:SerialNumber", "ExifIFD:LensSerialNumber", "XMP-aux:SerialNumber", "XMP-exifEX:LensSerialNumber"],
-    "owner": ["ExifIFD:OwnerName", "XMP-aux:OwnerName", "XMP-exifEX:OwnerName"],
-    "position": ["GPS:GPSLatitude", "XMP-exif:GPSLongitude"],
-}
 VALUES = {"date created": "2001:02:03 04:05:06", "position": "12.5"}
 BASE = jpeg(with_texts(artist=b"Anna"), with_record(data_set(15, b"one")))
 
 
 def test_each_label_has_its_row_and_its_documents(checks):
-    """A new label needs its fields in the table above, and a place in the documents that list the labels."""
+    """A new label needs its fields in labelled_fields.py, and a place in the documents that list the labels."""
     for label in fields_by_label():
-        checks.check(label, label in FIELDS, "it has no fields in the table of this module")
+        checks.check(label, label in FIELDS, "it has no fields in labelled_fields.py")
         for page in (
             ("docs/exifnorm-pictures.1",)
             if label in (POSITION, *PRIVATE)

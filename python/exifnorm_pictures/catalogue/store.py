@@ -73,10 +73,9 @@ CREATE INDEX pictures_by_other_exif ON pictures (other_exif) WHERE other_exif !=
 
 PICTURE_COLUMNS, _BUT_ID = PICTURES.listed, PICTURES.listed.partition(", ")[2]
 BLOCK_COLUMNS = BLOCKS.listed
-_WIDTH = len(PICTURES.names)
 # A row that replaces another of the same path takes the other's blocks and parts with it, by ON DELETE CASCADE.
-_PUT_PICTURE = f"INSERT OR REPLACE INTO pictures ({PICTURE_COLUMNS}, run) VALUES (?{', ?' * _WIDTH})"
-_PUT_BLOCK = f"INSERT INTO blocks (picture, number, {BLOCK_COLUMNS}) VALUES (?, ?{', ?' * len(BLOCKS.names)})"
+_PUT_PICTURE = f"INSERT OR REPLACE INTO pictures ({PICTURE_COLUMNS}, run) VALUES (?{', ?' * PICTURES.width})"
+_PUT_BLOCK = f"INSERT INTO blocks (picture, number, {BLOCK_COLUMNS}) VALUES (?, ?{', ?' * BLOCKS.width})"
 _ADD_ROWS = (
     "DELETE FROM main.pictures WHERE path IN (SELECT path FROM {other}.pictures)",
     f"INSERT INTO main.pictures ({PICTURE_COLUMNS}, run) SELECT id + :pictures, {_BUT_ID}, run + :runs FROM {{other}}.pictures",
@@ -558,7 +557,7 @@ def make_rows(base: sqlite3.Connection) -> None:
 def put_rows(base: sqlite3.Connection, run: int, first: int, entries: Iterable[Picture]) -> None:
     """Adds rows for some pictures, which get the numbers from `first` on."""
     numbered = list(enumerate(entries, first))
-    base.executemany(_PUT_PICTURE, [(number, *it[1:_WIDTH], run) for number, it in numbered])
+    base.executemany(_PUT_PICTURE, [(number, *it[1 : PICTURES.width], run) for number, it in numbered])
     base.executemany(_PUT_BLOCK, [(number, at, *block.row()) for number, it in numbered for at, block in enumerate(it.blocks)])
     base.executemany("INSERT INTO maker_notes VALUES (?, ?)", [(number, it.notes) for number, it in numbered if it.notes])
     parts = [(number, at, part.what, part.digest) for number, it in numbered for at, part in enumerate(it.unread)]

@@ -22,7 +22,6 @@ from .coded import SQL, Coded
 
 BEFORE, AFTER = 0, 1  # the two sides
 _BASES, _ALIASES = ("before", "after"), ("old", "new")
-_WIDTH = len(PICTURES.names)
 
 # What is written goes to a temporary database, which is deleted with its connection: all pictures of an archive may have moved.
 _TABLES = """
@@ -176,12 +175,12 @@ class Pairs:
 
     def _pair_of_row(self, row: Tuple[object, ...]) -> Pair:
         name, (place, moved, is_edited) = self._named(BEFORE, row[1]), row[-3:]
-        if row[_WIDTH] is None and not is_edited:
+        if row[PICTURES.width] is None and not is_edited:
             return Pair(name, None, None, None if place is None else self._named(AFTER, place))
-        new = row[_WIDTH : 2 * _WIDTH]
+        new = row[PICTURES.width : 2 * PICTURES.width]
         if is_edited:
             new = self.base.execute(f"SELECT {PICTURE_COLUMNS} FROM after.pictures WHERE id = ?", (moved,)).fetchone()
-        pictures = self._made(BEFORE, picture_of_row, row[:_WIDTH]), self._made(AFTER, picture_of_row, new)
+        pictures = self._made(BEFORE, picture_of_row, row[: PICTURES.width]), self._made(AFTER, picture_of_row, new)
         return Pair(name, *pictures, self._named(AFTER, place) if is_edited else None)
 
     def came(self) -> Iterator[bytes]:

@@ -1,9 +1,9 @@
-"""A record whose fields are the columns of a table: from its one definition the SQL, the names in queries, and the check of rows are made.
+"""A record whose fields are the columns of a table: from its one definition the SQL, the names in queries, and records of rows are made.
 
 A field that is a column is declared as `Annotated[type, "what it is"]`, or with `Is(..)` for more than its type says.
 """
 
-from typing import Any, Dict, Iterable, List, NamedTuple, Tuple, Union, get_args
+from typing import Any, Callable, Dict, Generic, Iterable, List, NamedTuple, Tuple, Type, TypeVar, Union, get_args
 
 
 class Damaged(Exception):
@@ -21,15 +21,22 @@ class Is(NamedTuple):
 _SQL = {int: "INTEGER", str: "TEXT", bytes: "BLOB"}
 
 
-class Columns:
-    """The columns of a record, in order: its fields up to the last one that is declared as a column."""
+Record = TypeVar("Record", bound=Tuple[Any, ...])
 
-    def __init__(self, record: type, first: Iterable[str] = (), last: Iterable[str] = ()) -> None:
+
+class Columns(Generic[Record]):
+    """The columns of a record, in order: its fields up to the last one that is declared as a column. The others have defaults."""
+
+    def __init__(self, record: Type[Record], first: Iterable[str] = (), last: Iterable[str] = ()) -> None:
         """`first` and `last` are further definitions in SQL, each with what it is after `--`."""
         declared: Dict[str, Any] = {name: kind for name, kind in record.__annotations__.items() if hasattr(kind, "__metadata__")}
         columns = [(name, kind.__origin__, _more(*kind.__metadata__)) for name, kind in declared.items()]
         self.names: Tuple[str, ...] = tuple(more.name or name for name, _, more in columns)
         self.types: List[Any] = [get_args(kind) or kind for _, kind, _ in columns]  # those of a row's values
+        self.width = len(columns)
+        named: Any = record  # a NamedTuple, which types can't say
+        self._made: Callable[[Iterable[Any]], Record] = named._make
+        self._others = tuple(named._field_defaults[name] for name in named._fields[self.width :])
         self._lines = [*first, *(_defined(more.name or name, kind, more) for name, kind, more in columns), *last]
 
     @property
@@ -44,9 +51,10 @@ class Columns:
         lines = [f"    {sql + comma:<31} -- {about}" if about else f"    {sql}{comma}" for (sql, _, about), comma in zip(parts, commas)]
         return "\n".join([f"CREATE TABLE {name} (", *lines, f"){end};"])
 
-    def check(self, row: Iterable[object]) -> None:
-        """Raises `Damaged` if a value of a row isn't of the type of its column, or of one of its types."""
+    def record(self, row: Tuple[Any, ...]) -> Record:
+        """The record of a row. Raises `Damaged` if a value isn't of the type of its column, or of one of its types."""
         check(row, self.types)
+        return self._made(row + self._others)
 
 
 def _more(about: Union[str, Is]) -> Is:

@@ -52,7 +52,7 @@ class Block(NamedTuple):
 
     def row(self) -> Tuple[Any, ...]:
         """The block as a row of the catalogue."""
-        return (WORDS[self.kind], *self[1:_BLOCK_WIDTH])
+        return (WORDS[self.kind], *self[1 : BLOCKS.width])
 
     @property
     def is_accepted(self) -> bool:
@@ -335,19 +335,13 @@ BLOCKS = Columns(
     ["picture INTEGER NOT NULL REFERENCES pictures(id) ON DELETE CASCADE", "number INTEGER NOT NULL -- the order in the file"],
     ["PRIMARY KEY (picture, number)"],
 )
-_BLOCK_WIDTH = len(BLOCKS.names)
-_REST = Picture()[len(PICTURES.names) :]  # of a picture, what is in other tables
 
 
-def picture_of_row(row: Tuple[Any, ...]) -> Picture:
-    """A picture of a row of the columns of PICTURES."""
-    PICTURES.check(row)
-    return Picture._make(row + _REST)
+picture_of_row = PICTURES.record
 
 
 def block_of_row(row: Tuple[Any, ...]) -> Block:
     """A block of a row of the columns of BLOCKS."""
-    BLOCKS.check(row)
-    block = Block(kind_of(row[0]), *row[1:])
+    block = BLOCKS.record((kind_of(row[0]), *row[1:]))
     unpacked(block.repair)
     return block
