@@ -59,6 +59,13 @@ def many_values(number, size, step):
     return b"MM\0*\0\0\0\x08" + struct.pack(">H", number) + b"".join(rows) + bytes(4) + bytes(places[-1] + size - start)
 
 
+def many_pointers(number):
+    """A block whose entries all lead to directories, each of as many entries as fit."""
+    start = 8 + 2 + 12 * number + 4
+    rows = (struct.pack(">HHII", 0x8769, 4, 1, start + 2 * it) for it in range(number))
+    return b"MM\0*\0\0\0\x08" + struct.pack(">H", number) + b"".join(rows) + bytes(4) + b" " * 400_000
+
+
 def resources(number):
     return b"8BIM\4\x25\0\0\0\0\0\0" * number
 
@@ -114,6 +121,7 @@ FILES = {
     "shared-values.png": (written(lambda: png(chunk(b"eXIf", many_values(23_000, 5, 0)))), "Overlap"),
     "neighbouring-values.png": (written(lambda: png(chunk(b"eXIf", many_values(23_000, 5, 5)))), "Overlap"),
     "growing-values.png": (written(lambda: png(chunk(b"eXIf", many_values(23_000, 1_000_000, 0)))), "Overlap"),
+    "pointers.png": (written(lambda: png(chunk(b"eXIf", many_pointers(60_000)))), "Doubled"),
     "one-extension.jpg": (written(lambda: extended(100, 3_000_000)), "TooLong"),
     "pages-of-one-packet.tif": (written(lambda: sharing(xmp("<dc:a>" + "x" * 25_000 + "</dc:a>"), 9000, 0x02BC, 1)), ""),
     "pages-of-a-long-packet.tif": (written(lambda: sharing(xmp("<dc:a>" + "<dc:b/>" * 2_000_000 + "</dc:a>"), 15, 0x02BC, 1)), "TooLong"),

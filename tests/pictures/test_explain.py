@@ -220,6 +220,21 @@ class PartsOfBlocks(unittest.TestCase):
             [(f"the table of the {MAIN} (2 entries)", 4), (f"the table of the {GPS} (1 entries)", 10)],
         )
 
+    def test_tables_that_share_bytes(self):
+        """An entry is of the directory that is judged first, as docs/FORMAT.md lists them. A pointer of another type than LONG leads nowhere, as
+        does a table that begins in the header."""
+        rows = [(0x0112, 2, 1, 0), (0x8769, 4, 1, 20), (0x8825, 4, 1, 32), (0xA005, 4, 1, 44)]
+        octets = b"MM\0*\0\0\0\x08" + directory(">", rows)
+        for at in (10, 22, 34, 46):  # each table that the pointers lead to has the rows of the main one
+            self.assertIn(MAIN, layout.Layout(octets).entries[at].label)
+        both = b"MM\0*\0\0\0\x08" + directory(">", [(0x8769, 4, 1, 38), (0x8825, 4, 1, 56)]) + directory(">", [(0xA005, 4, 1, 56)])
+        parts = layout.Layout(both + directory(">", [(0, 1, 4, 0)])).parts
+        self.assertEqual([it.what for it in parts if it.start == 56], ["the table of the Interoperability directory (1 entries)"])
+        text = b"MM\0*\0\0\0\x08" + directory(">", [(0x8769, 2, 12, 8), (0x8825, 7, 1, 8)])
+        self.assertEqual([it[:2] for it in layout.Layout(text).parts], [(0, 8), (8, 38), (8, 20)])
+        inside = layout.Layout(b"MM\0*\0\0\0\2" + directory(">", [(0x8769, 4, 1, 40)] * 50))
+        self.assertEqual((inside.parts[1][:2], len(inside.parts), inside.entries), ((2, 2 + 2 + 12 * 42 + 4), 2, {}))
+
     def test_owners(self):
         """The first part of an entry that shares bytes with an earlier part; neighbours and empty parts share none."""
 

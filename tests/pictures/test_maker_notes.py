@@ -18,6 +18,7 @@ from exifnorm_pictures.extract.extraction import blocks_of
 from exifnorm_pictures.fields.listing import MAKER_NOTE, Field
 from exifnorm_pictures.fields.packing import packed
 from exifnorm_pictures.judge.judge import judge_all
+from exifnorm_pictures.model.found import EXIF, Blocks, FoundBlock
 from made_blocks import ASCII, LONG, SHORT as SHORT_, UNDEFINED, block, entry, table
 from made_files import app1, app1_xmp, exif, jpeg, page, tiff, title
 from studio import needs
@@ -466,6 +467,16 @@ def test_offsets_of_uncovered_bytes():
 
     assert octets(0) == octets(9) == b"9 4 Anna"
     assert octets(0, kodak=True) == b"77 4 Anna" and octets(9, kodak=True) == b"86 4 Anna"
+
+
+@pytest.mark.parametrize("kind, last", [(LONG, 26), (SHORT_, 26 << 16), (8, 26 << 16), (9, 26), (13, 26)])
+def test_uncovered_bytes_by_pointers_of_other_types(kind, last):
+    """A repair reads such a pointer as LONG, and loses nothing. What the MakerNote can reach there is seen, too."""
+    octets = block([entry(0x8769, kind, 1, last)]) + table([entry(0x927C, UNDEFINED, 8, 44)]) + b"the noteAnna"
+    blocks = Blocks([FoundBlock(EXIF, octets, "Exif", "")])
+    (judged,) = judge_all(blocks)
+    assert (judged.note, not any(it.loses for it in judged.steps)) == (44, True)
+    assert [it.what for it in blocks.not_read] == ["4 bytes that only the MakerNote can reach"]
 
 
 # In a TIFF

@@ -21,7 +21,8 @@ from .formats import bigtiff, jpeg, png, tiff, webp
 from .formats.jpeg_segments import EOI, SOI, SOS, read_head
 from .formats.jpeg_tail import Markers
 from .formats.streams import File, Stream, pieces, read_at, size_of
-from .formats.tiff_directories import Directories, Directory, Entry
+from .formats.tiff_directories import Directories, Directory
+from .formats.tiff_entries import BIG, Entry
 
 
 class CodedPicture(NamedTuple):
@@ -74,7 +75,7 @@ def digest(stream: Stream, budget: Budget, beside: "Optional[hashlib.blake2b]" =
     elif head[:4] in tiff.HEADS:
         _tiff(Directories(stream), coded, budget, beside)
     elif head[:4] in bigtiff.HEADS:
-        _tiff(bigtiff.BigDirectories(stream), coded, budget, beside)
+        _tiff(Directories(stream, BIG), coded, budget, beside)
     else:
         return ""
     return coded.hexdigest()

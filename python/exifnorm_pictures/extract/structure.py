@@ -1,15 +1,17 @@
-"""The directories of an Exif block as they are in it, read leniently: of refused blocks too. It judges nothing.
+"""The directories of an Exif block as they are in it, read leniently: what can be read of a refused block too. It judges nothing.
 
 `notes` tells where MakerNotes begin and which bytes of a block no field covers, though a MakerNote or another private pointer may lead there.
 """
 
 from __future__ import annotations
 
-import itertools
 import struct
-from typing import Dict, List, NamedTuple, Optional, Set, Tuple
+from itertools import count
+from typing import Dict, Iterator, List, NamedTuple, Optional, Set, Tuple
 
-SIZE = {1: 1, 2: 1, 3: 2, 4: 4, 5: 8, 6: 1, 7: 1, 8: 2, 9: 4, 10: 8, 11: 4, 12: 8, 13: 4, 129: 1}
+from ..model.budgets import BLOCK_ENTRIES
+from ..model.tiff_types import IFD, LONG, SHORT, SLONG, SSHORT, TIFF
+
 LINKS = {("main", 0x8769): "exif", ("main", 0x8825): "gps", ("exif", 0xA005): "interop"}
 MAKER_NOTE = 0x927C
 PRIVATE = {
@@ -20,6 +22,15 @@ PRIVATE = {
     0xFE00: "Kodak's IFD",
     0xC634: "Adobe's private data",
 }
+HEADER = 8  # bytes of the header
+_LINKS = {"main": {0x8769: "exif", 0x8825: "gps"}, "exif": {0xA005: "interop"}}
+_OFFSETS = frozenset((LONG, SHORT, SSHORT, SLONG, IFD))  # the type of a pointer, and types that are written in its place
+_UNKNOWN = max(TIFF) + 1  # no type from here on is known
+_SIZES = tuple(TIFF[number].size if number in TIFF else 0 for number in range(_UNKNOWN))
+_READ = {order: [struct.Struct(order + form) for form in ("HHII", "H", "I")] for order in "<>"}
+_PICTURES = (0x0201, 0x0202, 0x0111, 0x0117)  # a thumbnail's JPEG, its length, its strips, their lengths
+
+Row = Tuple[int, ...]  # an entry: its tag, type, number of elements, and its last four bytes as a number
 
 
 class Entry(NamedTuple):
@@ -33,77 +44,125 @@ class Entry(NamedTuple):
 
     @property
     def size(self) -> int:
-        return SIZE.get(self.type, 0) * self.elements
+        """The bytes of its value; 0 of a type that is not known."""
+        return _SIZES[self.type] * self.elements if self.type < _UNKNOWN else 0
 
 
-class Directory(NamedTuple):
-    """A directory: its entries that are in the block, and how many it counts."""
+class Directory:
+    """A directory: the rows of its entries that are in the block, and how many it counts."""
 
-    name: str
-    at: int
-    entries: List[Entry]
-    next: int  # the place of the next directory's offset
-    size: int  # the number of entries by its first two bytes
-    named_at: int  # the place of the offset that leads here
+    __slots__ = ("name", "at", "rows", "next", "size", "named_at", "_entries")
+
+    def __init__(self, name: str, at: int, rows: List[Row], next_at: int, size: int, named_at: int) -> None:
+        self.name, self.at, self.rows = name, at, rows
+        self.next = next_at  # the place of the next directory's offset
+        self.size = size  # the number of entries by its first two bytes
+        self.named_at = named_at  # the place of the offset that leads here
+        self._entries: Optional[List[Entry]] = None
+
+    @property
+    def entries(self) -> List[Entry]:
+        """The entries. A refused block can have thousands, and is walked after each step of its repair."""
+        if self._entries is None:
+            new = tuple.__new__
+            self._entries = [new(Entry, (place, *row)) for place, row in zip(count(self.at + 2, 12), self.rows)]
+        return self._entries
 
     @property
     def is_whole(self) -> bool:
-        return len(self.entries) == self.size
+        """Whether all its entries are in the block."""
+        return len(self.rows) == self.size
+
+
+def order_of(block: bytes) -> str:
+    """The byte order of a block, for `struct`."""
+    return "<" if block[:2] == b"II" else ">"
+
+
+def directories(block: bytes) -> Iterator[Directory]:
+    """The directories of a block whose first two bytes are in it, each once, in the order in which the engine judges them.
+
+    One that begins in the header leads nowhere. Those after `BLOCK_ENTRIES` are left out.
+    """
+    order, end, left = order_of(block), len(block), BLOCK_ENTRIES
+    row, two, four = _READ[order]
+    seen: Set[int] = set()
+    waiting = [("main", four.unpack_from(block, 4)[0], 4)] if end >= HEADER else []
+    while waiting and left >= 0:
+        name, at, named_at = waiting.pop()
+        if at in seen or at + 2 > end:
+            continue
+        seen.add(at)
+        (size,) = two.unpack_from(block, at)
+        following = at + 2 + 12 * size
+        rows = list(row.iter_unpack(block[at + 2 : min(following, at + 2 + (end - at - 2) // 12 * 12)]))
+        left -= len(rows)
+        yield Directory(name, at, rows, following, size, named_at)
+        if at >= HEADER:
+            if name == "main" and following + 4 <= end and (thumb := four.unpack_from(block, following)[0]):
+                waiting.append(("thumb", thumb, following))
+            if name in _LINKS:
+                waiting += _linked(block, order, name, at, rows)
+
+
+def _linked(block: bytes, order: str, name: str, at: int, rows: List[Row]) -> Iterator[Tuple[str, int, int]]:
+    """The directories that the entries of one lead to, the last one first: the name of each, its offset, and where this is."""
+    links = _LINKS[name]
+    for number, row in [(number, row) for number, row in enumerate(rows) if row[0] in links][::-1]:
+        if row[2] == 1 and row[1] in _OFFSETS:
+            place = at + 10 + 12 * number
+            yield links[row[0]], one_number(block, order, place, row), place
+
+
+def two_at(block: bytes, order: str, place: int) -> int:
+    """The number of two bytes at a place."""
+    return int.from_bytes(block[place : place + 2], "little" if order == "<" else "big")
+
+
+def one_number(block: bytes, order: str, place: int, row: Row) -> int:
+    """The number of an entry with one, whose last field is at a place."""
+    return two_at(block, order, place) if row[1] in (SHORT, SSHORT) else row[3]
 
 
 class Walk:
-    """The directories of a block."""
+    """The directories of a block that begin after its header, the Interoperability directory last, with a place for each entry."""
 
     def __init__(self, block: bytes) -> None:
         self.block = bytes(block)
-        self.order = "<" if block[:2] == b"II" else ">"
-        self._pair, self._four = struct.Struct(self.order + "HHII"), struct.Struct(self.order + "I")
-        self.directories: List[Directory] = []
-        if len(block) < 8:
-            return
-        seen: Set[int] = set()
-        waiting = [("main", self.four(4), 4)]
-        for name, at, named_at in waiting:  # which grows meanwhile
-            if at in seen or at < 8 or at + 2 > len(block):
-                continue
-            seen.add(at)
-            count = self.two(at)
-            there = min(count, (len(block) - at - 2) // 12)
-            start = at + 2
-            rows = self._pair.iter_unpack(self.block[start : start + 12 * there])
-            new = tuple.__new__  # a refused block can have thousands of entries, and is walked after each step of its repair
-            entries = [new(Entry, (place, *it)) for place, it in zip(itertools.count(start, 12), rows)]
-            following = at + 2 + 12 * count
-            self.directories.append(Directory(name, at, entries, following, count, named_at))
-            for entry in entries:
-                if (name, entry.tag) in LINKS and entry.type in (3, 4, 8, 9, 13) and entry.elements == 1:
-                    waiting.append((LINKS[name, entry.tag], self.number(entry), entry.place + 8))
-            if name == "main" and following + 4 <= len(block):
-                waiting.append(("thumb", self.four(following), following))
+        self.order = order_of(block)
+        found = (directory for directory in directories(self.block) if directory.at >= HEADER)
+        self.directories = sorted(found, key=lambda directory: directory.name == "interop")
+
+    @property
+    def is_whole(self) -> bool:
+        """Whether no directory was left out because the block has more entries than are read."""
+        return sum(len(directory.rows) for directory in self.directories) <= BLOCK_ENTRIES
 
     def two(self, place: int) -> int:
-        return int.from_bytes(self.block[place : place + 2], "little" if self.order == "<" else "big")
+        """The number of two bytes at a place."""
+        return two_at(self.block, self.order, place)
 
     def four(self, place: int) -> int:
-        return int(self._four.unpack_from(self.block, place)[0])
+        """The number of four bytes at a place."""
+        return int(_READ[self.order][2].unpack_from(self.block, place)[0])
 
     def number(self, entry: Entry) -> int:
         """The number of an entry with one, of type SHORT or LONG."""
-        return self.two(entry.place + 8) if entry.type in (3, 8) else entry.last
+        return one_number(self.block, self.order, entry.place + 8, entry[1:])
 
     def value(self, entry: Entry) -> bytes:
         """The bytes of a value, as far as they are in the block."""
         start = entry.last if entry.size > 4 else entry.place + 8
         return self.block[start : start + entry.size]
 
+    def is_outside(self, entry: Entry) -> bool:
+        """Whether a value isn't all in the block."""
+        return entry.size > 4 and entry.last + entry.size > len(self.block)
+
     def pictures(self) -> List[bytes]:
         """The thumbnail's JPEG and its strips, as far as they are in the block."""
-        by = {one.tag: one for it in self.directories if it.name == "thumb" for one in it.entries}
-        pairs = [[self._numbers(by[tag]) for tag in pair if tag in by] for pair in ((0x0201, 0x0202), (0x0111, 0x0117))]
-        return [self.block[start : start + size] for pair in pairs if len(pair) == 2 for start, size in zip(*pair)]
-
-    def _numbers(self, entry: Entry) -> List[int]:
-        return _numbers(self.block, self.order, entry.place + 8, entry.type, entry.size, entry.last)
+        thumbs = (directory for directory in self.directories if directory.name == "thumb")
+        return [self.block[start:end] for directory in thumbs for start, end in _pictures(self.block, self.order, directory)]
 
 
 class Notes(NamedTuple):
@@ -148,47 +207,45 @@ def counted(number: int, by: str) -> str:
 
 
 def notes(block: bytes) -> Notes:
-    """What a block has besides its fields. Bytes of 0 are filling. As `Walk` reads it, but without an object for each entry."""
-    order = "<" if block[:2] == b"II" else ">"
-    unpack, four, two = (
-        struct.Struct(order + "HHII").iter_unpack,
-        struct.Struct(order + "I").unpack_from,
-        struct.Struct(order + "H").unpack_from,
-    )
-    end, place, leads = len(block), None, {}  # type: int, Optional[int], Dict[str, None]
-    covered = [(0, 8)]
-    seen: Set[int] = set()
-    waiting = [("main", four(block, 4)[0])] if end >= 8 else []
-    for name, at in waiting:  # which grows meanwhile
-        if at in seen or at < 8 or at + 2 > end:
+    """What a block has besides its fields. Bytes of 0 are filling."""
+    place, leads = None, {}  # type: Optional[int], Dict[str, None]
+    covered = [(0, HEADER)]
+    for directory in directories(block):
+        if directory.at < HEADER:
             continue
-        seen.add(at)
-        count = two(block, at)[0]
-        following = at + 2 + 12 * count
-        covered.append((at, following + 4))
-        links, thumb = _LINKS.get(name, {}), name == "thumb"
-        pairs: Dict[int, List[int]] = {}
-        stop = min(following, at + 2 + (end - at - 2) // 12 * 12)
-        for number, (tag, kind, elements, last) in enumerate(unpack(block[at + 2 : stop])):
-            size = _SIZE[kind] * elements if kind < 130 else 0
-            if tag in links:
-                if elements == 1 and kind in (4, 9, 13):
-                    waiting.append((links[tag], last))
-            elif size > 4:
+        covered.append((directory.at, directory.next + 4))
+        links = _LINKS.get(directory.name, {})
+        for tag, kind, elements, last in directory.rows:
+            size = _SIZES[kind] * elements if kind < _UNKNOWN else 0
+            if size > 4 and tag not in links:
                 covered.append((last, last + size))
             if tag in PRIVATE:
                 leads[PRIVATE[tag]] = None
-                if tag == MAKER_NOTE and name == "exif" and size > 4:
+                if tag == MAKER_NOTE and directory.name == "exif" and size > 4:
                     place = last
-            if thumb and tag in _PICTURES:
-                pairs[tag] = _numbers(block, order, at + 10 + 12 * number, kind, size, last)
-        for offsets, lengths in ((0x0201, 0x0202), (0x0111, 0x0117)) if pairs else ():
-            covered += [(start, start + size) for start, size in zip(pairs.get(offsets, ()), pairs.get(lengths, ()))]
-        if name == "main" and following + 4 <= end:
-            waiting.append(("thumb", four(block, following)[0]))
+        if directory.name == "thumb":
+            covered += _pictures(block, order_of(block), directory)
     if not leads:
         return Notes(None, [], ())
     return Notes(place, gaps(block, covered), tuple(leads))
+
+
+def _pictures(block: bytes, order: str, thumb: Directory) -> List[Tuple[int, int]]:
+    """Where the JPEG and the strips of a thumbnail's directory are."""
+    numbers: Dict[int, List[int]] = {}
+    for number, (tag, kind, elements, last) in enumerate(thumb.rows):
+        if tag in _PICTURES:
+            size = _SIZES[kind] * elements if kind < _UNKNOWN else 0
+            numbers[tag] = _numbers(block, order, kind, size, last if size > 4 else thumb.at + 10 + 12 * number)
+    pairs = zip(_PICTURES[::2], _PICTURES[1::2])
+    return [(start, start + size) for one, other in pairs for start, size in zip(numbers.get(one, ()), numbers.get(other, ()))]
+
+
+def _numbers(block: bytes, order: str, kind: int, size: int, start: int) -> List[int]:
+    """The values of an entry of type SHORT or LONG, which begin at `start`."""
+    code = TIFF[kind].code if kind in (SHORT, LONG) else ""
+    data = block[start : start + size]
+    return [number for number, in struct.iter_unpack(order + code, data)] if code and len(data) == size else []
 
 
 def gaps(block: bytes, covered: List[Tuple[int, int]]) -> List[Gap]:
@@ -205,19 +262,6 @@ def gaps(block: bytes, covered: List[Tuple[int, int]]) -> List[Gap]:
         if after > reached:
             reached = after
     return between
-
-
-_SIZE = tuple(SIZE.get(it, 0) for it in range(130))
-_PICTURES = (0x0111, 0x0117, 0x0201, 0x0202)
-_LINKS = {"main": {0x8769: "exif", 0x8825: "gps"}, "exif": {0xA005: "interop"}}
-
-
-def _numbers(block: bytes, order: str, place: int, kind: int, size: int, last: int) -> List[int]:
-    """The values of an entry of type SHORT or LONG."""
-    code = {3: "H", 4: "I"}.get(kind)
-    start = last if size > 4 else place
-    data = block[start : start + size]
-    return [number for number, in struct.iter_unpack(order + code, data)] if code and len(data) == size else []
 
 
 def may_have_notes(block: bytes) -> bool:

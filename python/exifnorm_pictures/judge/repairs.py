@@ -12,9 +12,10 @@ from typing import Callable, Dict, List, NamedTuple, Optional, Tuple, Union
 
 import exifnorm
 
-from ..extract.structure import LINKS, MAKER_NOTE, SIZE, Directory, Entry, Walk
+from ..extract.structure import LINKS, MAKER_NOTE, Directory, Entry, Walk
 from ..model.budgets import Budget
 from ..model.steps import Step
+from ..model.tiff_types import EXIF, IFD
 
 MOST = 100  # steps
 SHORT = 65_536  # bytes by which any block may grow
@@ -74,7 +75,8 @@ def _next(cause: str, original: bytes, now: bytes, budget: Budget) -> _Done:
     if not cause:
         return _changed_value(original, now, Walk(now), budget)
     step = _STEPS.get(cause)
-    return step(now, Walk(now)) if step else None
+    walk = Walk(now) if step else None
+    return step(now, walk) if step and walk and walk.is_whole else None
 
 
 def _changed_value(original: bytes, now: bytes, walk: Walk, budget: Budget) -> _Done:
@@ -287,7 +289,7 @@ def _doubled(block: bytes, walk: Walk) -> _Done:
 
 
 def _unknown_type(block: bytes, walk: Walk) -> _Done:
-    wrong = [(it, one) for it in walk.directories for one in it.entries if one.type == 13 or one.type not in SIZE]
+    wrong = [(it, one) for it in walk.directories for one in it.entries if one.type not in EXIF]
     if not wrong:
         return None
     if len(wrong) > MOST:  # one is left out in a step; a directory of such entries can't be one
@@ -299,7 +301,7 @@ def _unknown_type(block: bytes, walk: Walk) -> _Done:
             else None
         )
     directory, entry = wrong[0]
-    if entry.type == 13:
+    if entry.type == IFD:
         return _with_type(block, walk, entry), "type 13 (IFD) read as LONG", ""
     return (
         _without(block, walk, directory, entry.place),
@@ -345,7 +347,7 @@ def _misplaced(block: bytes, walk: Walk) -> _Done:
 
 
 def _value_outside(block: bytes, walk: Walk) -> _Done:
-    outside = [(it, one) for it in walk.directories for one in it.entries if one.size > 4 and one.last + one.size > len(block)]
+    outside = [(it, one) for it in walk.directories for one in it.entries if walk.is_outside(one)]
     if not outside or len(outside) > MOST:  # one is left out in a step
         return None
     directory, entry = outside[0]

@@ -61,6 +61,7 @@ PACKET_BYTES = 16 << 20  # of one packet, as of one block
 NESTED = 100  # elements of a packet in one another
 LANGUAGE = 100  # characters of a language of XMP, which each of its texts repeats; RFC 5646, 4.4.1 asks for 35
 CACHED = 1000  # characters of a text that a cache keeps: it counts its texts, and a stranger's can have millions each
+BLOCK_ENTRIES = 5 * 65_535  # of five directories of a block, as it may have; in a refused one each entry may name a further one; need 150
 FIELDS = 100_000  # of a block that are kept to be shown; the block is compared by its digest in any case; need 150
 SHOWN_FIELDS = 50_000  # of a picture that show prints, all its blocks together: as JSON each takes 2.4 kB of memory; need 400
 SHOWN_CHARACTERS = 8 << 20  # of their values, plain and exact

@@ -5,27 +5,13 @@ It judges nothing: the cause and the byte offset of a refusal are the engine's.
 
 from __future__ import annotations
 
-import struct
 from dataclasses import dataclass
-from typing import Dict, List, NamedTuple, Optional, Set, Tuple
+from typing import Dict, List, NamedTuple, Optional, Tuple
 
+from ..extract.structure import HEADER, Directory, directories, order_of, two_at
 from ..fields.names import DIRECTORIES, name_of
+from ..model.tiff_types import EXIF, SHORT
 
-TYPES = {
-    1: ("BYTE", 1),
-    2: ("ASCII", 1),
-    3: ("SHORT", 2),
-    4: ("LONG", 4),
-    5: ("RATIONAL", 8),
-    6: ("SBYTE", 1),
-    7: ("UNDEFINED", 1),
-    8: ("SSHORT", 2),
-    9: ("SLONG", 4),
-    10: ("SRATIONAL", 8),
-    11: ("FLOAT", 4),
-    12: ("DOUBLE", 8),
-    129: ("UTF-8", 1),
-}
 PREFIX = b"Exif\0\0"
 
 
@@ -52,16 +38,19 @@ class EntryAt:
 
     @property
     def label(self) -> str:
+        """Its name and its tag, and the directory."""
         return f"{name_of(self.where, f'{self.tag:04x}')} ({self.tag:04x}) of the {DIRECTORIES[self.where]}"
 
     @property
     def form(self) -> str:
-        word = TYPES[self.type][0] if self.type in TYPES else f"unknown type {self.type}"
+        """Its type and its count."""
+        word = EXIF[self.type].name if self.type in EXIF else f"unknown type {self.type}"
         return f"{word}, count {self.count}"
 
     @property
     def size(self) -> int:
-        return TYPES.get(self.type, ("", 0))[1] * self.count
+        """The bytes of its value; 0 of a type that the engine doesn't know."""
+        return EXIF[self.type].size * self.count if self.type in EXIF else 0
 
 
 class Layout:
@@ -69,12 +58,11 @@ class Layout:
 
     def __init__(self, block: bytes) -> None:
         self.block = block[6:] if block.startswith(PREFIX) else block
-        self.order = "<" if self.block[:2] == b"II" else ">"
-        self.parts: List[Part] = [Part(0, 8, "the header", 0)]
+        self.order = order_of(self.block)
+        self.parts: List[Part] = [Part(0, HEADER, "the header", 0)]
         self.entries: Dict[int, EntryAt] = {}
-        self._read: Set[int] = set()
-        if len(self.block) >= 8:
-            self._walk()
+        for directory in directories(self.block):
+            self._add(directory)
 
     def number(self, place: int, size: int) -> Optional[int]:
         """The number of two or four bytes at an offset, or None outside the block."""
@@ -82,48 +70,25 @@ class Layout:
             return None
         return int.from_bytes(self.block[place : place + size], "little" if self.order == "<" else "big")
 
-    def _walk(self) -> None:
-        main = self._directory("main", self.number(4, 4) or 0, 4)
-        exif = self._followed(main, 0x8769, "exif")
-        self._followed(exif, 0xA005, "interop")
-        self._followed(main, 0x8825, "gps")
-        following = self._following(self.number(4, 4) or 0)
-        if following is not None and (offset := self.number(following, 4)):
-            thumb = self._directory("thumb", offset, following)
-            start, length = thumb.get(0x0201), thumb.get(0x0202)
-            if start and length:
-                self.parts.append(Part(start.last, start.last + length.last, "the thumbnail JPEG", start.place))
-
-    def _followed(self, entries: Dict[int, EntryAt], tag: int, where: str) -> Dict[int, EntryAt]:
-        pointer = entries.get(tag)
-        return self._directory(where, pointer.last, pointer.place) if pointer else {}
-
-    def _following(self, directory: int) -> Optional[int]:
-        """The offset of the next directory's offset."""
-        count = self.number(directory, 2)
-        return None if count is None else directory + 2 + 12 * count
-
-    def _directory(self, where: str, offset: int, named_at: int) -> Dict[int, EntryAt]:
-        count = self.number(offset, 2)
-        if count is None or offset in self._read:
-            return {}
-        self._read.add(offset)
-        words = f"the table of the {DIRECTORIES[where]} ({count} entries)"
-        self.parts.append(Part(offset, offset + 2 + 12 * count + 4, words, named_at))
-        entries: Dict[int, EntryAt] = {}
-        for index in range(min(count, (len(self.block) - offset - 2) // 12)):
-            entry = self._entry(where, index, offset + 2 + 12 * index)
-            entries.setdefault(entry.tag, entry)
+    def _add(self, directory: Directory) -> None:
+        words = f"the table of the {DIRECTORIES[directory.name]} ({directory.size} entries)"
+        named_at = directory.named_at if directory.name in ("main", "thumb") else directory.named_at - 8  # the entry that has the offset
+        self.parts.append(Part(directory.at, directory.next + 4, words, named_at))
+        if directory.at < HEADER:
+            return
+        by_tag: Dict[int, EntryAt] = {}
+        for number, (tag, kind, elements, last) in enumerate(directory.rows, 1):
+            place = directory.at - 10 + 12 * number
+            if (kind, elements) == (SHORT, 1):
+                last = two_at(self.block, self.order, place + 8)
+            entry = EntryAt(directory.name, number, tag, kind, elements, last, place)
+            self.entries.setdefault(place, entry)  # of tables that share bytes the first one is judged
+            by_tag.setdefault(entry.tag, entry)
             if entry.size > 4:
-                self.parts.append(Part(entry.last, entry.last + entry.size, f"the value of {entry.label}", entry.place))
-        return entries
-
-    def _entry(self, where: str, index: int, place: int) -> EntryAt:
-        tag, kind, count = struct.unpack_from(self.order + "HHI", self.block, place)
-        last = self.number(place + 8, 2 if kind == 3 and count == 1 else 4) or 0
-        entry = EntryAt(where, index + 1, tag, kind, count, last, place)
-        self.entries[place] = entry
-        return entry
+                self.parts.append(Part(last, last + entry.size, f"the value of {entry.label}", place))
+        start, length = by_tag.get(0x0201), by_tag.get(0x0202)
+        if directory.name == "thumb" and start and length:
+            self.parts.append(Part(start.last, start.last + length.last, "the thumbnail JPEG", start.place))
 
     def owners(self, place: int) -> Optional[Tuple[Part, Part]]:
         """The part that the entry at an offset claims and that shares bytes with an earlier one, and that one."""

@@ -12,10 +12,12 @@ from exifnorm import LIMIT
 
 from ...model.budgets import Budget
 from ...model.found import Broken
+from ...model.tiff_types import HEADS, LONG
 from ..structure import gaps
 from .canon import EXIF, GPS, MAIN, MAKER_NOTE
 from .tiff_block import NOWHERE, Layout, Table, is_pointer
-from .tiff_directories import HEADS, LONG, Directories, Directory, Entry
+from .tiff_directories import Directories, Directory
+from .tiff_entries import IN_ENTRY, Entry
 
 _TAGS = {EXIF: 0x8769, GPS: 0x8825}
 _NOTE, _INTEROPERABILITY, _UNDEFINED = 0x927C, 0xA005, 7
@@ -68,13 +70,13 @@ class _Joined(Directories):
         tables = {kind: self._table(kind) for kind in (MAIN, EXIF, GPS) if kind in self._ranges}
         if MAKER_NOTE in self._ranges:
             start, end = self._ranges[MAKER_NOTE]
-            if EXIF not in tables or end - start <= 4:
+            if EXIF not in tables or end - start <= IN_ENTRY:
                 raise _NotOne
-            _insert(tables[EXIF].entries, Entry(_NOTE, _UNDEFINED, end - start, self._packed(start)))
+            _insert(tables[EXIF].entries, Entry(_NOTE, _UNDEFINED, end - start, self._packed(start), end - start))
         main = tables.pop(MAIN)
         for kind, table in tables.items():
             if table.entries:
-                _insert(main.entries, Entry(_TAGS[kind], LONG, 1, bytes(4)))
+                _insert(main.entries, Entry(_TAGS[kind], LONG, 1, bytes(4), 4))
                 main.below[_TAGS[kind]] = table
         layout = Layout(self, main)
         if layout.length > LIMIT:
@@ -98,7 +100,7 @@ class _Joined(Directories):
         directory: Directory = self.read(start + offset)
         if directory.following or directory.at + 6 + 12 * len(directory.entries) > end:
             raise _NotOne
-        return [it if it.size <= 4 else it._replace(last=self._moved(it, start, end)) for it in directory.entries]
+        return [it if it.size <= IN_ENTRY else it._replace(last=self._moved(it, start, end)) for it in directory.entries]
 
     def _moved(self, entry: Entry, start: int, end: int) -> bytes:
         place = start + self.number(entry.last)
@@ -115,7 +117,7 @@ def _laid_out(note: bytes, budget: Budget) -> bytes:
         first = directories.read(directories.first)
     except Broken:
         return note
-    places = [directories.place_of(it) for it in first.entries if it.size > 4]
+    places = [directories.place_of(it) for it in first.entries if it.size > IN_ENTRY]
     reached = [it for it in places if it is not None]
     rest = [octets for _, octets in gaps(note, [(0, 8), (first.at, first.at + 6 + 12 * len(first.entries)), *reached])]
     if note[:4] not in HEADS or first.following or len(reached) < len(places) or rest not in _NOTHING:

@@ -6,9 +6,12 @@ import struct
 from typing import List, NamedTuple
 
 from ...model.found import Broken
+from ...model.tiff_types import HEADS
+from ..structure import directories, order_of
 
 HEAD = b"MPF\0"
 _MP_ENTRIES = 0xB002
+_ENTRY = "4xII4x"  # of `struct`: its length and its offset
 _ENTRY_LENGTH = 16
 
 
@@ -24,17 +27,13 @@ def further_pictures(data: bytes, base: int) -> List[Place]:
 
     The first entry, whose offset is 0, is the picture that the index is in. Raises `Broken`.
     """
-    if data[:4] not in (b"II*\0", b"MM\0*"):
+    if data[:4] not in HEADS:
         raise Broken("the MPF index has no header")
-    order = "<" if data[:2] == b"II" else ">"
-    try:
-        at = struct.unpack_from(order + "I", data, 4)[0]
-        count = struct.unpack_from(order + "H", data, at)[0]
-        entries = [struct.unpack_from(order + "HHII", data, at + 2 + 12 * it) for it in range(count)]
-        entry = next((it for it in entries if it[0] == _MP_ENTRIES), None)
-        if entry is None or entry[2] % _ENTRY_LENGTH or entry[3] + entry[2] > len(data):
-            raise Broken("the MPF index has no list of pictures")
-        rows = [struct.unpack_from(order + "III", data, entry[3] + it) for it in range(0, entry[2], _ENTRY_LENGTH)]
-    except struct.error:
-        raise Broken("the MPF index is cut") from None
-    return [Place(base + offset, length) for _, length, offset in rows if offset]
+    index = next(directories(data), None)
+    if index is None or not index.is_whole:
+        raise Broken("the MPF index is cut")
+    place = next(((last, last + elements) for tag, _, elements, last in index.rows if tag == _MP_ENTRIES), None)
+    if place is None or (place[1] - place[0]) % _ENTRY_LENGTH or place[1] > len(data):
+        raise Broken("the MPF index has no list of pictures")
+    entries = struct.iter_unpack(order_of(data) + _ENTRY, data[slice(*place)])
+    return [Place(base + offset, length) for length, offset in entries if offset]

@@ -13,10 +13,12 @@ from exifnorm import LIMIT
 
 from ...model.budgets import DIRECTORIES
 from ...model.found import EXIF, Blocks, Broken, NotRead
+from ...model.tiff_types import HEADS, IFD, LONG
 from .embedded import add_jpeg
 from .streams import digest_of_rest, read_at
 from .tiff_block import Layout, Table, is_pointer
-from .tiff_directories import HEADS, IFD, LONG, Directories, Directory, Entry
+from .tiff_directories import Directories, Directory
+from .tiff_entries import IN_ENTRY, Entry
 from .window import Window
 
 RW2_HEAD = b"IIU\0"
@@ -73,7 +75,7 @@ class Private:
 
     def _place_of(self, entry: Entry) -> Optional[Tuple[int, int]]:
         """The range of a value of bytes that is a file by itself."""
-        return self.directories.place_of(entry) if entry.size > 4 and entry.type in _BYTES else None
+        return self.directories.place_of(entry) if entry.size > IN_ENTRY and entry.type in _BYTES else None
 
     def _compare(self, entry: Entry, what: str) -> bool:
         """A value that is compared by its bytes. Returns whether there is one."""
@@ -122,8 +124,8 @@ class Private:
 
     def _value(self, entry: Entry) -> bytes:
         """The bytes of a value, and those of an entry that has a type that isn't known. Raises `Broken`."""
-        place = self.directories.place_of(entry) if entry.size > 4 else None
-        if entry.size > 4 and place is None:
+        place = self.directories.place_of(entry) if entry.size > IN_ENTRY else None
+        if entry.size > IN_ENTRY and place is None:
             raise Broken(f"the value of tag {entry.tag:04x} isn't in the file")
         if place:
             self._reaches(place[1], place[0])
@@ -153,7 +155,7 @@ class Private:
 
 def _parts(directories: Directories, directory: Directory) -> List[Tuple[int, int]]:
     """The parts of a file that a directory with its header and its values takes."""
-    places = [directories.place_of(entry) for entry in directory.entries if entry.size > 4]
+    places = [directories.place_of(entry) for entry in directory.entries if entry.size > IN_ENTRY]
     return [(0, 8), (directory.at, directory.end), *(place for place in places if place)]
 
 

@@ -10,11 +10,12 @@ from typing import Tuple
 
 from ...model.budgets import budget_of
 from ...model.found import Blocks, Broken, NotRead, length_of
+from ...model.tiff_types import HEADS
 from .embedded import add_jpeg
 from .private import add_directory
 from .streams import Stream, digest_of_rest, read_at, size_of
 from .tiff_block import is_pointer
-from .tiff_directories import HEADS, Directories
+from .tiff_directories import Directories
 from .window import Window
 
 START = b"FUJIFILMCCD-RAW "

@@ -15,36 +15,25 @@ from exifnorm import LIMIT
 
 from ...model.budgets import DIRECTORIES, STRIPS
 from ...model.found import EXIF, IPTC, XMP, Blocks, Broken, NotRead, length_of
+from ...model.tiff_types import HEADS, IFD, LONG
 from ..structure import counted, placed
 from . import photoshop
 from .private import RW2_HEAD, Private
 from .streams import Stream, digest_of_rest, pieces
 from .tiff_block import Layout, Table, is_directory
-from .tiff_directories import HEADS, IFD, LONG, Directories, Directory, Entry
+from .tiff_directories import Directories, Directory
+from .tiff_entries import IN_ENTRY, PIXELS, SUB_IFDS, Entry
 
-__all__ = ["BIG", "HEADS", "PIXELS", "RAW_HEADS", "read", "read_pages"]
+__all__ = ["BIG", "HEADS", "RAW_HEADS", "read", "read_pages"]
 
 _ORF_HEADS = (b"IIRO", b"IIRS", b"MMOR")
 RAW_HEADS = (*_ORF_HEADS, RW2_HEAD)
 BIG = "BigTIFF"
 DEEPEST = 10  # SubIFDs below one another
 
-PIXELS: Dict[int, str] = {
-    0x0111: "StripOffsets",
-    0x0117: "StripByteCounts",
-    0x0120: "FreeOffsets",
-    0x0121: "FreeByteCounts",
-    0x0144: "TileOffsets",
-    0x0145: "TileByteCounts",
-    0x0201: "JPEGInterchangeFormat",
-    0x0202: "JPEGInterchangeFormatLength",
-    0x0207: "JPEGQTables",
-    0x0208: "JPEGDCTables",
-    0x0209: "JPEGACTables",
-}
 _FREE = (0x0120, 0x0121)  # which Panasonic uses for other things
 _PAIRS = ((0x0111, 0x0117), (0x0144, 0x0145), (0x0201, 0x0202))
-_SUB_IFDS, _XMP, _IPTC, _PHOTOSHOP, _LAYERS = 0x014A, 0x02BC, 0x83BB, 0x8649, 0x935C
+_XMP, _IPTC, _PHOTOSHOP, _LAYERS = 0x02BC, 0x83BB, 0x8649, 0x935C
 _Pointers = Dict[int, "_Pointers"]
 _POINTERS: _Pointers = {0x8769: {0xA005: {}}, 0x8825: {}}  # Exif with Interoperability, GPS
 _OTHER_POINTERS = {
@@ -98,7 +87,7 @@ class Reader:
         self.directories = directories
         directories.stream.seek(0)
         self.blocks = Blocks(type=_type_of(directories.stream.read(10)), budget=directories.budget)
-        length = 16 if self.blocks.type in ("CR2", BIG) else 8  # of the header
+        length = 16 if self.blocks.type == "CR2" else directories.variant.header
         self._covered: List[Tuple[int, int]] = [(0, length)]  # all these parts
         self._has_note = False
         self._notes: Set[int] = set()  # where the MakerNotes begin whose places are compared
@@ -130,7 +119,7 @@ class Reader:
                 waiting.appendleft((directory.following, name, number + 1))
 
     def _named(self, directory: Directory, part: str) -> List[_Place]:
-        entries = [entry for entry in directory.entries if entry.tag == _SUB_IFDS]
+        entries = [entry for entry in directory.entries if entry.tag == SUB_IFDS]
         if entries and part.count("SubIFD") >= DEEPEST:
             raise Broken(f"more than {DEEPEST} SubIFDs below one another")
         if entries:  # they count when they are named, since a list of them may be long, and when they are read
@@ -144,7 +133,7 @@ class Reader:
             self.blocks.type = "DNG"
         self._reaches(directory.end, at)
         for entry in directory.entries:
-            place = self.directories.place_of(entry) if entry.size > 4 else None
+            place = self.directories.place_of(entry) if entry.size > IN_ENTRY else None
             if place:
                 self._reaches(place[1], place[0])
         self._pixels_reach(directory)
@@ -175,11 +164,11 @@ class Reader:
         for entry in page.directory.entries:
             if entry.tag in self._private.tags and self._private.takes(entry, page.part or "page 1"):
                 continue
-            if (entry.tag in self._pixels or entry.tag == _SUB_IFDS) and not self._is_whole(entry):
+            if (entry.tag in self._pixels or entry.tag == SUB_IFDS) and not self.directories.is_list(entry):
                 raise Broken(f"the list of tag {entry.tag:04x} of {page.part or 'page 1'} isn't whole")
             if entry.tag in self._pixels:
                 left_out.add(self._pixels[entry.tag])
-            elif entry.tag == _SUB_IFDS:
+            elif entry.tag == SUB_IFDS:
                 left_out.add("SubIFDs")
             elif not self._is_block(entry, page.part):
                 kept.append(entry)
@@ -195,10 +184,6 @@ class Reader:
         where += ", with pointers of type IFD as LONG" if layout.has_ifd else ""
         self.blocks.add(EXIF, layout.block(), where, page.part, note=layout.note)
 
-    def _is_whole(self, entry: Entry) -> bool:
-        """Whether an entry that is left out is a list of numbers that the file contains."""
-        return entry.type in (3, LONG, IFD) and (entry.size <= 4 or self.directories.place_of(entry) is not None)
-
     def _is_block(self, entry: Entry, part: str) -> bool:
         """Adds the block of an entry, if it has one. Returns whether the entry is taken out of its directory."""
         of = part or "page 1"
@@ -212,7 +197,7 @@ class Reader:
             self.blocks.add(IPTC, data, where, part)
         elif entry.tag == _PHOTOSHOP and data:
             photoshop.add_resources(self.blocks, [(where, data)], part)
-        elif entry.tag == _LAYERS and entry.size > 4 and (place := self.directories.place_of(entry)):
+        elif entry.tag == _LAYERS and entry.size > IN_ENTRY and (place := self.directories.place_of(entry)):
             self.blocks.not_read.append(NotRead(f"Photoshop's layers of {of}", digest_of_rest(self.directories.stream, *place) or ""))
         else:
             if entry.tag in _OTHER_POINTERS and entry.type in (LONG, IFD):
@@ -226,10 +211,10 @@ class Reader:
             if entry.tag in pointers and is_directory(entry) and entry.tag not in below:
                 directory = self.directories.read(self.directories.number(entry.last))
                 self._reaches(directory.end, directory.at)
-                self._has_note = self._has_note or any(one.tag == _MAKER_NOTE and one.size > 4 for one in directory.entries)
+                self._has_note = self._has_note or any(one.tag == _MAKER_NOTE and one.size > IN_ENTRY for one in directory.entries)
                 below[entry.tag] = self._table(directory.entries, pointers[entry.tag])
         for entry in entries:
-            place = self.directories.place_of(entry) if entry.size > 4 else None
+            place = self.directories.place_of(entry) if entry.size > IN_ENTRY else None
             if place:
                 self._reaches(place[1], place[0])
         return Table(entries, below)

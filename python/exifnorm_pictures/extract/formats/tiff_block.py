@@ -10,7 +10,9 @@ import struct
 from bisect import bisect_right
 from typing import Dict, List, NamedTuple, Optional, Tuple
 
-from .tiff_directories import IFD, LONG, Directories, Entry
+from ...model.tiff_types import IFD, LONG
+from .tiff_directories import Directories
+from .tiff_entries import IN_ENTRY, Entry
 
 NOWHERE = 0xFFFFFFFF
 _EXIF, _MAKER_NOTE = 0x8769, 0x927C
@@ -47,7 +49,12 @@ class Layout:
         for table in self._tables:  # which grows meanwhile
             self._tables += table.below.values()
         self._parts = _joined(
-            [place for it in self._tables for entry in it.entries if entry.size > 4 and (place := directories.place_of(entry)) is not None]
+            [
+                place
+                for it in self._tables
+                for entry in it.entries
+                if entry.size > IN_ENTRY and (place := directories.place_of(entry)) is not None
+            ]
         )
         self._places: Dict[int, int] = {}
         self.length = 8
@@ -81,14 +88,14 @@ class Layout:
     def note(self) -> Optional[int]:
         """Where the MakerNote begins in the file, since its offsets may count from the file's header. None: none, or in its entry."""
         exif = self._tables[0].below.get(_EXIF)
-        notes = [self._directories.place_of(it) for it in exif.entries if it.tag == _MAKER_NOTE and it.size > 4] if exif else []
+        notes = [self._directories.place_of(it) for it in exif.entries if it.tag == _MAKER_NOTE and it.size > IN_ENTRY] if exif else []
         return notes[-1][0] if notes and notes[-1] else None
 
     def _last_field(self, table: Table, entry: Entry) -> bytes:
         if entry.tag in table.below:
             offset = self._places[id(table.below[entry.tag])]
-        elif entry.size <= 4:
-            return entry.last[:4]
+        elif entry.size <= IN_ENTRY:
+            return entry.last[:IN_ENTRY]
         else:
             place = self._directories.place_of(entry)
             offset = self._moved(place[0]) if place else NOWHERE

@@ -1,35 +1,20 @@
-"""The directories of a TIFF file as they are in it (TIFF 6.0, section 2; TIFF Technical Note 1 for SubIFDs).
+"""The directories of a TIFF or BigTIFF file as they are in it, read strictly: one that isn't all in the file, or shares bytes with another,
+ends the reading (TIFF 6.0, section 2; TIFF Technical Note 1 for SubIFDs).
 
-A directory is read once. No two directories share bytes; values may, as the engine refuses that by itself.
+A directory is read once. Values may share bytes, as the engine refuses that by itself.
 """
 
 from __future__ import annotations
 
 import struct
 from bisect import bisect_left
+from itertools import count
 from typing import Dict, List, NamedTuple, Optional, Tuple
 
 from ...model.budgets import DIRECTORIES, ENTRIES, VALUE_BYTES, budget_of
 from ...model.found import Broken
 from .streams import Stream, read_at, size_of
-
-HEADS = (b"II*\0", b"MM\0*")
-SIZES = {1: 1, 2: 1, 3: 2, 4: 4, 5: 8, 6: 1, 7: 1, 8: 2, 9: 4, 10: 8, 11: 4, 12: 8, 13: 4, 129: 1}
-LONG, IFD = 4, 13
-
-
-class Entry(NamedTuple):
-    """An entry: its last four bytes are its value, or the offset of its value."""
-
-    tag: int
-    type: int
-    elements: int
-    last: bytes
-
-    @property
-    def size(self) -> int:
-        """The bytes of the value; 0 for a type that is not known."""
-        return SIZES.get(self.type, 0) * self.elements
+from .tiff_entries import BIG, CLASSIC, IN_ENTRY, Entry, Variant, narrowed
 
 
 class Directory(NamedTuple):
@@ -44,16 +29,21 @@ class Directory(NamedTuple):
 class Directories:
     """The directories of one file."""
 
-    def __init__(self, stream: Stream) -> None:
-        self.stream = stream
+    def __init__(self, stream: Stream, variant: Variant = CLASSIC) -> None:
+        """Reads the header. Raises `Broken`."""
+        self.stream, self.variant = stream, variant
         self.size = size_of(stream)
-        head = read_at(stream, 0, 8)
+        head = read_at(stream, 0, variant.header)
         self.order = "<" if head[:2] == b"II" else ">"
-        self.first = self.number(head[4:])
+        if variant is BIG and (self.number(head[4:6]) != variant.offset or any(head[6:8])):
+            raise Broken("its offsets have another size")
+        self.first = self.number(head[-variant.offset :])
+        self._row = struct.Struct(self.order + variant.row)
         self._starts: List[int] = [0]  # of the header and of the directories that were read
-        self._ends: Dict[int, int] = {0: 8}
+        self._ends: Dict[int, int] = {0: variant.header}
         self.budget = budget_of(stream)
         self._values: List[Tuple[int, int]] = []
+        self._in_entries: Dict[int, int] = {}  # where values begin and end that are in an entry here, and not in one of a block
         self._shared: Dict[Tuple[int, int], bytes] = {}
 
     def number(self, data: bytes) -> int:
@@ -62,14 +52,21 @@ class Directories:
 
     def read(self, at: int) -> Directory:
         """The directory at an offset. Raises `Broken`."""
-        count = self.number(read_at(self.stream, at, 2))
-        table = read_at(self.stream, at + 2, 12 * count + 4)
-        end = at + 2 + 12 * count + 4
+        start = at + self.variant.number
+        if self.variant is BIG and start > self.size:  # it may be beyond all that a system can seek
+            raise Broken(f"the directory at {at} is outside the file")
+        number = self.number(read_at(self.stream, at, self.variant.number))
+        length = self._row.size * number
+        end = start + length + self.variant.offset
+        if end > self.size:
+            raise Broken(
+                f"the file ends inside {f'the directory at {at}' if self.variant is BIG else f'the {end - start} bytes at {start}'}"
+            )
         self._claim(at, end)
         self.budget.spend(DIRECTORIES)
-        self.budget.spend(ENTRIES, count)
-        entries = [Entry(*it) for it in struct.iter_unpack(self.order + "HHI4s", table[: 12 * count])]
-        return Directory(at, entries, self.number(table[12 * count :]), end)
+        self.budget.spend(ENTRIES, number)  # before a table is read that may be as long as the file
+        table = read_at(self.stream, start, end - start)
+        return Directory(at, self._entries(table[:length], start), self.number(table[length:]), end)
 
     def _claim(self, start: int, end: int) -> None:
         place = bisect_left(self._starts, start)
@@ -80,21 +77,35 @@ class Directories:
         self._starts.insert(place, start)
         self._ends[start] = end
 
+    def _entries(self, table: bytes, start: int) -> List[Entry]:
+        """The entries of a table, which is at `start` in the file. Raises `Broken`."""
+        rows = self._row.iter_unpack(table)
+        if self.variant is CLASSIC:
+            sizes = self.variant.sizes
+            return [Entry(tag, kind, elements, last, sizes.get(kind, 0) * elements) for tag, kind, elements, last in rows]
+        entries = []
+        for place, row in zip(count(start + self._row.size - self.variant.offset, self._row.size), rows):
+            entry = narrowed(self.order, place, *row)
+            if IN_ENTRY < entry.size <= self.variant.offset:
+                self._in_entries[place] = place + entry.size
+            entries.append(entry)
+        return entries
+
     def place_of(self, entry: Entry) -> Optional[Tuple[int, int]]:
-        """The range of a value that is not in the entry itself; None if the file doesn't contain all of it."""
+        """The range of a value of more than `IN_ENTRY` bytes; None if the file doesn't contain all of it."""
         start = self.number(entry.last)
-        return (start, start + entry.size) if 8 <= start and start + entry.size <= self.size else None
+        return (start, start + entry.size) if self.variant.header <= start and start + entry.size <= self.size else None
 
     def value(self, entry: Entry) -> bytes:
         """The value of an entry; no bytes if the file doesn't contain all of it. Raises `Broken`."""
-        if entry.size <= 4:
+        if entry.size <= IN_ENTRY:
             return entry.last[: entry.size]
         place = self.place_of(entry)
         return self.part(*place) if place else b""
 
     def shared(self, entry: Entry) -> bytes:
         """The same, of an entry whose value is a block by itself: pages that share it have it once in memory."""
-        place = self.place_of(entry) if entry.size > 4 else None
+        place = self.place_of(entry) if entry.size > IN_ENTRY else None
         if place is None:
             return self.value(entry)
         if place not in self._shared:
@@ -103,8 +114,9 @@ class Directories:
 
     def part(self, start: int, end: int) -> bytes:
         """The bytes of a part of the file with values. Raises `Broken`."""
-        self.budget.spend(VALUE_BYTES, end - start)
-        self._values.append((start, end))
+        if self._in_entries.get(start, -1) < end:
+            self.budget.spend(VALUE_BYTES, end - start)
+            self._values.append((start, end))
         return read_at(self.stream, start, end - start)
 
     def check(self) -> None:
@@ -114,8 +126,12 @@ class Directories:
             if self._ends[self._starts[place]] > start:
                 raise Broken(f"the value at {start} shares bytes with a directory")
 
+    def is_list(self, entry: Entry) -> bool:
+        """Whether an entry is a list of offsets or lengths that is all in the file."""
+        return entry.type in self.variant.codes and (entry.size <= IN_ENTRY or self.place_of(entry) is not None)
+
     def numbers(self, entry: Entry) -> List[int]:
-        """The values of an entry of type SHORT, LONG or IFD; none for other types. Raises `Broken`."""
-        code = {3: "H", LONG: "I", IFD: "I"}.get(entry.type)
-        data = self.value(entry)
+        """The values of an entry with a type of offsets; none for other types. Raises `Broken`."""
+        code = self.variant.codes.get(entry.type)
+        data = self.value(entry) if code else b""
         return [number for number, in struct.iter_unpack(self.order + code, data)] if code and len(data) == entry.size else []

@@ -1,0 +1,40 @@
+"""The types of the values of TIFF, by their numbers (TIFF 6.0, section 2; TIFF Technical Note 1; LibTIFF, "BigTIFF Design"; Exif 3.0).
+
+The package exifnorm, which is installed without this one too, has a table of its own: of the types of normal forms, by the names in them.
+"""
+
+from __future__ import annotations
+
+from typing import Dict
+
+HEADS = (b"II*\0", b"MM\0*")  # how a file begins that isn't a BigTIFF, and a block
+SHORT, LONG, SSHORT, SLONG, IFD = 3, 4, 8, 9, 13
+LONG8, SLONG8, IFD8 = 16, 17, 18
+
+
+class Type:
+    """A type: its name, the bytes of an element, and the code of `struct` for a number of it; none of those that no structure has."""
+
+    __slots__ = ("name", "size", "code")
+
+    def __init__(self, name: str, size: int, code: str = "") -> None:
+        self.name, self.size, self.code = name, size, code
+
+
+EXIF: Dict[int, Type] = {  # those of a block
+    1: Type("BYTE", 1),
+    2: Type("ASCII", 1),
+    SHORT: Type("SHORT", 2, "H"),
+    LONG: Type("LONG", 4, "I"),
+    5: Type("RATIONAL", 8),
+    6: Type("SBYTE", 1),
+    7: Type("UNDEFINED", 1),
+    SSHORT: Type("SSHORT", 2),
+    SLONG: Type("SLONG", 4, "i"),
+    10: Type("SRATIONAL", 8),
+    11: Type("FLOAT", 4),
+    12: Type("DOUBLE", 8),
+    129: Type("UTF-8", 1),
+}
+TIFF = {**EXIF, IFD: Type("IFD", 4, "I")}
+BIG_TIFF = {**TIFF, LONG8: Type("LONG8", 8, "Q"), SLONG8: Type("SLONG8", 8, "q"), IFD8: Type("IFD8", 8, "Q")}
