@@ -1,4 +1,4 @@
-/* Calls the library at the edges of what exifnorm.h allows: empty blocks and outputs, outputs below and above 64 MB, names into an
+/* Calls the library at the edges of what exifnorm.h allows: empty blocks and outputs, also with NULL, outputs below and above 64 MB, names into an
  * output of each length, and each status of each call. Each printed line is a failure, except the last one, which counts the checks.
  */
 #define _DEFAULT_SOURCE
@@ -33,6 +33,12 @@ enum { CAPTION = sizeof caption - 1 };
 static const char *const caption_texts[] = {"\034\002\170\0\004Vase", "iim\n2:120 4: 56617365\n", "iim\ncharset: not declared\ncaption: Vase\n"};
 static const size_t caption_lengths[] = {9, 22, 40};
 
+/* A caption in Photoshop's resources, and a picture in which they are in two pieces. */
+static const unsigned char resources[] = "8BIM\4\4\0\0\0\0\0\011\034\2\170\0\4Vase";
+static const unsigned char picture[] = "\xff\xd8\xff\xed\0\024Photoshop 3.0\0" "8BIM\xff\xed\0\041Photoshop 3.0\0"
+                                       "\4\4\0\0\0\0\0\011\034\2\170\0\4Vase\xff\xd9";
+enum { RESOURCES = sizeof resources - 1, PICTURE = sizeof picture - 1 };
+
 /* Memory whose pages are allocated when they are first touched. */
 static unsigned char *room_of(size_t size) {
     unsigned char *got = mmap(NULL, size, PROT_READ | PROT_WRITE, MAP_PRIVATE | MAP_ANONYMOUS | MAP_NORESERVE, -1, 0);
@@ -52,31 +58,80 @@ static int is_fault(struct exifnorm_fault fault, uint32_t cause, uint32_t place)
 
 /* ---- no bytes */
 
-static void try_no_bytes(void) {
-    unsigned char one = 0x1C, out = FILLER;
+/* A block of no bytes, which has any pointer, and an output of none. */
+static void try_no_bytes(const unsigned char *none, unsigned char *out) {
     struct exifnorm_fault fault = {UNSET, UNSET};
     uint32_t number = UNSET;
     size_t written = UNSET;
-    REQUIRE(exifnorm_check(&one, 0, &number, &fault) == EXIFNORM_REFUSED);
+    REQUIRE(exifnorm_check(none, 0, &number, &fault) == EXIFNORM_REFUSED);
     REQUIRE(is_fault(fault, EXIFNORM_CAUSE_UNKNOWN_KIND, 0));
     for (int i = 0; i < 3; i++) {
         fault.cause = UNSET;
-        REQUIRE(texts[i](&one, 0, &out, 0, &written, &fault) == EXIFNORM_REFUSED);
+        REQUIRE(texts[i](none, 0, out, 0, &written, &fault) == EXIFNORM_REFUSED);
         REQUIRE(is_fault(fault, EXIFNORM_CAUSE_UNKNOWN_KIND, 0));
         fault.cause = UNSET;
-        REQUIRE(texts[i](caption, CAPTION, &out, 0, &written, &fault) == EXIFNORM_TOO_LITTLE_ROOM);
+        REQUIRE(texts[i](caption, CAPTION, out, 0, &written, &fault) == EXIFNORM_TOO_LITTLE_ROOM);
         REQUIRE(written == caption_lengths[i]);
         REQUIRE(fault.cause == UNSET);
-        REQUIRE(out == FILLER);
         written = UNSET;
     }
-    REQUIRE(exifnorm_compare(&one, 0, caption, CAPTION, &number, &fault) == EXIFNORM_REFUSED);
+    REQUIRE(exifnorm_compare(none, 0, caption, CAPTION, &number, &fault) == EXIFNORM_REFUSED);
     REQUIRE(number == UNSET);
-    REQUIRE(exifnorm_compare(caption, CAPTION, &one, 0, &number, &fault) == EXIFNORM_SECOND_REFUSED);
+    REQUIRE(exifnorm_compare(caption, CAPTION, none, 0, &number, &fault) == EXIFNORM_SECOND_REFUSED);
     REQUIRE(number == UNSET);
     REQUIRE(is_fault(fault, EXIFNORM_CAUSE_UNKNOWN_KIND, 0));
-    REQUIRE(exifnorm_compare(&one, 0, &one, 0, &number, &fault) == EXIFNORM_REFUSED);
+    REQUIRE(exifnorm_compare(none, 0, none, 0, &number, &fault) == EXIFNORM_REFUSED);
     REQUIRE(number == UNSET);
+    REQUIRE(exifnorm_cause_name(EXIFNORM_CAUSE_LOOP, (char *)out, 0, &written) == EXIFNORM_TOO_LITTLE_ROOM);
+    REQUIRE(written == sizeof "Loop");
+    REQUIRE(exifnorm_version((char *)out, 0, &written) == EXIFNORM_TOO_LITTLE_ROOM);
+    REQUIRE(written == sizeof EXIFNORM_VERSION);
+}
+
+/* A picture of no bytes. */
+static void try_no_picture(const unsigned char *none) {
+    struct exifnorm_jpeg_fault fault = {UNSET, UNSET};
+    struct exifnorm_picture_fault of_picture = {UNSET, UNSET, UNSET, UNSET};
+    struct exifnorm_unread_part unread = {UNSET, UNSET, UNSET};
+    uint32_t same = UNSET;
+    REQUIRE(exifnorm_jpeg_unread(none, 0, &unread, &fault) == EXIFNORM_REFUSED);
+    REQUIRE(fault.cause == EXIFNORM_JPEG_NO_START && fault.place == 0);
+    REQUIRE(exifnorm_jpeg_same(none, 0, picture, PICTURE, &same, &unread, &of_picture) == EXIFNORM_REFUSED);
+    REQUIRE(of_picture.cause == EXIFNORM_JPEG_NO_START && of_picture.place == 0);
+    REQUIRE(exifnorm_jpeg_same(picture, PICTURE, none, 0, &same, &unread, &of_picture) == EXIFNORM_SECOND_REFUSED);
+    REQUIRE(same == UNSET && unread.found == UNSET);
+}
+
+/* Arrays of no elements, for the parts, the blocks and the resources of a picture with two pieces of one block, and of no bytes. */
+static void try_no_room(const unsigned char *none, void *room) {
+    struct exifnorm_jpeg_fault fault = {UNSET, UNSET};
+    struct exifnorm_jpeg_sizes sizes = {UNSET, UNSET};
+    size_t count = UNSET;
+    REQUIRE(exifnorm_jpeg_parts(picture, PICTURE, room, 0, &count, &fault) == EXIFNORM_TOO_LITTLE_ROOM);
+    REQUIRE(count == 3 && fault.cause == UNSET);
+    REQUIRE(exifnorm_jpeg_parts(none, 0, room, 0, &count, &fault) == EXIFNORM_REFUSED);
+    REQUIRE(count == 0 && fault.cause == EXIFNORM_JPEG_NO_START);
+    REQUIRE(exifnorm_jpeg_blocks(picture, PICTURE, room, 0, room, 0, &sizes, &fault) == EXIFNORM_TOO_LITTLE_ROOM);
+    REQUIRE(sizes.blocks == 1 && sizes.joined == RESOURCES);
+    REQUIRE(exifnorm_jpeg_blocks((const unsigned char *)"\xff\xd8\xff\xd9", 4, room, 0, room, 0, &sizes, &fault) == EXIFNORM_DONE);
+    REQUIRE(sizes.blocks == 0 && sizes.joined == 0);
+    REQUIRE(exifnorm_jpeg_blocks(none, 0, room, 0, room, 0, &sizes, &fault) == EXIFNORM_REFUSED);
+    REQUIRE(exifnorm_photoshop_resources(resources, RESOURCES, room, 0, &count) == EXIFNORM_TOO_LITTLE_ROOM);
+    REQUIRE(count == 1);
+    REQUIRE(exifnorm_photoshop_resources(none, 0, room, 0, &count) == EXIFNORM_DONE);
+    REQUIRE(count == 0);
+}
+
+/* With pointers to bytes that may not be read or written, and with NULL. */
+static void try_none(void) {
+    unsigned char *page = mmap(NULL, PAGE, PROT_NONE, MAP_PRIVATE | MAP_ANONYMOUS, -1, 0);
+    unsigned char *pointers[] = {page == MAP_FAILED ? NULL : page, NULL};
+    for (int i = 0; i < 2; i++) {
+        try_no_bytes(pointers[i], pointers[1 - i]);
+        try_no_bytes(pointers[i], pointers[i]);
+        try_no_picture(pointers[i]);
+        try_no_room(pointers[i], pointers[i]);
+    }
 }
 
 /* ---- outputs below and above 64 MB */
@@ -204,7 +259,7 @@ int main(int count, char **words) {
     unsigned char *out = room_of(MOST_ROOM);
     if (count < 3 || !out)
         return 2;
-    try_no_bytes();
+    try_none();
     for (size_t i = 0; i < sizeof rooms / sizeof *rooms; i++)
         try_room(out, rooms[i]);
     try_largest(out);

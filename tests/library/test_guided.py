@@ -13,10 +13,12 @@ from crates import Crates
 from fuzz import write_files
 from fuzz_target import KINDS, NotBuilt
 
-from commands import run
+from commands import run, text_of
 from compiling import HEADERS, HERE, need
+from judged import NAMES
 
 KEPT = HERE / "fuzz" / "corpus.zip"
+VERSION = re.search(r'VERSION: &str = "(.*)";', text_of("crates", "px_engine", "src", "version.rt"))[1]
 RUNS, SEED = 1_500_000, 1  # about a minute of a processor
 CALLS = (
     "check",
@@ -169,6 +171,26 @@ def test_a_sanitizer_watches_the_library(targets, folder, kind, error, lie):
     run("clang", "-O1", f"-fsanitize={kind}", "-I", HEADERS, "-o", program, HERE / "fuzz" / "lies.c", targets.library(kind), "-lpthread")
     ran = fuzz(program, folder, lie)
     assert (ran.returncode != 0, error in ran.stderr) == (lie == kind, lie == kind), ran.stderr[-2000:]
+
+
+# ---- NULL
+
+
+def test_an_export_gives_another_address_than_null_to_a_slice(folder):
+    """The logic has no slice at NULL, so the contracts are about that other one. A slice is an address and a length."""
+    module, kit = fuzz_target.kept_module()
+    text = fuzz_target.module_text(module, kit / "toolchain" / "bin" / "clang", folder).read_text(encoding="utf-8")
+    exports = re.findall(r"^define [^\n]*@(exifnorm_\w+)\(([^)]*)\)(.*?)^}", text, re.M | re.S)
+    assert {name.removeprefix("exifnorm_") for name, _, _ in exports} >= {*CALLS}
+    for name, parameters, body in exports:
+        slices = re.findall(r"\bptr [^,]*%(\w+), i64\b", parameters)
+        assert slices and re.findall(r" = icmp eq ptr %(\w+), null$", body, re.M) == slices, name
+
+
+def test_no_bytes_and_no_room_under_sanitizers(targets, folder):
+    edges = folder / "edges"
+    run("clang", "-g", "-O1", "-fsanitize=address,undefined", "-I", HEADERS, "-o", edges, HERE / "edges.c", targets.library("address"))
+    assert re.fullmatch(r"[1-9]\d* checks\n", run(edges, VERSION, *NAMES))
 
 
 # ---- which library it is

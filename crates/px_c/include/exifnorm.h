@@ -16,9 +16,10 @@
  *
  * For every call:
  *
- *   Pointers   No pointer may be NULL, even if a length is 0. Each must point to as many bytes, or elements, as its length argument
- *              gives. What a call writes to (out, written, kind, same, unread, fault, parts, resources, blocks, sizes, count) must not overlap any other
- *              argument. The two blocks or pictures of a comparison may overlap or be the same, since they are only read.
+ *   Pointers   Each must point to as many bytes, or elements, as its length argument gives. One with the length 0 may be NULL, and no
+ *              other may. What a call writes to (out, written, kind, same, unread, fault, parts, resources, blocks, sizes, count)
+ *              must not overlap any other argument. The two blocks or pictures of a comparison may overlap or be the same, since they
+ *              are only read.
  *   Ownership  The caller keeps ownership of all arguments. A call keeps no pointer after it returns, and frees what it allocated.
  *   Threads    Calls share nothing and keep no state. Any number of threads may call at once, and may read the same block, if each
  *              has its own output arguments. Nobody may write to a block while a call reads it.
