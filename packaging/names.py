@@ -16,7 +16,7 @@ TOP = Path(__file__).resolve().parent.parent
 HEADER = TOP / "crates" / "px_c" / "include" / "exifnorm_names.h"
 sys.path.insert(0, str(TOP / "python"))
 
-from exifnorm._causes import WORDS  # noqa: E402
+from exifnorm._causes import CAUSE_WORDS  # noqa: E402
 from exifnorm._jpeg import CAUSES as JPEG_CAUSES  # noqa: E402
 from exifnorm_pictures.fields.names import TABLES  # noqa: E402
 from exifnorm_pictures.fields.plain_names import group_of, plain_name  # noqa: E402
@@ -187,7 +187,7 @@ def causes(source: str) -> List[Tuple[str, str]]:
     """The constant and the sentence of each cause that exifnorm.h lists."""
     listed = re.findall(r"EXIFNORM_(CAUSE_\w+|JPEG_\w+) = (\d+)", source)
     names = ((constant, JPEG_CAUSES.get(int(number), name_of_cause(constant))) for constant, number in listed)
-    return [(constant, WORDS[name][0]) for constant, name in names if name in WORDS]
+    return [(constant, CAUSE_WORDS[name][0]) for constant, name in names if name in CAUSE_WORDS]
 
 
 def name_of_cause(constant: str) -> str:

@@ -110,4 +110,4 @@ OF_HEADS: Dict[str, Tuple[str, str]] = {
 }
 """The causes of a JPEG's refusal, of which a part before the first scan is damaged or missing."""
 
-WORDS = {**OF_BLOCKS, **OF_HEADS}
+CAUSE_WORDS = {**OF_BLOCKS, **OF_HEADS}

@@ -54,9 +54,9 @@ class Refused(ValueError):
         return _JPEG[1] if self._is_jpeg else self._words()[1]
 
     def _words(self) -> Tuple[str, str]:
-        from ._causes import WORDS  # which only a refusal needs
+        from ._causes import CAUSE_WORDS  # which only a refusal needs
 
-        return WORDS.get(self.cause, (f"The block is refused: {self.cause}.", ""))
+        return CAUSE_WORDS.get(self.cause, (f"The block is refused: {self.cause}.", ""))
 
     def __str__(self) -> str:
         where = f"{self.cause} at {self.place}"

@@ -9,9 +9,9 @@ from ._calls import Block
 from ._errors import HeadRefused, PictureRefused, TooMany
 from ._library import PART, PLACE, RESOURCE, PictureFailure, Status, library
 
-KINDS = ("", "exif", "photoshop", "xmp", "extended xmp")  # of parts, by the library's numbers
+PART_KINDS = ("", "exif", "photoshop", "xmp", "extended xmp")  # of parts, by the library's numbers
 BLOCK_KINDS = ("", "exif", "iim")  # the same of blocks
-Row = Tuple[int, int, int, int, int]
+PartRow = Tuple[int, int, int, int, int]
 _IPTC = 0x0404  # the number of the resource
 CAUSES: Dict[int, str] = {101: "JpegNoStart", 102: "JpegNoMarker", 103: "JpegLength", 104: "JpegCut", 105: "JpegTooLong"}
 
@@ -69,7 +69,9 @@ def _limit(octets: bytes, most: Optional[int]) -> int:
 
 def _parts(rows: bytes) -> List[JpegPart]:
     new = tuple.__new__
-    return [new(JpegPart, (marker, KINDS[kind], begins == 1, start, size)) for marker, kind, begins, start, size in PART.iter_unpack(rows)]
+    return [
+        new(JpegPart, (marker, PART_KINDS[kind], begins == 1, start, size)) for marker, kind, begins, start, size in PART.iter_unpack(rows)
+    ]
 
 
 def _raise(failure: Tuple[int, int, int, bytes], most: int) -> NoReturn:
@@ -105,7 +107,7 @@ def _rows_of_parts(octets: bytes, most: int) -> bytes:
     return rows
 
 
-def part_rows(octets: bytes, most: int) -> List[Row]:
+def part_rows(octets: bytes, most: int) -> List[PartRow]:
     """The parts as the library has them, with the numbers of their kinds, where the time for objects matters.
 
     >>> part_rows(bytes.fromhex("ffd8 ffe1000c 457869660000 4d4d002a ffd9"), 2)
@@ -200,7 +202,7 @@ def _whole_blocks(octets: bytes) -> Iterator[Tuple[str, bytes]]:
         raise AssertionError(f"libexifnorm answered the status {answer[0]}")
     rows, joined = answer
     for kind, is_joined, start, size in PLACE.iter_unpack(rows):
-        yield KINDS[kind], (joined if is_joined else octets)[start : start + size]
+        yield PART_KINDS[kind], (joined if is_joined else octets)[start : start + size]
 
 
 def _raise_for_pair(failure: PictureFailure) -> NoReturn:

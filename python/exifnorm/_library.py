@@ -97,7 +97,7 @@ class PictureFault(ctypes.Structure):
     _fields_ = [("cause", ctypes.c_uint32), ("kind", ctypes.c_uint32), ("number", ctypes.c_size_t), ("place", ctypes.c_size_t)]
 
 
-class Part(ctypes.Structure):
+class PartStruct(ctypes.Structure):
     """A part of a JPEG's head."""
 
     _fields_ = [
@@ -109,7 +109,7 @@ class Part(ctypes.Structure):
     ]
 
 
-class Place(ctypes.Structure):
+class PlaceStruct(ctypes.Structure):
     """Where a block of a JPEG is."""
 
     _fields_ = [("kind", ctypes.c_uint32), ("joined", ctypes.c_uint32), ("start", ctypes.c_size_t), ("size", ctypes.c_size_t)]
@@ -121,13 +121,13 @@ class Sizes(ctypes.Structure):
     _fields_ = [("blocks", ctypes.c_size_t), ("joined", ctypes.c_size_t)]
 
 
-class Unread(ctypes.Structure):
+class UnreadStruct(ctypes.Structure):
     """A place in a JPEG that isn't read, if there is one."""
 
     _fields_ = [("found", ctypes.c_uint32), ("joined", ctypes.c_uint32), ("start", ctypes.c_size_t)]
 
 
-class Resource(ctypes.Structure):
+class ResourceStruct(ctypes.Structure):
     """One of Photoshop's image resources."""
 
     _fields_ = [("number", ctypes.c_size_t), ("start", ctypes.c_size_t), ("size", ctypes.c_size_t)]
@@ -149,19 +149,19 @@ ARGUMENTS = {
     "exifnorm_compare": [*_BLOCK, *_BLOCK, _NUMBER, _FAULT],
     "exifnorm_show": [*_BLOCK, *_OUT, _FAULT],
     "exifnorm_captions": [*_BLOCK, *_OUT, _FAULT],
-    "exifnorm_jpeg_parts": [*_BLOCK, ctypes.POINTER(Part), *_ROOM, _JPEG_FAULT],
-    "exifnorm_photoshop_resources": [*_BLOCK, ctypes.POINTER(Resource), *_ROOM],
-    "exifnorm_jpeg_same": [*_BLOCK, *_BLOCK, _NUMBER, ctypes.POINTER(Unread), _PICTURE_FAULT],
+    "exifnorm_jpeg_parts": [*_BLOCK, ctypes.POINTER(PartStruct), *_ROOM, _JPEG_FAULT],
+    "exifnorm_photoshop_resources": [*_BLOCK, ctypes.POINTER(ResourceStruct), *_ROOM],
+    "exifnorm_jpeg_same": [*_BLOCK, *_BLOCK, _NUMBER, ctypes.POINTER(UnreadStruct), _PICTURE_FAULT],
     "exifnorm_jpeg_blocks": [
         *_BLOCK,
-        ctypes.POINTER(Place),
+        ctypes.POINTER(PlaceStruct),
         ctypes.c_size_t,
         ctypes.POINTER(ctypes.c_char),
         ctypes.c_size_t,
         ctypes.POINTER(Sizes),
         _JPEG_FAULT,
     ],
-    "exifnorm_jpeg_unread": [*_BLOCK, ctypes.POINTER(Unread), _JPEG_FAULT],
+    "exifnorm_jpeg_unread": [*_BLOCK, ctypes.POINTER(UnreadStruct), _JPEG_FAULT],
     "exifnorm_cause_name": [ctypes.c_uint32, *_OUT],
     "exifnorm_version": _OUT,
 }
@@ -176,7 +176,7 @@ class Room:
         self._octets = memoryview(bytearray(number * self._size))
         self._first = kind.from_buffer(self._octets)
         self._start = ctypes.byref(self._first)
-        self._outputs = (ctypes.byref(self._count), ctypes.byref(self._fault))[: 2 if kind is Part else 1]
+        self._outputs = (ctypes.byref(self._count), ctypes.byref(self._fault))[: 2 if kind is PartStruct else 1]
 
     def rows_of(self, call: Callable[..., int], octets: bytes, limit: int) -> Rows:
         """The rows of a call, of which no more than so many fit."""
@@ -194,7 +194,7 @@ class ByCtypes:
 
     def __init__(self, library: ctypes.CDLL) -> None:
         self._library = library
-        self._rooms: Dict[Type[ctypes.Structure], List[Room]] = {Part: [], Resource: []}  # those of which no call makes use now
+        self._rooms: Dict[Type[ctypes.Structure], List[Room]] = {PartStruct: [], ResourceStruct: []}  # those of which no call makes use now
 
     def check(self, block: bytes) -> Number:
         kind, fault = ctypes.c_uint32(), Fault()
@@ -218,13 +218,13 @@ class ByCtypes:
         return self._text(self._library.exifnorm_captions, block, 2 * min(len(block), LIMIT) + 1024)
 
     def jpeg_parts(self, picture: bytes, most: int) -> Rows:
-        return self._rows(self._library.exifnorm_jpeg_parts, picture, most, Part)
+        return self._rows(self._library.exifnorm_jpeg_parts, picture, most, PartStruct)
 
     def photoshop_resources(self, octets: bytes, most: int) -> Rows:
-        return self._rows(self._library.exifnorm_photoshop_resources, octets, most, Resource)
+        return self._rows(self._library.exifnorm_photoshop_resources, octets, most, ResourceStruct)
 
     def jpeg_same(self, first: bytes, second: bytes) -> Pair:
-        same, unread, fault = ctypes.c_uint32(), Unread(), PictureFault()
+        same, unread, fault = ctypes.c_uint32(), UnreadStruct(), PictureFault()
         pictures = first, len(first), second, len(second)
         status = self._library.exifnorm_jpeg_same(*pictures, ctypes.byref(same), ctypes.byref(unread), ctypes.byref(fault))
         if status in (Status.NOT_READ, Status.SECOND_NOT_READ):
@@ -235,7 +235,7 @@ class ByCtypes:
         sizes, fault = Sizes(_FEW, 0), JpegFault()
         while True:
             room, length = sizes.blocks, sizes.joined
-            places, out = (Place * room)(), ctypes.create_string_buffer(length + 1)
+            places, out = (PlaceStruct * room)(), ctypes.create_string_buffer(length + 1)
             outputs = places, room, out, length, ctypes.byref(sizes), ctypes.byref(fault)
             status = self._library.exifnorm_jpeg_blocks(picture, len(picture), *outputs)
             if status == _DONE:
@@ -245,7 +245,7 @@ class ByCtypes:
             sizes.blocks = max(sizes.blocks, 1)
 
     def jpeg_unread(self, picture: bytes) -> UnreadPlace:
-        unread, fault = Unread(), JpegFault()
+        unread, fault = UnreadStruct(), JpegFault()
         status = self._library.exifnorm_jpeg_unread(picture, len(picture), ctypes.byref(unread), ctypes.byref(fault))
         if status != _DONE:
             return status, fault.cause, fault.place

@@ -406,12 +406,12 @@ class Picture:
     def captions(self) -> Tuple[Caption, ...]:
         """The texts by label, such as "title" and "keywords", with the field of each."""
         captions = [Caption(it.label, it.texts, it.field, it.standard, it.guess, it.block) for it in self._reading.texts if not it.is_empty]
-        return tuple(sorted(captions, key=lambda it: labels.WORDS.index(it.label)))
+        return tuple(sorted(captions, key=lambda it: labels.LABEL_WORDS.index(it.label)))
 
     def texts(self, label: str) -> Tuple[str, ...]:
         """The texts of a label: of several fields those that `captions --csv` prints, the first that is whole and not a camera's."""
-        if label not in labels.WORDS:
-            raise ValueError(f"{label!r} is no label; the labels are {', '.join(labels.WORDS)}")
+        if label not in labels.LABEL_WORDS:
+            raise ValueError(f"{label!r} is no label; the labels are {', '.join(labels.LABEL_WORDS)}")
         of_label = [it for it in self._reading.texts if it.label == label]
         best = chosen(of_label, conflicts(self._reading.texts) if len(of_label) > 1 else [])
         return best.texts if best else ()

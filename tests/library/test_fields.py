@@ -12,7 +12,7 @@ import pytest
 import exifnorm
 from commands import TOP, run, text_of
 from compiling import C99, HEADERS, HERE, STRICT, need
-from exifnorm._causes import WORDS
+from exifnorm._causes import CAUSE_WORDS
 from exifnorm._jpeg import CAUSES
 from exifnorm_pictures.fields.names import TABLES
 from exifnorm_pictures.fields.plain_names import group_of, plain_name
@@ -345,7 +345,7 @@ def test_names_and_texts(folder, compiler):
     assert [it for it in lines if it.startswith("picture ")] == ["picture ThumbnailImage", "picture ThumbnailTIFF"]
     expected_causes = {**dict(enumerate(NAMES, 1)), **CAUSES}
     causes = dict(re.findall(r"^cause (\d+) (.+)$", "\n".join(lines), re.M))
-    assert causes == {str(number): WORDS[name][0] for number, name in expected_causes.items()}
+    assert causes == {str(number): CAUSE_WORDS[name][0] for number, name in expected_causes.items()}
     header = (HEADERS / "exifnorm.h").read_text(encoding="utf-8")
     statuses = re.search(r"/\* The statuses. \*/\nenum {(.*?)};", header, re.S)[1]
     assert re.findall(r"^status (\d+) .+$", "\n".join(lines), re.M) == re.findall(r" = (\d+)", statuses)

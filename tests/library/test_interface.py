@@ -133,26 +133,26 @@ def test_python_has_the_same_statuses_causes_and_version(way):
 
 
 def test_python_has_the_same_numbers_and_structs_of_jpegs():
-    kinds = {it.upper().replace(" ", "_") or "OTHER": number for number, it in enumerate(_jpeg.KINDS)}
+    kinds = {it.upper().replace(" ", "_") or "OTHER": number for number, it in enumerate(_jpeg.PART_KINDS)}
     numbers = numbers_of_jpegs()
     assert {name: number for name, number in numbers.items() if number in kinds.values()} == kinds
     assert sorted(_jpeg.CAUSES) == sorted({*numbers.values()} - {*kinds.values()})
     assert all(_library.library().cause_name(number) == name for number, name in _jpeg.CAUSES.items())
     structs = {
-        "jpeg_part": _library.Part,
-        "photoshop_resource": _library.Resource,
+        "jpeg_part": _library.PartStruct,
+        "photoshop_resource": _library.ResourceStruct,
         "jpeg_fault": _library.JpegFault,
         "picture_fault": _library.PictureFault,
         "fault": _library.Fault,
-        "jpeg_block": _library.Place,
+        "jpeg_block": _library.PlaceStruct,
         "jpeg_sizes": _library.Sizes,
-        "unread_part": _library.Unread,
+        "unread_part": _library.UnreadStruct,
     }
     found = {
         f"exifnorm_{name}": [ctypes.sizeof(it), *(getattr(it, field).offset for field, _ in it._fields_)] for name, it in structs.items()
     }
     assert found == dict(structs_of_the_sources())
-    rows = ((_library.PART, _library.Part), (_library.RESOURCE, _library.Resource), (_library.PLACE, _library.Place))
+    rows = ((_library.PART, _library.PartStruct), (_library.RESOURCE, _library.ResourceStruct), (_library.PLACE, _library.PlaceStruct))
     assert [it.size for it, _ in rows] == [ctypes.sizeof(it) for _, it in rows]
 
 

@@ -5,7 +5,7 @@ import re
 from exifnorm import Ratio
 
 from exifnorm_pictures.fields.listing import OCTETS, Field
-from exifnorm_pictures.model.xmp_values import Array, Literal, Long, Resource, Structure
+from exifnorm_pictures.model.xmp_values import Array, Literal, Long, Uri, Structure
 
 _ESCAPE = re.compile(r"\\(n|r|t|\\|\"|x[0-9a-f]{2}|u[0-9a-f]{4}|U[0-9a-f]{8})")
 _SHORT = {"n": "\n", "r": "\r", "t": "\t", "\\": "\\", '"': '"'}
@@ -55,7 +55,7 @@ def _one(text):
     if match := _TEXT.match(text):
         return Literal(unescaped(match[1]), match[2] or ""), text[match.end() :]
     if match := re.match("<([^>]*)>", text):
-        return Resource(match[1]), text[match.end() :]
+        return Uri(match[1]), text[match.end() :]
     if match := re.match(r"([^\"<{]*)\.\. sha256:([0-9a-f]+)", text) or re.match(r"(.*?)\.\. sha256:([0-9a-f]+)", text):
         return Long(match[2], match[1]), text[match.end() :]
     is_list, members = text[0] != "{", []

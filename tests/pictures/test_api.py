@@ -372,8 +372,8 @@ def test_blocks_are_read_once(monkeypatch):
     monkeypatch.setattr(exifnorm, "normal", lambda block: calls.append(block) or normal(block))
     from exifnorm_pictures.fields import normal_form
 
-    of_form = normal_form.fields
-    monkeypatch.setattr(normal_form, "fields", lambda form: made.append(form) or of_form(form))
+    of_form = normal_form.fields_of_form
+    monkeypatch.setattr(normal_form, "fields_of_form", lambda form: made.append(form) or of_form(form))
     bowl = pictures.read(BEFORE / BOWL)
     assert (bowl.key is not None, bowl.refusals, len(calls), len(made)) == (True, (), 2, 0)
     assert bowl.captions and bowl["IFD0:Model"] and list(bowl.fields) and len(calls) == 2 and len(made) == 2

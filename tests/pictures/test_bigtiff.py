@@ -135,7 +135,7 @@ def test_a_file_with_a_hole(tmp_path):
         file.write(struct.pack("<Q", 1) + struct.pack("<HHQ8s", 0x013B, ASCII, 5, b"Anna\0\0\0\0") + bytes(8))
     from exifnorm_pictures.extract import extraction
 
-    found = extraction.blocks_of(os.fsencode(name))
+    found = extraction.blocks_of_file(os.fsencode(name))
     assert [it.name for it in found.found] == ["Exif"] and b"Anna\0" in found.found[0].data and at
     assert coded_picture.of_file(os.fsencode(name), budgets.Budget()).digest != ""
 

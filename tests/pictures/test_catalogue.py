@@ -339,8 +339,8 @@ class Processes(WithPictures):
     def test_a_picture_that_ends_the_process(self):
         """It costs one line; all others, also those that were given to the same process, are looked at."""
         ending = (
-            "read = extraction.blocks_of\n"
-            "extraction.blocks_of = lambda path, *more: os._exit(9) if path.endswith(b'41.jpg') else read(path, *more)"
+            "read = extraction.blocks_of_file\n"
+            "extraction.blocks_of_file = lambda path, *more: os._exit(9) if path.endswith(b'41.jpg') else read(path, *more)"
         )
         counts, lines, left = self.indexed(ending)
         self.assertEqual(counts, {"accepted": 99, "ToolFailed": 1})
@@ -351,7 +351,7 @@ class Processes(WithPictures):
     def test_what_a_process_that_died_left(self):
         """Rows that no result names are removed before their pictures are looked at again: in a long run they would fill the disk."""
         ending = (
-            "import time\nread, by_each = extraction.blocks_of, processes._one_by_one\n"
+            "import time\nread, by_each = extraction.blocks_of_file, processes._one_by_one\n"
             "def blocks_of(path, *more):\n"
             "    if path.endswith(b'00.jpg') and not os.path.exists('died'):\n"
             "        while not os.path.exists('room/rows-1'): time.sleep(0.001)\n"  # the other process's
@@ -360,7 +360,7 @@ class Processes(WithPictures):
             "def one_by_one(*words):\n"
             "    with open('seen', 'a') as file: file.write(' '.join(os.listdir('room')) + '\\n')\n"
             "    return by_each(*words)\n"
-            "extraction.blocks_of, processes._one_by_one = blocks_of, one_by_one"
+            "extraction.blocks_of_file, processes._one_by_one = blocks_of, one_by_one"
         )
         self.assertEqual(self.indexed(ending), [{"accepted": 100}, [], []])
         seen = read(self.path("seen")).decode().splitlines()

@@ -142,8 +142,8 @@ def test_what_index_writes_is_read(monkeypatch):
     for number in range(6):
         blocks.add("iim", b"".join(b"\x1c\2\x19\0\x04%04d" % (number if it == 0 else it) for it in range(300)), f"page {number}")
     judged = judge.judge_all(blocks, packs=True)
-    one = packing.length(judged[0].packed)
-    assert len(judged[0].packed) * 4 < one
+    one = packing.length(judged[0].fields)
+    assert len(judged[0].fields) * 4 < one
     for limit, kept in ((3 * one, 3), (3 * one - 1, 2), (6 * one, 6)):
         monkeypatch.setattr(judge, "KEPT_BYTES", limit)
         monkeypatch.setattr(block_fields, "KEPT_BYTES", limit)

@@ -198,7 +198,7 @@ def test_films(tmp_path):
         found_in(film)
     for octets in (film, BROKEN["CMT1 twice"][0]):
         (tmp_path / "a.crm").write_bytes(octets)
-        found = extraction.blocks_of(os.fsencode(tmp_path / "a.crm"))
+        found = extraction.blocks_of_file(os.fsencode(tmp_path / "a.crm"))
         assert (found.problem, found.found) == ("SeveralBlocks", [])
 
 

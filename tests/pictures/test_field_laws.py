@@ -77,7 +77,7 @@ def two_blocks(draw):
 
 
 def fields_of(meaning, order="<"):
-    return normal_form.fields(exifnorm.normal(laid(meaning, Layout(order, chance=Random(1), shuffled=True, gap=4))))
+    return normal_form.fields_of_form(exifnorm.normal(laid(meaning, Layout(order, chance=Random(1), shuffled=True, gap=4))))
 
 
 @given(two_blocks())
@@ -190,8 +190,8 @@ def test_fields_of_xmp_are_equal_exactly_if_they_mean_the_same(one, other, chanc
     other = one if other is None else other
     is_same = meaning_of(one) == meaning_of(other)
     found = [statements_of.statements(packet(it, chance), {}, set()) for it in (one, other)]
-    assert (statements_of.digest(found[0]) == statements_of.digest(found[1])) is is_same
-    fields = [xmp_properties.fields(it) for it in found]
+    assert (statements_of.digest_of_packet(found[0]) == statements_of.digest_of_packet(found[1])) is is_same
+    fields = [xmp_properties.fields_of_statements(it) for it in found]
     assert (fields[0] == fields[1]) is is_same
     again = [unpacked(packed(it).octets) for it in fields]
     assert again == fields

@@ -591,8 +591,8 @@ class Opened(WithPictures):
         os.mkfifo(self.path("pipe"))
         os.symlink("nothing", self.path("link"))
         for name, problem in (("pipe", "NotAFile"), ("link", "LinkToNothing"), (".", "NotAFile")):
-            self.assertEqual(extraction.blocks_of(os.fsencode(self.path(name))).problem, problem)
-        text = "os.open = None\nprint(*(extraction.blocks_of(it).problem for it in (b'pipe', b'link', b'.')))"
+            self.assertEqual(extraction.blocks_of_file(os.fsencode(self.path(name))).problem, problem)
+        text = "os.open = None\nprint(*(extraction.blocks_of_file(it).problem for it in (b'pipe', b'link', b'.')))"
         self.assertEqual(self.by_itself(text), ["NotAFile", "LinkToNothing", "NotAFile"])
 
     def by_itself(self, text):
@@ -608,7 +608,7 @@ class Opened(WithPictures):
         os.mkfifo(self.path("pipe"))
         text = (
             "opened, before = os.open, len(os.listdir('/proc/self/fd'))\nos.open = lambda path, *more: opened('pipe', *more)\n"
-            "print(extraction.blocks_of(b'a.jpg').problem, len(os.listdir('/proc/self/fd')) - before)"
+            "print(extraction.blocks_of_file(b'a.jpg').problem, len(os.listdir('/proc/self/fd')) - before)"
         )
         self.assertEqual(self.by_itself(text), ["NotAFile", "0"])
 
@@ -626,7 +626,7 @@ class Opened(WithPictures):
         text = (
             "extraction.by_others = lambda *_: None\n"
             "def count(): return len(os.listdir('/proc/self/fd'))\n"
-            "before = count()\nfor name in os.listdir(b'.'): extraction.blocks_of(name)\nprint(count() - before)"
+            "before = count()\nfor name in os.listdir(b'.'): extraction.blocks_of_file(name)\nprint(count() - before)"
         )
         self.assertEqual(self.by_itself(text), ["0"])
 

@@ -211,7 +211,7 @@ def test_offsets_past_4_gb(tmp_path):
         file.write(made[:begin].replace(struct.pack(">Q", at), struct.pack(">Q", far)) + length)
         file.seek(far)
         file.write(T)
-    found = extraction.blocks_of(os.fsencode(tmp_path / "a.heic"))
+    found = extraction.blocks_of_file(os.fsencode(tmp_path / "a.heic"))
     assert blocks_of(found) == IN_ONE[1:] and found.not_read == []
 
 

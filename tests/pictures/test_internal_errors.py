@@ -184,9 +184,9 @@ def test_fields_of_a_picture_have_a_limit(monkeypatch):
     blocks = Blocks()
     for number in range(5):
         blocks.add("iim", b"\x1c\2\x78\0\x64" + bytes(range(32, 132)), f"page {number}")
-    (one,) = {it.packed for it in judge.judge_all(blocks, packs=True)}
+    (one,) = {it.fields for it in judge.judge_all(blocks, packs=True)}
     monkeypatch.setattr(judge, "KEPT_BYTES", 2 * packing.length(one))
-    kept = [packing.unpacked(it.packed) for it in judge.judge_all(blocks, packs=True)]
+    kept = [packing.unpacked(it.fields) for it in judge.judge_all(blocks, packs=True)]
     assert [it[0].where for it in kept] == ["iptc", "iptc", "", "", ""]
     assert exact(kept[-1][0]).startswith("too many to be kept; sha256:") and kept[-1] == kept[-2]
 
@@ -228,7 +228,7 @@ def test_the_state_of_a_picture_has_the_cause(command, monkeypatch, error, probl
     def fails(*_):
         raise error
 
-    monkeypatch.setattr(extraction, "blocks_of", fails)
+    monkeypatch.setattr(extraction, "blocks_of_file", fails)
     line = command("index", "p", "--catalogue", "c", "--quiet", "--json", status=2).out.splitlines()[-1]
     assert json.loads(line)["counts"] == {problem: 2}
 

@@ -204,7 +204,7 @@ def test_pictures_are_the_same_exactly_if_the_library_says_so(folder):
     for number, pieces in enumerate(COMPARED):
         path = folder / f"{number}.jpg"
         path.write_bytes(jpeg(*pieces))
-        judged = judge.judge_all(extraction.blocks_of(os.fsencode(path)))
+        judged = judge.judge_all(extraction.blocks_of_file(os.fsencode(path)))
         sides.append((path.read_bytes(), {kind: side_of([it for it in judged if it.kind == kind]) for kind in (EXIF, IPTC)}))
     met = set()
     for (one, first), (other, second) in itertools.product(sides, repeat=2):
@@ -275,7 +275,7 @@ def test_cost_of_a_small_picture(counted, folder):
     for octets, number in ((jpeg(app1(A), app13(resource(0x0404, K)), app1_xmp(T)), 2), (jpeg(app1(A)), 1), (SMALL_JPEG, 1)):
         del calls[:], reads[:]
         (folder / "a.jpg").write_bytes(octets)
-        assert extraction.blocks_of(os.fsencode(folder / "a.jpg")).problem is None
+        assert extraction.blocks_of_file(os.fsencode(folder / "a.jpg")).problem is None
         assert (reads, len(calls)) == ([len(octets)], number)
 
 
@@ -287,7 +287,7 @@ def test_cost_of_a_long_picture(counted, folder):
         filler = [segment(0xFE, bytes(50_000 - 4))] * (size // 50_000) + [segment(0xFE, bytes(size % 50_000))]
         octets = jpeg(*filler, app1(A), base=SMALL_JPEG[:-2] + b"\x11" * 4_000_000 + SMALL_JPEG[-2:])
         (folder / "a.jpg").write_bytes(octets)
-        assert [it.data for it in extraction.blocks_of(os.fsencode(folder / "a.jpg")).found] == [A]
+        assert [it.data for it in extraction.blocks_of_file(os.fsencode(folder / "a.jpg")).found] == [A]
         assert [it for it in calls if it[0] == "parts"] == [("parts", 65_536 << number) for number in range(expected)]
         assert sum(reads) == (65_536 << expected - 1) + 65_536 + 1
 
@@ -334,4 +334,4 @@ def test_a_missing_library_is_no_unreadable_picture(monkeypatch, folder):
     library = Failing("jpeg_parts", exifnorm.LibraryMissing("it is gone"))
     monkeypatch.setattr(_jpeg, "library", lambda: library)
     with pytest.raises(exifnorm.LibraryMissing):
-        extraction.blocks_of(path)
+        extraction.blocks_of_file(path)

@@ -14,7 +14,7 @@ import pytest
 from exifnorm_pictures.cli import main
 from exifnorm_pictures.files import session
 from exifnorm_pictures.extract import exiftool, structure
-from exifnorm_pictures.extract.extraction import blocks_of
+from exifnorm_pictures.extract.extraction import blocks_of_file
 from exifnorm_pictures.fields.listing import MAKER_NOTE, Field
 from exifnorm_pictures.fields.packing import packed
 from exifnorm_pictures.judge.judge import judge_all
@@ -534,10 +534,10 @@ def test_places_in_a_tiff(folder):
     for count in (2, 12):
         many = tiff(*[page((0x8769, LONG, [(0x927C, UNDEFINED, SHORT)]))] * count)
         (folder / "a").write_bytes(many)
-        places = [it.note for it in judge_all(blocks_of(bytes(folder / "a")), True)]
+        places = [it.note for it in judge_all(blocks_of_file(bytes(folder / "a")), True)]
         assert places == [at for at in range(len(many)) if many.startswith(SHORT, at)] and len(places) == count
     (folder / "a").write_bytes(octets)
-    assert [it.note for it in judge_all(blocks_of(bytes(folder / "a")), True)] == [octets.index(SHORT)]
+    assert [it.note for it in judge_all(blocks_of_file(bytes(folder / "a")), True)] == [octets.index(SHORT)]
 
 
 FIELDS = st.builds(

@@ -9,7 +9,7 @@ from made_files import app1, exif, jpeg
 from studio import needs, put
 from test_repairs import REFUSED
 
-from exifnorm_pictures.extract.extraction import blocks_of
+from exifnorm_pictures.extract.extraction import blocks_of_file
 from exifnorm_pictures.judge.judge import judge_all
 
 PICTURES = {
@@ -35,7 +35,7 @@ def copies(folder):
     """The names of the copies, each of which has accepted blocks alone."""
     found = sorted(os.path.relpath(os.path.join(at, name), folder) for at, _, names in os.walk(folder) for name in names)
     for name in found:
-        blocks = blocks_of(os.fsencode(folder / name))
+        blocks = blocks_of_file(os.fsencode(folder / name))
         assert all(it.is_accepted for it in judge_all(blocks)), name
     return found
 

@@ -265,12 +265,12 @@ class Messages(WithPictures):
     def test_of_names(self):
         write(self.path("list"), b"a\0b\0")
         text = f"the list {self.path('list')} contains a NUL: if its names end with NUL, give -0"
-        self.assertEqual(self.raised(walk.BadList, list, walk.listed(self.path("list"), False)), text)
-        self.assertEqual(list(walk.listed(self.path("list"), True)), [b"a", b"b"])
-        self.assertEqual(list(walk.listed("-", False, stdin=io.BytesIO(b"a\n\nb"))), [b"a", b"b"])
+        self.assertEqual(self.raised(walk.BadList, list, walk.names_in_list(self.path("list"), False)), text)
+        self.assertEqual(list(walk.names_in_list(self.path("list"), True)), [b"a", b"b"])
+        self.assertEqual(list(walk.names_in_list("-", False, stdin=io.BytesIO(b"a\n\nb"))), [b"a", b"b"])
         with mock.patch.object(sys, "stdin", None):
-            self.assertEqual(self.raised(walk.BadList, list, walk.listed("-", False)), "standard input is closed")
-            self.assertEqual(list(walk.listed("-", True, stdin=io.BytesIO(b"a\nb\0\0c"))), [b"a\nb", b"c"])
+            self.assertEqual(self.raised(walk.BadList, list, walk.names_in_list("-", False)), "standard input is closed")
+            self.assertEqual(list(walk.names_in_list("-", True, stdin=io.BytesIO(b"a\nb\0\0c"))), [b"a\nb", b"c"])
         asked = argparse.Namespace(files_from=None, null=False, command="show")
         self.assertEqual(self.raised(walk.BadList, names.named, asked, ["a\0b"]), "a name contains a NUL")
         with contextlib.redirect_stderr(io.StringIO()) as printed, self.assertRaises(SystemExit) as ended:
@@ -385,14 +385,14 @@ class Messages(WithPictures):
                 marked._replace(problem="NeedsExifTool", detail=str(programs.Missing("exiftool")), extractor="own", **rest),
             ),
         ):
-            with mock.patch.object(looking.extraction, "blocks_of", mock.Mock(side_effect=why)):
+            with mock.patch.object(looking.extraction, "blocks_of_file", mock.Mock(side_effect=why)):
                 self.assertEqual(looking.look(found, How(), session.Session()), expected)
         self.assertEqual(
             self.raised(OSError, opening.opened, os.fsencode(self.folder)),
             f"[Errno 22] it is no regular file: {os.fsencode(self.folder)!r}",
         )
         for name, problem, detail in ((self.folder, "NotAFile", TEXTS["NotAFile"]), (self.path("a"), "NoFile", TEXTS["NoFile"])):
-            it = extraction.blocks_of(os.fsencode(name))
+            it = extraction.blocks_of_file(os.fsencode(name))
             self.assertEqual((it.problem, it.detail, it.found, it.not_read), (problem, detail, [], []))
 
     def test_streams_that_are_closed(self):

@@ -381,12 +381,12 @@ class Mended(WithPictures):
     def test_statuses(self):
         """Those of `mend --help`; the greatest counts."""
         ends = {
-            "copy": (mend.Mended("copy", {}, is_written=True), 0),
-            "touch": (mend.Mended("touch", {}, is_written=True), 0),
-            "lost": (mend.Mended("rebuild", {}, ["a"], is_written=True), 1),
-            "lossless": (mend.Mended("rebuild", {}, ["a"]), 2),
-            "none": (mend.Mended("none", {}), 2),
-            "problem": (mend.Mended("none", {}, problem="NoPicture"), 2),
+            "copy": (mend.Mended(mend.Remedy.COPY, {}, is_written=True), 0),
+            "touch": (mend.Mended(mend.Remedy.TOUCH, {}, is_written=True), 0),
+            "lost": (mend.Mended(mend.Remedy.REBUILD, {}, ["a"], is_written=True), 1),
+            "lossless": (mend.Mended(mend.Remedy.REBUILD, {}, ["a"]), 2),
+            "none": (mend.Mended(mend.Remedy.NONE, {}), 2),
+            "problem": (mend.Mended(mend.Remedy.NONE, {}, problem="NoPicture"), 2),
         }
         asked = argparse.Namespace(json=False, files_from=None, catalogue=None, lossless=False, session=None)
         for name, (found, status) in ends.items():
@@ -400,7 +400,9 @@ class Mended(WithPictures):
         """Also one that leads nowhere is a file that is there."""
         write(self.path("a.jpg"), b"")
         os.symlink("nowhere", self.path("out.jpg"))
-        with mock.patch.object(programs, "needed", lambda _: ""), mock.patch.object(mend, "blocks_of", lambda _: self.fail("it is read")):
+        with mock.patch.object(programs, "needed", lambda _: ""), mock.patch.object(
+            mend, "blocks_of_file", lambda _: self.fail("it is read")
+        ):
             with self.assertRaisesRegex(mend.NotWritten, "there already"):
                 mend.mend(os.fsencode(self.path("a.jpg")), os.fsencode(self.path("out.jpg")), session.Session(room=self.folder))
         self.assertEqual((os.readlink(self.path("out.jpg")), read(self.path("a.jpg"))), ("nowhere", b""))

@@ -27,7 +27,7 @@ def sides(path, whole=False):
     from exifnorm_pictures.model.sides import side_of
 
     with _ASKED:
-        blocks = extraction.blocks_of(os.fsencode(path), whole)
+        blocks = extraction.blocks_of_file(os.fsencode(path), whole)
     assert not blocks.problem, (blocks.problem, blocks.detail)
     judged = judge.judge_all(blocks)
     return {kind: side_of([it for it in judged if it.kind == kind]) for kind in NAMES}, blocks.not_read
@@ -41,7 +41,7 @@ class Pairs(WithPictures):
         write(self.path(f"other.{name}"), other)
         first, second = sides(self.path(f"one.{name}"), whole), sides(self.path(f"other.{name}"), whole)
         found = verdicts.verdicts(first[0], second[0])
-        return verdicts.result_of(found, verdicts.left_open(first[1], second[1])), verdicts.sentence(
+        return verdicts.result_of(found, verdicts.left_open(first[1], second[1])), verdicts.sentence_of_verdicts(
             found, verdicts.left_open(first[1], second[1])
         )
 
@@ -291,7 +291,7 @@ class Tiff(Pairs):
         from exifnorm_pictures.extract import extraction
 
         write(self.path("big.tif"), b"II+\0\x08\0\0\0" + bytes(24))
-        found = extraction.blocks_of(os.fsencode(self.path("big.tif")))
+        found = extraction.blocks_of_file(os.fsencode(self.path("big.tif")))
         self.assertEqual((found.problem, found.found), ("BigTIFF", []))
 
 

@@ -131,7 +131,7 @@ class Shown(unittest.TestCase):
     def test_xmp(self):
         def shown(inside, attributes=""):
             found = xmp.statements(packet_of(inside, attributes), xmp.Extensions({}), set())
-            return [(it.key, it.type, it.elements, listing.exact(it)) for it in xmp_properties.fields(found)]
+            return [(it.key, it.type, it.elements, listing.exact(it)) for it in xmp_properties.fields_of_statements(found)]
 
         lists = "".join(
             f"<dc:{name}><rdf:{kind}><rdf:li>b</rdf:li><rdf:li xml:lang='DE'>a</rdf:li></rdf:{kind}></dc:{name}>"
@@ -188,7 +188,7 @@ class Results(unittest.TestCase):
                 "no Exif and no IPTC and no XMP; not wholly read: a, b",
             ),
         ):
-            self.assertEqual(verdicts.sentence([Verdict(*it) for it in found], parts), text)
+            self.assertEqual(verdicts.sentence_of_verdicts([Verdict(*it) for it in found], parts), text)
 
     def test_words(self):
         same, other, refused, unreadable = (
@@ -561,7 +561,7 @@ class Small(WithPictures):
         blocks = Blocks()
         blocks.add("exif", b"MM", "")
         with mock.patch.object(thumbnails.exifnorm, "fields", fields.__getitem__), mock.patch.object(
-            thumbnails.extraction, "blocks_of", lambda *_, **__: blocks if embedded else Blocks()
+            thumbnails.extraction, "blocks_of_file", lambda *_, **__: blocks if embedded else Blocks()
         ):
             found = thumbnails.small_pictures([*names, names[0]])
         return {os.path.basename(os.fsdecode(name)): uri for name, uri in found.items()}
@@ -586,7 +586,7 @@ class Small(WithPictures):
 
     def test_what_cannot_be_read(self):
         for why in (programs.Missing("exiftool"), programs.Failed("failed")):
-            with mock.patch.object(thumbnails.extraction, "blocks_of", mock.Mock(side_effect=why)):
+            with mock.patch.object(thumbnails.extraction, "blocks_of_file", mock.Mock(side_effect=why)):
                 self.assertEqual(thumbnails.small_pictures([b"/no such picture"]), {})
         for why in (thumbnails.exifnorm.Refused("Overlap", 1), thumbnails.exifnorm.NormalTooLong(), MemoryError()):
             with mock.patch.object(thumbnails.exifnorm, "fields", mock.Mock(side_effect=why)):

@@ -489,7 +489,7 @@ class Pictures(Promises):
         self.assertEqual(run(["exifnorm-pictures", "show"], self.folder).returncode, 3)
         for lost, step, status in ((["a value"], "rebuild", 1), ([], "none", 2)):
             with mock.patch.object(
-                mend, "mend", return_value=mend.Mended(step, {}, lost, is_written=bool(lost))
+                mend, "mend", return_value=mend.Mended(mend.Remedy(step), {}, lost, is_written=bool(lost))
             ), contextlib.redirect_stdout(io.StringIO()):
                 asked = argparse.Namespace(json=False, files_from=None, catalogue=None, lossless=False, session=None)
                 self.assertEqual(mend_cli._mend_one(asked, b"a", b"b")[0], status)

@@ -127,7 +127,7 @@ def test_exiv2(tmp_path):
 
 def test_a_picture_without_metadata(tmp_path):
     (tmp_path / "a").write_bytes(psd(OTHER))
-    found = extraction.blocks_of(os.fsencode(tmp_path / "a"))
+    found = extraction.blocks_of_file(os.fsencode(tmp_path / "a"))
     assert (found.problem, found.found, found.not_read) == (None, [], [])
 
 
@@ -139,7 +139,7 @@ def test_layers_past_4_gb(tmp_path):
         file.write(made[: at - 8] + length.to_bytes(8, "big") + b"layers")
         file.seek(at + length)
         file.write(made[at:])
-    found = extraction.blocks_of(os.fsencode(tmp_path / "a.psb"))
+    found = extraction.blocks_of_file(os.fsencode(tmp_path / "a.psb"))
     assert sorted(blocks_of(found)) == ALL
     assert [tuple(it) for it in found.not_read] == [("Photoshop's layers", "")]
 

@@ -174,7 +174,7 @@ def test_beside_exiftool(kind, tmp_path):
     octets = {**MAKERS, "srw": srw, "profile": lambda: dng(b"Anna", (0xC6F5, LONG, Placed(camera_profile())))}[kind]()
     name = tmp_path / f"picture.{'dng' if kind == 'profile' else kind}"
     write(name, octets)
-    blocks = extraction.blocks_of(bytes(name))
+    blocks = extraction.blocks_of_file(bytes(name))
     assert (blocks.problem, blocks.extractor, blocks.type) == (None, "own", name.suffix[1:].upper())
     shown = set()
     for number, it in enumerate(blocks.of_kind("exif")):
@@ -193,6 +193,6 @@ def test_numbers_of_head(tmp_path):
         found = []
         for name in (f"a.{kind}", "a.tif"):
             write(tmp_path / name, MAKERS[kind]())
-            blocks = extraction.blocks_of(bytes(tmp_path / name))
+            blocks = extraction.blocks_of_file(bytes(tmp_path / name))
             found.append((blocks.type, blocks.found, blocks.not_read))
         assert found[0] == found[1], kind

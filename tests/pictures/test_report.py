@@ -78,8 +78,8 @@ class Report(WithPictures):
         self.assertEqual(page.texts("h1"), ["The <title>"])
         cards = page.texts("cards")
         counts = dict(zip(cards[1::2], cards[0::2]))
-        self.assertEqual(counts[report.WORDS["accepted"]], "17")
-        self.assertEqual(counts[report.WORDS["refused"]], str(REFUSED))
+        self.assertEqual(counts[report.STATE_WORDS["accepted"]], "17")
+        self.assertEqual(counts[report.STATE_WORDS["refused"]], str(REFUSED))
         self.assertEqual([*counts.values()][-2:], ["8", str(CHANGED + 3)])
         heads = [it for it in page.texts("h3") if re.match(r"\d+ pictures", it)]
         self.assertEqual(heads, ["5 pictures", "3 pictures"])

@@ -143,10 +143,10 @@ class Copies(WithPictures):
             os.utime(self.path(name), (READ, 20))
             os.chmod(self.path(name), 0o640)
         changed = {
-            "blocks_of": read_blocks,
+            "blocks_of_file": read_blocks,
             "_refusals": lambda _: refusals.pop(0) if refusals else {},
             "_printed": lambda *_: mend.Counter("ab"),
-            "_REMEDIES": {it: remedy or touch for it in mend.STEPS},
+            "_REMEDIES": {it: remedy or touch for it in mend._REMEDIES},
         }
         os.makedirs(self.path("room"), exist_ok=True)
         with mock.patch.multiple(mend, **changed), mock.patch.object(programs, "needed", lambda it: it):
@@ -213,27 +213,27 @@ class Lines(WithPictures):
         two = {**one, "IPTC": "refused: DataSetCut at 0"}
         for found, lines, members in (
             (
-                mend.Mended("none", {}, problem="NoPicture: text"),
+                mend.Mended(mend.Remedy("none"), {}, problem="NoPicture: text"),
                 ["a\\n: NoPicture: text"],
                 {"step": "none", "before": {}, "lost": [], "gained": [], "problem": "NoPicture: text"},
             ),
             (
-                mend.Mended("copy", {}),
+                mend.Mended(mend.Remedy("copy"), {}),
                 ["a\\n: nothing was to be mended: a plain copy"],
                 {"step": "copy", "before": {}, "lost": [], "gained": []},
             ),
             (
-                mend.Mended("copy", {}, damage=["the rest"]),
+                mend.Mended(mend.Remedy("copy"), {}, damage=["the rest"]),
                 ["a\\n: nothing was to be mended: a plain copy", "  not wholly read, and not mended: the rest"],
                 {"step": "copy", "before": {}, "lost": [], "gained": [], "damage": ["the rest"]},
             ),
             (
-                mend.Mended("touch", one),
+                mend.Mended(mend.Remedy("touch"), one),
                 ["a\\n: Exif refused: Overlap at 34: ExifTool added a field and removed it", "  0 printed values lost or changed"],
                 {"step": "touch", "before": one, "lost": [], "gained": []},
             ),
             (
-                mend.Mended("exiv2", two, [], ["[IFD0] A : b"]),
+                mend.Mended(mend.Remedy("exiv2"), two, [], ["[IFD0] A : b"]),
                 [
                     "a\\n: Exif refused: Overlap at 34; IPTC refused: DataSetCut at 0: exiv2 added a field and removed it",
                     "  0 printed values lost or changed",
@@ -242,7 +242,7 @@ class Lines(WithPictures):
                 {"step": "exiv2", "before": two, "lost": [], "gained": ["[IFD0] A : b"]},
             ),
             (
-                mend.Mended("rebuild", one, ["x", "y"], ["z"]),
+                mend.Mended(mend.Remedy("rebuild"), one, ["x", "y"], ["z"]),
                 [
                     "a\\n: Exif refused: Overlap at 34: ExifTool wrote all tags that it knows into a new block",
                     "  2 printed values lost or changed",
@@ -253,12 +253,12 @@ class Lines(WithPictures):
                 {"step": "rebuild", "before": one, "lost": ["x", "y"], "gained": ["z"]},
             ),
             (
-                mend.Mended("none", one),
+                mend.Mended(mend.Remedy("none"), one),
                 ["a\\n: Exif refused: Overlap at 34: no remedy helped"],
                 {"step": "none", "before": one, "lost": [], "gained": []},
             ),
         ):
-            found.is_written = found.step != "none"
+            found.is_written = found.remedy != "none"
             self.assertEqual(mend_cli._mended_lines(b"a\n", found), lines)
             known = {"path": "a\n", "repairs": [], "damage": [], "written": found.is_written}
             self.assertEqual(mend_cli._mended_members(b"a\n", found), {**known, **members})
@@ -313,8 +313,8 @@ class Problems(unittest.TestCase):
     def test_a_program_that_fails_or_is_missing(self):
         missing = programs.Missing("exiftool")
         for raised, problem in ((programs.Failed("it ended"), "ToolFailed"), (missing, "NeedsExifTool")):
-            with mock.patch.object(named.extraction, "blocks_of", mock.Mock(side_effect=raised)):
-                found = named.blocks_of(b"a.gif", Session())
+            with mock.patch.object(named.extraction, "blocks_of_file", mock.Mock(side_effect=raised)):
+                found = named.blocks_of_named(b"a.gif", Session())
             self.assertEqual((found.problem, found.detail, found.found), (problem, str(raised), []))
             self.assertIn(problem, index.NOT_READABLE)
 

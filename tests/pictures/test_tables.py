@@ -44,7 +44,7 @@ def block_of(kind, text):
     fields = packed([Field("main", "010f", "ASCII", len(text), text.encode())]).octets
     if text.startswith("!"):
         return Block(kind, NAMES[kind], "somewhere", "own", "refused", None, text[1:], 7, 100, digest(text))
-    return Block(kind, NAMES[kind], "somewhere", "own", "accepted", digest(text), None, None, 100, digest(text), packed=fields)
+    return Block(kind, NAMES[kind], "somewhere", "own", "accepted", digest(text), None, None, 100, digest(text), fields=fields)
 
 
 def written_since(it):
@@ -320,7 +320,7 @@ class Tables(WithPictures):
 
 def with_fields(kind, name, text, fields, by="own"):
     """An accepted block with these fields, by this program."""
-    return block_of(kind, text)._replace(name=name, extractor=by, packed=packed(fields).octets)
+    return block_of(kind, text)._replace(name=name, extractor=by, fields=packed(fields).octets)
 
 
 def make(text):
@@ -672,8 +672,8 @@ class Remedies(WithPictures):
         tried = []
         with open(self.path("picture.jpg"), "w") as file:
             file.write("a\nb\nc")
-        blocks = mock.patch.multiple(mend, _printed=printed, _refusals=lambda _: {}, _REMEDIES={it: remedy(it) for it in mend.STEPS[1:]})
-        with blocks, mock.patch.object(mend, "blocks_of", lambda _, **__: mend.Blocks()), tempfile.TemporaryDirectory() as room:
+        blocks = mock.patch.multiple(mend, _printed=printed, _refusals=lambda _: {}, _REMEDIES={it: remedy(it) for it in mend._REMEDIES})
+        with blocks, mock.patch.object(mend, "blocks_of_file", lambda _, **__: mend.Blocks()), tempfile.TemporaryDirectory() as room:
             found = mend._best(None, os.fsencode(self.path("picture.jpg")), None, room)
         return found and (found[0], found[2], found[3]), tried
 
@@ -709,7 +709,8 @@ def _listed(listing):
 
 def _fields(form):
     return [
-        (*it[:4], it.value.hex() if isinstance(it.value, bytes) else numbers_text(it.type, it.value)) for it in normal_form.fields(form)
+        (*it[:4], it.value.hex() if isinstance(it.value, bytes) else numbers_text(it.type, it.value))
+        for it in normal_form.fields_of_form(form)
     ]
 
 

@@ -266,8 +266,8 @@ class Closed(WithPictures):
             "def count(): return len(os.listdir('/proc/self/fd'))\n"
             "def fails(*_): raise OSError(5, 'Input/output error')\n"
             "opened, before = os.open, count()\nos.open = lambda path, *more: opened('pipe', *more)\n"
-            "print(extraction.blocks_of(b'a.jpg').problem, count() - before)\n"
-            "os.open, os.pread = opened, fails\nprint(extraction.blocks_of(b'a.jpg').problem, count() - before)\n"
+            "print(extraction.blocks_of_file(b'a.jpg').problem, count() - before)\n"
+            "os.open, os.pread = opened, fails\nprint(extraction.blocks_of_file(b'a.jpg').problem, count() - before)\n"
         )
         self.assertEqual(self.by_itself(text), ["NotAFile 0", "Unreadable 0"])
 

@@ -26,7 +26,7 @@ LI = "<rdf:li>{}</rdf:li>"
 def said(packet, extensions=None):
     from exifnorm_pictures import xmp as reading
 
-    return reading.digest(reading.statements(packet, extensions or {}, set()))
+    return reading.digest_of_packet(reading.statements(packet, extensions or {}, set()))
 
 
 def cause(packet, extensions=None):
@@ -170,14 +170,14 @@ class Packets(unittest.TestCase):
             return found.value
 
         for uri in ("http://x/", "HTTP://x/%20?a=b#c", "urn:uuid:1-2", "a1+.-b:", "mailto:a@b"):
-            self.assertEqual(value(f"<xmp:d rdf:resource='{uri}'/>"), tree.Resource(uri))
+            self.assertEqual(value(f"<xmp:d rdf:resource='{uri}'/>"), tree.Uri(uri))
         for language in ("", "x-default", "i-klingon", "a", "de", "DE-de-1996", "zh-Hant", "abcdefgh-12345678"):
             self.assertEqual(value(f"<xmp:d xml:lang='{language}'>1</xmp:d>"), tree.Literal("1", language.lower()))
         for kind in ("Bag", "Seq", "Alt"):
-            expected = [tree.Statement(tree.TYPE, tree.Resource(tree.RDF + kind)), tree.Statement(tree.RDF + "_1", tree.Literal("1"))]
+            expected = [tree.Statement(tree.TYPE, tree.Uri(tree.RDF + kind)), tree.Statement(tree.RDF + "_1", tree.Literal("1"))]
             self.assertEqual(value(f"<xmp:d>\n <rdf:{kind}> <rdf:li>1</rdf:li>\t</rdf:{kind}>\n</xmp:d>"), tree.Node(tuple(expected)))
         (typed,) = value("<xmp:d><rdf:Description rdf:type='http://t/'/></xmp:d>").statements
-        self.assertEqual(typed, tree.Statement(tree.TYPE, tree.Resource("http://t/")))  # RDF/XML, 7.2.11: the URI of a type
+        self.assertEqual(typed, tree.Statement(tree.TYPE, tree.Uri("http://t/")))  # RDF/XML, 7.2.11: the URI of a type
         inner = "<rdf:Description xml:lang='de'><xmp:a xml:lang=''>1</xmp:a><xmp:b>2</xmp:b></rdf:Description>"
         (one, two) = value(f"<xmp:d xml:lang='en'>{inner}</xmp:d>").statements
         self.assertEqual((one.value, two.value), (tree.Literal("1"), tree.Literal("2", "de")))
@@ -233,7 +233,7 @@ class Packets(unittest.TestCase):
         from exifnorm_pictures.fields import listing
 
         def fields(packet):
-            return xmp_properties.fields(reading.statements(packet, {}, set()))
+            return xmp_properties.fields_of_statements(reading.statements(packet, {}, set()))
 
         one = fields(xmp("<dc:format>one</dc:format><dc:subject><rdf:Bag><rdf:li>b</rdf:li><rdf:li>a</rdf:li></rdf:Bag></dc:subject>"))
         other = fields(xmp("<dc:format>two</dc:format><dc:subject><rdf:Bag><rdf:li>a</rdf:li><rdf:li>b</rdf:li></rdf:Bag></dc:subject>"))
@@ -335,7 +335,7 @@ class BesideRdflib(unittest.TestCase):
             root = rdf_of(packet)
             found = call(root)
             check_repeated(found)  # of a property that is repeated with other values rdflib doesn't keep the order
-            return root, tree.digest_of(found), properties.fields(found)
+            return root, tree.digest_of_statements(found), properties.fields_of_statements(found)
         except Unreadable as why:
             return None, why.cause, []
         except reader.Unusual:

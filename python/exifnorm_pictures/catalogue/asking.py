@@ -12,7 +12,7 @@ from typing import Callable, Dict, Iterator, List, NamedTuple, Optional, Sequenc
 
 from ..fields.folding import bare, folded
 from ..fields.labels import DATE, PRIVATE
-from ..fields.questions import All, Any, Compared, Not, Question, With, labels_of
+from ..fields.questions import All, Any, Condition, Not, Question, With, labels_of
 from ..model.problems import NOT_THERE, Problem
 from ..model.records import has
 from .store import HEAD, Catalogue
@@ -66,7 +66,7 @@ def _rows(texts: _Part) -> str:
     return f"SELECT picture FROM texts{index} WHERE {texts.sql}"
 
 
-def _compared(question: Compared) -> List[_Part]:
+def _compared(question: Condition) -> List[_Part]:
     """The texts of a comparison, as conditions that the index can answer; one of them has to hold."""
     value = folded(question.value)
     if question.label == DATE and question.comparison in _DATES:

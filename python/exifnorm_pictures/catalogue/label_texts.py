@@ -10,7 +10,7 @@ from ..fields.labels import POSITION, PRIVATE, decoded
 from ..fields.listing import LONGEST_TEXT, Field, is_rest
 from ..fields.places import position_of
 from ..model.records import Block, KeptText
-from ..model.xmp_values import texts
+from ..model.xmp_values import texts_in
 from .store import HEAD
 from .texts import texts_of
 
@@ -80,4 +80,4 @@ def _of_field(field: Field) -> Iterator[str]:
     if isinstance(field.value, bytes):
         yield decoded(field.value)[0].strip(" \0")
     elif field.where == "xmp" and isinstance(field.value, tuple):
-        yield from (text.strip() for value in field.value for text in texts(value))  # type: ignore[arg-type]
+        yield from (text.strip() for value in field.value for text in texts_in(value))  # type: ignore[arg-type]

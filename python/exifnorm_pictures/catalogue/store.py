@@ -17,7 +17,7 @@ import time
 from typing import Any, Callable, Iterable, Iterator, List, NamedTuple, Optional, Sequence, Tuple, Type, TypeVar, overload
 
 from ..files import mounts, opening as files, signals
-from ..model.budgets import ROW_BYTES, ROW_NUMBER, STEPS
+from ..model.budgets import ROW_BYTES, ROW_NUMBER, SQL_STEPS
 from ..model.columns import Damaged
 from ..model.errors import Failure
 from ..model.found import NotRead
@@ -199,7 +199,7 @@ def connect(name: str, uri: bool = True) -> sqlite3.Connection:
     base = sqlite3.connect(name, timeout=60, isolation_level=None, uri=uri)
     if sys.version_info >= (3, 11):
         base.setlimit(sqlite3.SQLITE_LIMIT_LENGTH, ROW_BYTES)
-    base.set_progress_handler(_pause, STEPS)
+    base.set_progress_handler(_pause, SQL_STEPS)
     for pragma in ("trusted_schema = OFF", "cell_size_check = ON", "foreign_keys = ON"):
         base.execute(f"PRAGMA {pragma}")
     return base

@@ -4,7 +4,7 @@ from __future__ import annotations
 
 from typing import List, NamedTuple, Sequence, Set, Tuple
 
-from ..fields.labels import STANDARDS, WORDS, LabelText, camera_of, not_kept, of_block, with_own
+from ..fields.labels import STANDARDS, LABEL_WORDS, LabelText, camera_of, not_kept, of_block, with_own
 from ..fields.listing import Field
 from ..model.found import NAMES
 from ..model.records import Block
@@ -17,7 +17,7 @@ class PictureTexts(NamedTuple):
     missing: Set[str]
 
 
-def texts_of(blocks: Sequence[Tuple[Block, List[Field]]], wanted: Sequence[str] = WORDS) -> PictureTexts:
+def texts_of(blocks: Sequence[Tuple[Block, List[Field]]], wanted: Sequence[str] = LABEL_WORDS) -> PictureTexts:
     """The texts of a picture by its blocks, each with its fields."""
     texts: List[LabelText] = []
     missing: Set[str] = set()

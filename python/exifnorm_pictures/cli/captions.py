@@ -7,12 +7,12 @@ import os
 from typing import TYPE_CHECKING, Iterator, List
 
 from ..comparison.conflicts import best, conflicts, own_texts
-from ..fields.labels import WORDS, LabelText
+from ..fields.labels import LABEL_WORDS, LabelText
 from ..judge.reading import Reading
 from ..model.found import each_kind
 from ..model.texts import Members, escaped, shown_path
 from .columns import width
-from .each_block import status_of
+from .each_block import status_of_reading
 from .exit_codes import SUCCESS
 from .labelled import is_of_many, members, not_read, origins, pictures, refused, together
 from .names import is_list
@@ -23,16 +23,16 @@ if TYPE_CHECKING:
     from .tables import Cell
 
 _OWN = "a camera's or a program's own text"
-_WIDTH = max(map(len, WORDS)) + 1
+_WIDTH = max(map(len, LABEL_WORDS)) + 1
 
 
 def run(arguments: argparse.Namespace) -> int:
     """Lists captions of Exif, IPTC and XMP."""
     worst = SUCCESS
-    table = table_of(arguments, ["picture", *WORDS, "camera's text", "contradicts itself", "not read"])
+    table = table_of(arguments, ["picture", *LABEL_WORDS, "camera's text", "contradicts itself", "not read"])
     has_heads = is_list(arguments, arguments.pictures) or is_of_many(os.fsencode(arguments.pictures[0]))
     for reading in pictures(arguments):
-        worst = max(worst, status_of(reading))
+        worst = max(worst, status_of_reading(reading))
         if table:
             table.row(*_row(reading))
         elif arguments.json:
@@ -46,7 +46,7 @@ def run(arguments: argparse.Namespace) -> int:
 def _row(reading: Reading) -> List[Cell]:
     """A row of a table: the text of each label, of several standards one that is whole, and no camera's."""
     known = conflicts(reading.texts)
-    texts = [best([one for one in reading.texts if one.label == word], known) for word in WORDS]
+    texts = [best([one for one in reading.texts if one.label == word], known) for word in LABEL_WORDS]
     problem = [f"{reading.problem}: {reading.detail}"] if reading.problem else []
     unread = "; ".join([*problem, *refused(reading), *each_kind(not_read(reading))])
     return [reading.name, *texts, "; ".join(own_texts(reading.texts)), "; ".join(one.label for one in known if one.is_real), unread]
@@ -58,7 +58,7 @@ def _lines(reading: Reading) -> Iterator[str]:
         return
     yield from refused(reading)
     known = {one.label: one for one in conflicts(reading.texts)}
-    for word in WORDS:
+    for word in LABEL_WORDS:
         conflict = known.get(word)
         mark = f"   <- {conflict.detail or 'they differ'}" if conflict and not conflict.is_alike else ""
         for ours in together([one for one in reading.texts if one.label == word]):

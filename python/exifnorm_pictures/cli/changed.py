@@ -14,7 +14,7 @@ from typing import Callable, Iterable, Iterator, List
 
 from ..catalogue.store import Catalogue, NoCatalogue
 from ..comparison import changed as changes
-from ..comparison.coded import Coded, sentence
+from ..comparison.coded import Coded, sentence_of_coded
 from ..comparison.summary import Summary
 from ..comparison.wording import NONE, line_of
 from ..fields.choosing import Choice
@@ -34,7 +34,7 @@ from .output import print_line, table_of
 from .summary import lines
 
 
-class NotRead(WrongUse):
+class SidecarsDiffer(WrongUse):
     """An option says how pictures are read, and they were read by an earlier `index` without it."""
 
 
@@ -74,10 +74,10 @@ def run(arguments: argparse.Namespace) -> int:
     return status_of_results(counts)
 
 
-Found = Iterable[changes.Compared]
+Comparisons = Iterable[changes.Compared]
 
 
-def _then_noted(comparisons: Found, choice: Choice, before: Catalogue, after: Catalogue) -> Iterator[changes.Compared]:
+def _then_noted(comparisons: Comparisons, choice: Choice, before: Catalogue, after: Catalogue) -> Iterator[changes.Compared]:
     """The pictures; when all are compared, it is noted which words fit no field of them."""
     yield from comparisons
     listings = itertools.chain(listings_of(before), listings_of(after))
@@ -95,10 +95,10 @@ class _Notes:
 
     def of_pictures(self) -> List[str]:
         """A sentence, if there are pictures on both sides."""
-        return list(filter(None, [sentence(self.counts, self.pixels)])) if self.is_asked else []
+        return list(filter(None, [sentence_of_coded(self.counts, self.pixels)])) if self.is_asked else []
 
 
-def _print_each(arguments: argparse.Namespace, comparisons: Found, counts: "Counter[Result]", choice: Choice, notes: _Notes) -> None:
+def _print_each(arguments: argparse.Namespace, comparisons: Comparisons, counts: "Counter[Result]", choice: Choice, notes: _Notes) -> None:
     """Each picture with its fields."""
     with contextlib.closing(changes.Equal()) as equal:
         for comparison in comparisons:
@@ -109,7 +109,7 @@ def _print_each(arguments: argparse.Namespace, comparisons: Found, counts: "Coun
         print_line(text)
 
 
-def _print_summary(comparisons: Found, counts: "Counter[Result]", choice: Choice, notes: _Notes) -> None:
+def _print_summary(comparisons: Comparisons, counts: "Counter[Result]", choice: Choice, notes: _Notes) -> None:
     counted = Summary(choice)
     for comparison in comparisons:
         counted.add(comparison)
@@ -141,20 +141,20 @@ def _refuse_missing(*names: str) -> None:
 
 
 def _refuse_for_catalogues(arguments: argparse.Namespace) -> None:
-    """Raises `NotRead` if an option is for folders, and two catalogues are compared."""
+    """Raises `SidecarsDiffer` if an option is for folders, and two catalogues are compared."""
     given = [it for it in ("pixels", "whole") if getattr(arguments, it)]
     if given and not any(map(os.path.isdir, (arguments.before, arguments.after))):
-        raise NotRead(f"--{given[0]} is for folders: a catalogue has what index --{given[0]} read")
+        raise SidecarsDiffer(f"--{given[0]} is for folders: a catalogue has what index --{given[0]} read")
 
 
 def _go_on_with_sidecars(arguments: argparse.Namespace) -> None:
-    """A folder is read with XMP sidecars if the catalogue that it is compared with has them. Raises `NotRead`."""
+    """A folder is read with XMP sidecars if the catalogue that it is compared with has them. Raises `SidecarsDiffer`."""
     asked = arguments.sidecars
     for name in (arguments.before, arguments.after):
         if not os.path.isdir(name):
             with Catalogue(name) as catalogue:
                 if asked and not catalogue.has_sidecars() and not catalogue.is_empty():
-                    raise NotRead(f"{catalogue.name} was made without --sidecars: leave it out, or make a new catalogue")
+                    raise SidecarsDiffer(f"{catalogue.name} was made without --sidecars: leave it out, or make a new catalogue")
                 arguments.sidecars = arguments.sidecars or catalogue.has_sidecars()
 
 

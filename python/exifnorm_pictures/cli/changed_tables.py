@@ -7,7 +7,7 @@ from typing import TYPE_CHECKING, Iterable, Optional, Sequence, Tuple
 
 from ..comparison.changed import Compared
 from ..comparison.coded import Coded
-from ..comparison.differing import Difference, exact
+from ..comparison.differing import Difference, exact_side
 from ..comparison.wording import plain_sides
 from ..fields.choosing import Choice
 from ..fields.left_out import lines, members_of
@@ -23,18 +23,18 @@ from .objects import print_object
 if TYPE_CHECKING:
     from .tables import Table
 
-Found = Iterable[Compared]
+Comparisons = Iterable[Compared]
 
 _MAKER_NOTE = group_name(*MAKER_NOTE)
 HEADS = ("picture", "result", "moved to", "field", "before", "after", "exact before", "exact after", "note", "coded picture")
 
 
-def print_table(table: Table, comparisons: Found, choice: Choice) -> None:
+def print_table(table: Table, comparisons: Comparisons, choice: Choice) -> None:
     """A row for each field that differs, and one for each other picture."""
     for comparison in comparisons:
         about = (comparison.name, comparison.result, comparison.moved_to)
         for change in comparison.changes:
-            values = (None,) * 4 if change.note else (*plain_sides(change), exact(change.before), exact(change.after))
+            values = (None,) * 4 if change.note else (*plain_sides(change), exact_side(change.before), exact_side(change.after))
             table.row(*about, change.name, *values, change.note or comparison.note, comparison.picture)
         for value in comparison.maker_note or ():
             table.row(
@@ -46,7 +46,7 @@ def print_table(table: Table, comparisons: Found, choice: Choice) -> None:
         table.row(*(None,) * 8, text, None)
 
 
-def print_objects(comparisons: Found, counts: "Counter[Result]", choice: Choice, pictures: "Counter[Coded]") -> None:
+def print_objects(comparisons: Comparisons, counts: "Counter[Result]", choice: Choice, pictures: "Counter[Coded]") -> None:
     """An object for each picture, and one for all."""
     for comparison in comparisons:
         print_object("changed", "picture", _members(comparison))
@@ -95,4 +95,4 @@ def field_members(difference: Difference) -> Members:
 
 
 def _side_members(plain: Optional[str], fields: Tuple[Field, ...]) -> Optional[Members]:
-    return {"plain": plain, "exact": exact(fields), "value": together(fields)} if fields else None
+    return {"plain": plain, "exact": exact_side(fields), "value": together(fields)} if fields else None

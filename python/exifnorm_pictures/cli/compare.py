@@ -9,7 +9,7 @@ from typing import TYPE_CHECKING, Iterator, List, Optional, Sequence
 
 from ..comparison.coded import Coded
 from ..comparison.proved import head_of_file
-from ..comparison.two_pictures import Comparison, Row, compare, read, rows_of, with_position
+from ..comparison.two_pictures import ComparedPair, FieldRow, compare, read, rows_of, with_position
 from ..comparison.wording import NONE, tag_of
 from ..fields.block_fields import fields_of
 from ..fields.choosing import Choice
@@ -64,7 +64,7 @@ def _choice(arguments: argparse.Namespace, *records: Picture) -> Choice:
     return choice
 
 
-def _status(comparison: Comparison) -> int:
+def _status(comparison: ComparedPair) -> int:
     if comparison.is_identical or comparison.is_empty:
         return SUCCESS
     if any(it.problem in NO_BYTES for it in comparison.records):
@@ -75,7 +75,7 @@ def _status(comparison: Comparison) -> int:
 # The page
 
 
-def _lines(comparison: Comparison, rows: Sequence[Row], names: Sequence[bytes], exact: bool, notes: Sequence[str]) -> Iterator[str]:
+def _lines(comparison: ComparedPair, rows: Sequence[FieldRow], names: Sequence[bytes], exact: bool, notes: Sequence[str]) -> Iterator[str]:
     yield _sentence(comparison, rows)
     if comparison.is_identical:
         yield from notes
@@ -97,7 +97,7 @@ def _lines(comparison: Comparison, rows: Sequence[Row], names: Sequence[bytes], 
         yield from _table(_heads(names), rows, exact)
 
 
-def _sentence(comparison: Comparison, rows: Sequence[Row]) -> str:
+def _sentence(comparison: ComparedPair, rows: Sequence[FieldRow]) -> str:
     """The result."""
     if comparison.is_identical:
         return "The two files are identical, byte for byte."
@@ -115,7 +115,7 @@ def _sentence(comparison: Comparison, rows: Sequence[Row]) -> str:
     return f"{head}: {', and '.join(what)}." if what else f"{head}."
 
 
-def _of_pictures(comparison: Comparison, names: Sequence[bytes]) -> str:
+def _of_pictures(comparison: ComparedPair, names: Sequence[bytes]) -> str:
     """What is known of the coded pictures; nothing if only some fields are compared."""
     if comparison.has_only_fields:
         return "Only these fields were compared."
@@ -137,7 +137,7 @@ def _heads(names: Sequence[bytes]) -> List[str]:
     return [shown_path(it) for it in (short if short[0] != short[1] else names)]
 
 
-def _table(heads: Sequence[str], rows: Sequence[Row], exact: bool) -> Iterator[str]:
+def _table(heads: Sequence[str], rows: Sequence[FieldRow], exact: bool) -> Iterator[str]:
     """The fields and their values in two columns."""
     table: List[Sequence[str]] = [("", *heads)]
     for equal in (False, True):
@@ -148,7 +148,7 @@ def _table(heads: Sequence[str], rows: Sequence[Row], exact: bool) -> Iterator[s
     return columns(table, shutil.get_terminal_size((100, 24)).columns)
 
 
-def _cells(row: Row, exact: bool) -> Sequence[str]:
+def _cells(row: FieldRow, exact: bool) -> Sequence[str]:
     if row.note:
         return (row.name, escaped(row.note))
     name = f"{row.name} {tag_of(row.differences[0])}".rstrip() if exact and len(row.differences) == 1 else row.name
@@ -158,7 +158,7 @@ def _cells(row: Row, exact: bool) -> Sequence[str]:
 # --csv
 
 
-def _print_table(table: Table, comparison: Comparison, rows: Sequence[Row], names: Sequence[bytes], notes: Sequence[str]) -> None:
+def _print_table(table: Table, comparison: ComparedPair, rows: Sequence[FieldRow], names: Sequence[bytes], notes: Sequence[str]) -> None:
     """A row for each field that differs, and at the end one for each reason why the answer isn't whole."""
     for row in rows:
         table.row(row.name, *row.plain, *row.exact, row.note or ("equal number" if row.is_equal_number else None))
@@ -173,7 +173,7 @@ def _print_table(table: Table, comparison: Comparison, rows: Sequence[Row], name
 # --json
 
 
-def _members(comparison: Comparison, rows: Sequence[Row], names: Sequence[bytes], choice: Choice) -> Members:
+def _members(comparison: ComparedPair, rows: Sequence[FieldRow], names: Sequence[bytes], choice: Choice) -> Members:
     pictures = []
     for name, picture in zip(names, comparison.records):
         unread = [part.what for part in picture.unread]
@@ -193,12 +193,12 @@ def _members(comparison: Comparison, rows: Sequence[Row], names: Sequence[bytes]
     }
 
 
-def _row_members(row: Row) -> Members:
+def _row_members(row: FieldRow) -> Members:
     sides = {word: _side_members(row, side) for side, word in enumerate(("before", "after"))}
     return {"name": row.name, **sides, "equal_number": row.is_equal_number, "note": row.note or None}
 
 
-def _side_members(row: Row, side: int) -> Optional[Members]:
+def _side_members(row: FieldRow, side: int) -> Optional[Members]:
     """The value before or after; its typed form only if the row is one field."""
     if row.plain[side] is None:
         return None

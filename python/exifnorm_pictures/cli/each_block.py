@@ -6,7 +6,7 @@ import argparse
 import os
 from typing import Callable, Iterator, List, Tuple
 
-from ..extract.named import blocks_of
+from ..extract.named import blocks_of_named
 from ..judge.reading import Reading
 from ..model.found import FoundBlock, each_kind
 from ..model.records import WORDS, Block
@@ -20,7 +20,7 @@ Described = Tuple[List[str], Members]
 Describe = Callable[[bytes, FoundBlock, Block], Described]  # of a picture by its name
 
 
-def status_of(reading: Reading) -> int:
+def status_of_reading(reading: Reading) -> int:
     """The status of a command that prints the blocks or texts of a picture."""
     return UNKNOWN if reading.is_damaged else SUCCESS
 
@@ -28,7 +28,7 @@ def status_of(reading: Reading) -> int:
 def each_picture(arguments: argparse.Namespace) -> Iterator[Reading]:
     """The pictures that are named. What is printed of one is written before the next name of standard input is read."""
     yield from (
-        Reading.of(name, blocks_of(name, arguments.session, arguments.whole, arguments.block))
+        Reading.of(name, blocks_of_named(name, arguments.session, arguments.whole, arguments.block))
         for name in each_name(arguments, arguments.pictures)
     )
 
@@ -38,7 +38,7 @@ def each_block(arguments: argparse.Namespace, describer: Callable[[], Describe],
     worst = SUCCESS
     has_heads = is_list(arguments, arguments.pictures)
     for reading in each_picture(arguments):
-        worst = max(worst, status_of(reading))
+        worst = max(worst, status_of_reading(reading))
         _print(arguments, reading, [f"== {shown_path(reading.name)}"] if has_heads else [], describer(), refused_too)
     return worst
 

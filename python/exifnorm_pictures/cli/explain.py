@@ -31,7 +31,7 @@ def run(arguments: argparse.Namespace) -> int:
             return [line], block_members(block)
         mended = None if arguments.block else tried(name)
         explained = explain.explain_packet(block) if block.kind == XMP else explain.explain(block.kind, at.data)
-        explained.is_without_remedy = mended is not None and mended.step == mend.NONE
+        explained.is_without_remedy = mended is not None and mended.remedy == mend.Remedy.NONE
         members = {**with_kind(explained.members()), "repair": [one._asdict() for one in block.steps], "mend": _members(mended)}
         return [line, *explained.lines()[1:], *_repair(block), *_lines(mended)], members
 
@@ -48,14 +48,14 @@ def _tried(session: Session, name: bytes) -> Optional[mend.Mended]:
 
 
 def _lines(tried: Optional[mend.Mended]) -> List[str]:
-    if tried is None or tried.step == mend.NONE:
+    if tried is None or tried.remedy == mend.Remedy.NONE:
         return []
     values = f"{len(tried.lost)} printed value{'s' * (len(tried.lost) != 1)} lost or changed"
-    return [f"  Tried: mend makes a copy: {mend.STEP_WORDS[tried.step]}; {values}"]
+    return [f"  Tried: mend makes a copy: {tried.remedy.text}; {values}"]
 
 
 def _members(tried: Optional[mend.Mended]) -> Optional[Members]:
-    return None if tried is None else {"step": tried.step, "lost": tried.lost, "gained": tried.gained}
+    return None if tried is None else {"step": tried.remedy, "lost": tried.lost, "gained": tried.gained}
 
 
 def _repair(block: Block) -> List[str]:

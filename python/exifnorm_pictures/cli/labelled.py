@@ -6,7 +6,7 @@ import argparse
 import os
 from typing import Dict, Iterator, List, Sequence
 
-from ..extract.named import blocks_of
+from ..extract.named import blocks_of_named
 from ..fields.labels import LabelText
 from ..fields.block_fields import with_fields
 from ..files import opening
@@ -78,7 +78,7 @@ def _in_folder(arguments: argparse.Namespace, folder: bytes) -> Iterator[Reading
 
 
 def _reading(arguments: argparse.Namespace, name: bytes) -> Reading:
-    return Reading.of(name, blocks_of(name, arguments.session, arguments.whole, arguments.block))
+    return Reading.of(name, blocks_of_named(name, arguments.session, arguments.whole, arguments.block))
 
 
 def refused(reading: Reading) -> List[str]:

@@ -64,7 +64,7 @@ def _mend_one(arguments: argparse.Namespace, picture: bytes, out: bytes) -> Tupl
     output(arguments, _mended_lines(picture, mended), _mended_members(picture, mended))
     if not mended.is_written:
         return UNKNOWN, "not mended"
-    result = "plain" if mended.step == mend.COPY else "lossy" if mended.lost else "lossless"
+    result = "plain" if mended.remedy == mend.Remedy.COPY else "lossy" if mended.lost else "lossless"
     return UNKNOWN if mended.damage else DIFFERENCE if mended.lost else SUCCESS, result
 
 
@@ -110,11 +110,10 @@ def _mended_lines(picture: bytes, mended: mend.Mended) -> List[str]:
         return [f"{name}: {mended.problem}"]
     before = "; ".join(f"{name} {line}" for name, line in mended.before.items())
     lines = [
-        f"{name}: {before + ': ' if before else ''}{mend.STEP_WORDS[mended.step]}"
-        + (f": {steps.words(mended.repairs)}" if mended.repairs else "")
+        f"{name}: {before + ': ' if before else ''}{mended.remedy.text}" + (f": {steps.words(mended.repairs)}" if mended.repairs else "")
     ]
     lines += [f"  not wholly read, and not mended: {it}" for it in mended.damage]
-    if mended.step not in (mend.NONE, mend.COPY):
+    if mended.remedy not in (mend.Remedy.NONE, mend.Remedy.COPY):
         lines += ["  not written, for --lossless"] * (not mended.is_written)
         lines.append(f"  {len(mended.lost)} printed values lost or changed")
         lines += [f"  - {it}" for it in mended.lost] + [f"  + {it}" for it in mended.gained]
@@ -122,7 +121,7 @@ def _mended_lines(picture: bytes, mended: mend.Mended) -> List[str]:
 
 
 def _mended_members(picture: bytes, mended: mend.Mended) -> Members:
-    known: Members = {"step": mended.step, "before": mended.before, "lost": mended.lost, "gained": mended.gained}
+    known: Members = {"step": mended.remedy, "before": mended.before, "lost": mended.lost, "gained": mended.gained}
     repaired = [it._asdict() for it in mended.repairs]
     known = {**known, "repairs": repaired, "damage": mended.damage, "written": mended.is_written}
     return {**path_members(picture), **known, **({"problem": mended.problem} if mended.problem else {})}

@@ -12,7 +12,7 @@ from ..files import signals
 from ..files.opening import reading
 from ..model.errors import WrongUse
 from ..model.texts import shown_path
-from ..scan.walk import BadList, listed
+from ..scan.walk import BadList, names_in_list
 from .parser import refuse
 
 
@@ -21,7 +21,7 @@ def each_of_list(arguments: argparse.Namespace) -> Iterator[bytes]:
     if arguments.null and not arguments.files_from:
         refuse(arguments.command, "-0 is for the names of --files-from")
     if arguments.files_from:
-        yield from listed(arguments.files_from, arguments.null, sys.stdout.flush)
+        yield from names_in_list(arguments.files_from, arguments.null, sys.stdout.flush)
 
 
 def from_list(arguments: argparse.Namespace) -> Optional[List[bytes]]:

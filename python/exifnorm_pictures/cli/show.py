@@ -17,7 +17,7 @@ from ..model.found import PROGRAMS, FoundBlock, each_kind
 from ..model.records import Block
 from ..model.texts import Members, escaped
 from .columns import width
-from .each_block import Described, each_block, each_picture, status_of
+from .each_block import Described, each_block, each_picture, status_of_reading
 from .exit_codes import SUCCESS
 from .objects import block_object, picture_object, print_object
 from .output import table_of
@@ -33,7 +33,7 @@ def run(arguments: argparse.Namespace) -> int:
     worst = SUCCESS
     table = table_of(arguments, ["picture", "block", "field", "key", "type", "count", "value", "exact value", "note"])
     for reading in each_picture(arguments):
-        worst = max(worst, status_of(reading))
+        worst = max(worst, status_of_reading(reading))
         if table:
             _print_rows(table, reading)
         else:

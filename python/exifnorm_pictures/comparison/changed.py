@@ -25,8 +25,8 @@ from ..model.records import Block, Picture, is_same_file
 from ..model.results import Result
 from ..model.sides import REACHED
 from ..model.steps import Step
-from ..model.verdicts import Verdict, left_open, result_of, sentence, verdicts
-from .coded import Coded, result_of as result_of_coded
+from ..model.verdicts import Verdict, left_open, result_of, sentence_of_verdicts, verdicts
+from .coded import Coded, coded_result as result_of_coded
 from .differing import Difference, differences
 from .pairs import AFTER, BEFORE, Pair, Pairs
 
@@ -44,7 +44,7 @@ class Compared:
     changes: List[Difference] = field(default_factory=list)
     verdicts: List[Verdict] = field(default_factory=list)
     moved_to: Optional[bytes] = None
-    maker_note: "Optional[List[maker_notes.Difference]]" = None  # the values that ExifTool reads otherwise, if it was asked
+    maker_note: "Optional[List[maker_notes.NoteDifference]]" = None  # the values that ExifTool reads otherwise, if it was asked
     repairs: List[Tuple[str, Tuple[Step, ...], Tuple[Step, ...]]] = field(default_factory=list)  # of each block, before and after
     left_out: List[str] = field(default_factory=list)  # fields and kinds that differ and don't count
     picture: Coded = Coded.UNKNOWN  # what is known of the coded picture
@@ -165,9 +165,9 @@ def _judge_maker_notes(
         return parts
     from ..judge import maker_notes  # which is seldom needed
 
-    notes = maker_notes.compared(session, pairs, old, new) if session else None
+    notes = maker_notes.compared_notes(session, pairs, old, new) if session else None
     if notes is None:
-        gone = [word for word, picture in (("earlier", old), ("later", new)) if session and not maker_notes.is_there(picture)]
+        gone = [word for word, picture in (("earlier", old), ("later", new)) if session and not maker_notes.is_as_it_was(picture)]
         if gone:
             note = f"differs in bytes, the {' and the '.join(gone)} picture {'is' if len(gone) == 1 else 'are'} gone or changed"
             comparison.changes = [change._replace(note=note) if change in lines else change for change in comparison.changes]
@@ -205,7 +205,9 @@ def _judge_maker_notes(
     return parts
 
 
-def _in_doubt(comparison: Compared, lines: List[Difference], moved: bool, notes: "maker_notes.Compared", parts: List[str]) -> List[str]:
+def _in_doubt(
+    comparison: Compared, lines: List[Difference], moved: bool, notes: "maker_notes.ComparedNotes", parts: List[str]
+) -> List[str]:
     """A MakerNote of which no value differs, though that may mean nothing. Returns the parts that stay open."""
     has_moved = "has moved, " * moved
     comparison.changes = [
@@ -232,7 +234,7 @@ def _read_otherwise(comparison: Compared, lines: List[Difference], moved: bool) 
 _OF_EXIF = ("main", "exif", "interop", "gps", "thumb")
 
 
-_sentence = functools.lru_cache(maxsize=1000)(sentence)  # an archive's pictures have few different ones
+_sentence = functools.lru_cache(maxsize=1000)(sentence_of_verdicts)  # an archive's pictures have few different ones
 
 
 def _extracted(blocks: Iterable[Block]) -> str:

@@ -30,7 +30,7 @@ class Coded(Word):
     UNKNOWN = ("not compared", "Only metadata was compared: there is no reader here for pictures of this format.")
 
 
-# The same as `result_of`, for the rows `old` and `new` of two catalogues
+# The same as `coded_result`, for the rows `old` and `new` of two catalogues
 SQL = f"""CASE WHEN new.damage != '' AND old.damage = '' THEN '{Coded.DAMAGED}' WHEN new.damage != '' THEN '{Coded.DAMAGED_BOTH}'
     WHEN old.type != new.type THEN '{Coded.UNKNOWN}' WHEN old.damage != '' THEN '{Coded.OTHER}' WHEN old.coded_picture != '' AND new.coded_picture != ''
     THEN CASE WHEN old.coded_picture = new.coded_picture THEN '{Coded.SAME}' ELSE '{Coded.OTHER}' END
@@ -44,7 +44,7 @@ class CodedResult(NamedTuple):
     note: str = ""
 
 
-def result_of(picture: Optional[Picture], other: Optional[Picture]) -> CodedResult:
+def coded_result(picture: Optional[Picture], other: Optional[Picture]) -> CodedResult:
     """Whether two files have the same coded picture. One that is damaged later on is no other picture, and isn't the same either."""
     if picture is None or other is None:
         return CodedResult()
@@ -61,7 +61,7 @@ def result_of(picture: Optional[Picture], other: Optional[Picture]) -> CodedResu
     return CodedResult(Coded.SAME if picture.sha256 and picture.sha256 == other.sha256 else Coded.UNKNOWN)
 
 
-def sentence(counts: "Counter[Coded]", pixels: str = "index --pixels") -> str:
+def sentence_of_coded(counts: "Counter[Coded]", pixels: str = "index --pixels") -> str:
     """What was compared of some pictures, in a sentence; nothing without any."""
     if not sum(counts.values()):
         return ""

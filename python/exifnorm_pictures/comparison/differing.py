@@ -48,10 +48,10 @@ class Difference(NamedTuple):
         ]
 
 
-def exact(fields: Sequence[Field]) -> Optional[str]:
+def exact_side(fields: Sequence[Field]) -> Optional[str]:
     """The exact values of a field with their types; None without any.
 
-    >>> exact([Field("main", "013b", "ASCII", 5, b"Otto\\0")])
+    >>> exact_side([Field("main", "013b", "ASCII", 5, b"Otto\\0")])
     'ascii[5] "Otto"'
     """
     return ", ".join(f"{counted_type(it)} {shortened(listing.exact(it))}" for it in fields) if fields else None
@@ -60,7 +60,7 @@ def exact(fields: Sequence[Field]) -> Optional[str]:
 def bare(fields: Sequence[Field]) -> Optional[str]:
     """The exact values of a field, with their types unless they are texts; None without any."""
     texts = ("ASCII", "octets", "text", "URI")
-    return ", ".join(shortened(listing.exact(it)) if it.type in texts else exact([it]) or "" for it in fields) if fields else None
+    return ", ".join(shortened(listing.exact(it)) if it.type in texts else exact_side([it]) or "" for it in fields) if fields else None
 
 
 def equal_form(field: Field) -> Tuple[object, ...]:

@@ -7,7 +7,7 @@ from typing import Dict, List, Sequence
 from ..model.found import EXIF, NAMES, XMP
 from ..model.records import KINDS, Picture
 from ..model.results import Result
-from ..model.verdicts import clause, listed, none_of
+from ..model.verdicts import clause, with_verb, none_of
 from .group import Basis, Group
 
 
@@ -36,7 +36,7 @@ def _of_kinds(group: Group) -> str:
     refused = [it for it in shared.kinds if any(picture.meanings[KINDS.index(it)] is None for picture in group.members)]
     there = [it for it in shared.kinds if by_kind[it] != "" and it not in refused]
     names = {it: NAMES[it] + " but for the MakerNote" * (it == EXIF and group.has_other_notes) for it in shared.kinds}
-    parts = [f"{listed([names[it] for it in there])} the same" + " in the same bytes" * group.same_bytes] if there else []
+    parts = [f"{with_verb([names[it] for it in there])} the same" + " in the same bytes" * group.same_bytes] if there else []
     for kind in refused:
         word = Result.UNREADABLE if kind == XMP else Result.REFUSED
         is_by_bytes = group.basis == Basis.BYTES or kind != EXIF

@@ -226,9 +226,9 @@ def _fields_of(catalogue: Catalogue, group: Group, choice: Choice) -> Optional[i
     for block in [] if group.members[0].file else catalogue.blocks_of(group.members[0]):
         if block.kind not in group.shared.kinds:
             continue
-        if not block.packed:
+        if not block.fields:
             return None
-        count += len(choice.of(unpacked(block.packed), "" if block.name in NAMES.values() else block.name))
+        count += len(choice.of(unpacked(block.fields), "" if block.name in NAMES.values() else block.name))
     return None if group.members[0].file else count
 
 

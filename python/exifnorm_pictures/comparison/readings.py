@@ -54,7 +54,7 @@ class Read(NamedTuple):
     is_in_doubt: bool
 
     @classmethod
-    def of(cls, reading: "maker_notes.Reading") -> "Read":
+    def of(cls, reading: "maker_notes.NotesReading") -> "Read":
         return cls(reading.key, bool(reading.doubt))
 
 
@@ -74,7 +74,7 @@ class Readings:
 
         wanted = [it for it in pictures if it.id not in self._known] if self.look else []
         for picture in wanted:
-            kept = self.catalogue.maker_notes(picture, maker_notes.unpacked)
+            kept = self.catalogue.maker_notes(picture, maker_notes.unpacked_reading)
             if kept is not None:
                 self._known[picture.id] = Read.of(kept)
         asked = [it for it in wanted if it.id not in self._known]

@@ -16,7 +16,7 @@ from .wording import What, cut, what
 VALUES = 50  # values of a field that are counted one by one
 FIELDS = 1000  # fields that are counted one by one, besides those with a label of `captions`
 PARTS = 200  # blocks and directories that are counted one by one
-NAMES = 3  # pictures of a result that are named
+MOST_NAMES = 3  # pictures of a result that are named
 FEW = 6  # fields of a block that came, which are counted like others
 LONGEST_NAME = 100  # characters of a field's name
 
@@ -121,7 +121,7 @@ class Summary:
     def add(self, comparison: Compared) -> None:
         """Counts a picture that was compared."""
         names = self.pictures.setdefault(comparison.result, [])
-        if len(names) < NAMES:
+        if len(names) < MOST_NAMES:
             names.append((comparison.name, comparison.moved_to or b""))
         equal = [one for one in comparison.changes if one.is_equal_number]
         self.equal_pictures += bool(equal)

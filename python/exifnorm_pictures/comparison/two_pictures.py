@@ -12,7 +12,7 @@ from ..fields.block_fields import fields_of
 from ..fields.choosing import EVERYTHING, Choice
 from ..fields.listing import MAKER_NOTE, Field
 from ..fields.plain_names import group_name
-from ..fields.plain_values import POSITION, plain, position
+from ..fields.plain_values import POSITION_TAGS, plain, position
 from ..files.session import Session
 from ..judge.sides import Fresh
 from ..model.found import EXIF, IPTC, NAMES
@@ -24,14 +24,14 @@ from ..scan.looking import look
 from ..scan.walk import FoundFile
 from . import proved
 from .changed import Compared, compared
-from .differing import Difference, exact
+from .differing import Difference, exact_side
 from .pairs import Pair
 
 
 Heads = Tuple[Optional[bytes], Optional[bytes]]
 
 
-class Row(NamedTuple):
+class FieldRow(NamedTuple):
     """A field that differs; a side is None if the field isn't there."""
 
     name: str
@@ -47,7 +47,7 @@ class Row(NamedTuple):
 
 
 @dataclass
-class Comparison:
+class ComparedPair:
     """Two pictures, and what `changed` finds."""
 
     records: Tuple[Picture, Picture]
@@ -94,13 +94,13 @@ def read(name: bytes, how: How, session: Session) -> Picture:
 
 def compare(
     picture: Picture, other: Picture, session: Optional[Session], choice: Choice = EVERYTHING, heads: Heads = (None, None)
-) -> Comparison:
+) -> ComparedPair:
     """Compares two pictures that were read with the digests of their files, by the fields that count. In a session ExifTool is asked for the
     values of MakerNotes. `heads` are the heads of two JPEGs, for the proved comparison."""
     by_metadata = compared(Pair(os.path.basename(picture.path), picture, other, None), Fresh(), session, choice)
     is_identical = bool(picture.sha256) and picture.sha256 == other.sha256
     answer = None if choice else _proved(by_metadata, heads)
-    return Comparison((picture, other), by_metadata, is_identical, bool(choice.only), answer)
+    return ComparedPair((picture, other), by_metadata, is_identical, bool(choice.only), answer)
 
 
 def _proved(comparison: Compared, heads: Heads) -> Optional[Result]:
@@ -115,7 +115,7 @@ def _proved(comparison: Compared, heads: Heads) -> Optional[Result]:
 # The rows of the table
 
 
-def rows_of(comparison: Comparison, each: bool) -> List[Row]:
+def rows_of(comparison: ComparedPair, each: bool) -> List[FieldRow]:
     """A row for each change; those of equal numbers at the end, and then, with `each`, one for each value of a MakerNote that ExifTool reads
     otherwise."""
     if comparison.is_identical:
@@ -125,39 +125,42 @@ def rows_of(comparison: Comparison, each: bool) -> List[Row]:
     return rows + (_note_rows(comparison.found) if each else [])
 
 
-def _note_rows(comparison: Compared) -> List[Row]:
+def _note_rows(comparison: Compared) -> List[FieldRow]:
     """A row for each value of a MakerNote that ExifTool reads otherwise."""
     name = group_name(*MAKER_NOTE)
     values = [(it.name, (it.before, it.after)) for it in comparison.maker_note or ()]
-    return [Row(f"{name} {word}", both, both) for word, both in values]
+    return [FieldRow(f"{name} {word}", both, both) for word, both in values]
 
 
-def _place(row: Row) -> int:
+def _place(row: FieldRow) -> int:
     where = row.differences[0].where if row.differences else "exif"
     return KINDS.index({"iptc": KINDS[1], "xmp": KINDS[2]}.get(where, KINDS[0]))
 
 
-def _row(difference: Difference) -> Row:
-    both = [exact(side) for side in (difference.before, difference.after)]
+def _row(difference: Difference) -> FieldRow:
+    both = [exact_side(side) for side in (difference.before, difference.after)]
     values = both if difference.note else ["; ".join(map(plain, side)) if side else None for side in (difference.before, difference.after)]
     if values[0] == values[1]:  # what people see is equal, and what is there isn't
         values = both
-    return Row(difference.name, (values[0], values[1]), (both[0], both[1]), (difference,), difference.note)
+    return FieldRow(difference.name, (values[0], values[1]), (both[0], both[1]), (difference,), difference.note)
 
 
-def with_position(rows: List[Row], picture: Picture, other: Picture) -> List[Row]:
+def with_position(rows: List[FieldRow], picture: Picture, other: Picture) -> List[FieldRow]:
     """The rows with the four fields of a position as one, in degrees, if both positions are known."""
     ours = [
         row
         for row in rows
-        if row.differences and row.differences[0].where == "gps" and row.differences[0].key in POSITION and not row.differences[0].block
+        if row.differences
+        and row.differences[0].where == "gps"
+        and row.differences[0].key in POSITION_TAGS
+        and not row.differences[0].block
     ]
     places = [_position(it) for it in (picture, other)]
     if not ours or places[0] == places[1] or any(place is None and has for place, has in zip(places, map(_has_position, (picture, other)))):
         return rows
     exact = [None if place is None else "; ".join(f"{it.name} {it.exact[side]}" for it in ours) for side, place in enumerate(places)]
     every = tuple(one for it in ours for one in it.differences)
-    row = Row("Composite:GPSPosition", (places[0], places[1]), (exact[0], exact[1]), every)
+    row = FieldRow("Composite:GPSPosition", (places[0], places[1]), (exact[0], exact[1]), every)
     at = rows.index(ours[0])
     return [*(it for it in rows[:at] if it not in ours), row, *(it for it in rows[at:] if it not in ours)]
 
@@ -167,7 +170,7 @@ def _gps(picture: Picture) -> Dict[str, Field]:
 
 
 def _has_position(picture: Picture) -> bool:
-    return any(key in POSITION for key in _gps(picture))
+    return any(key in POSITION_TAGS for key in _gps(picture))
 
 
 def _position(picture: Picture) -> Optional[str]:

@@ -13,7 +13,7 @@ from ..fields import listing
 from ..fields.listing import MAKER_NOTE, Field
 from ..fields.plain_texts import quoted, text_of, xmp_texts
 from ..fields.plain_values import in_line, plain
-from .differing import Difference, exact
+from .differing import Difference, exact_side
 
 NONE = "(none)"  # in place of a value that isn't there
 WIDEST = 60  # characters of a value in a summary
@@ -41,7 +41,7 @@ def sides(difference: Difference, exactly: bool = False) -> Tuple[Optional[str],
     """
     plain = [", ".join(map(in_line, one)) if one else None for one in (difference.before, difference.after)]
     if exactly or plain[0] == plain[1]:
-        return exact(difference.before), exact(difference.after)
+        return exact_side(difference.before), exact_side(difference.after)
     return plain[0], plain[1]
 
 
@@ -52,7 +52,7 @@ def plain_sides(difference: Difference) -> Tuple[Optional[str], Optional[str]]:
     (None, 'Otto')
     """
     values = ["; ".join(map(plain, one)) if one else None for one in (difference.before, difference.after)]
-    return (values[0], values[1]) if values[0] != values[1] else (exact(difference.before), exact(difference.after))
+    return (values[0], values[1]) if values[0] != values[1] else (exact_side(difference.before), exact_side(difference.after))
 
 
 def line_of(difference: Difference, exactly: bool = False) -> str:
@@ -84,7 +84,7 @@ def what(difference: Difference) -> What:
     if not before:
         return What(_key(difference.after), f" -> {cut(after or '')}", example=f"-> {cut(after or '', 34)}")
     change, example = apart(before, after or "", WIDEST), apart(before, after or "", 30)
-    return What(_key(difference.after), f" -> {cut(after or '')}", _key(difference.before), f": {change}", example, step(difference))
+    return What(_key(difference.after), f" -> {cut(after or '')}", _key(difference.before), f": {change}", example, shift(difference))
 
 
 def _key(fields: Sequence[Field]) -> bytes:
@@ -158,11 +158,11 @@ def _members(fields: Sequence[Field]) -> Optional[List[str]]:
 _DATE = re.compile(r"(\d{4})[:-](\d\d)[:-](\d\d)[ T](\d\d):(\d\d)(?::(\d\d))?(.*)", re.S)
 
 
-def step(difference: Difference) -> str:
+def shift(difference: Difference) -> str:
     """How much later or earlier a date is; empty for a field that is no date.
 
     >>> first, second = (Field("main", "0132", "ASCII", 20, b"2020:01:0%d 10:00:00\\0" % day) for day in (1, 2))
-    >>> step(Difference("main", "0132", (first,), (second,)))
+    >>> shift(Difference("main", "0132", (first,), (second,)))
     '1 day later'
     """
     matches = [_DATE.fullmatch(text_of(side[0]) or "") if len(side) == 1 else None for side in (difference.before, difference.after)]

@@ -7,7 +7,7 @@ import sqlite3
 from typing import Dict, Iterable, Iterator, List, Tuple
 
 from ..files import signals
-from ..model.budgets import STEPS, WAITING_BYTES
+from ..model.budgets import SQL_STEPS, WAITING_BYTES
 from ..model.errors import Failure
 
 APPLICATION = 0x45584E54  # 'EXNT', which distinguishes an export from a catalogue and from other SQLite files
@@ -174,7 +174,7 @@ def tables(file: str) -> Iterator[Tables]:
             f"cache_size = -{_CACHE}",
         ):
             base.execute(f"PRAGMA {pragma}")
-        base.set_progress_handler(lambda: 0, STEPS)  # lets Python heed a signal while an index is made
+        base.set_progress_handler(lambda: 0, SQL_STEPS)  # lets Python heed a signal while an index is made
         base.executescript(SCHEMA)
         base.execute("BEGIN")
         written = Tables(base)

@@ -20,7 +20,7 @@ from .formats import jpeg
 from .formats.streams import File, Parts
 
 
-def blocks_of(path: bytes, whole: bool = False, session: Optional[Session] = None) -> Blocks:
+def blocks_of_file(path: bytes, whole: bool = False, session: Optional[Session] = None) -> Blocks:
     """All blocks of one file, unchanged, and the parts that were not read. A file that can't be read has a problem and no blocks.
 
     Of a JPEG the head, the tail and the pictures of its MPF index are read; with `whole` also everything between. ExifTool reads
@@ -47,7 +47,7 @@ def blocks_of(path: bytes, whole: bool = False, session: Optional[Session] = Non
 def blocks_in(file: Parts, path: bytes, whole: bool = False, session: Optional[Session] = None) -> Blocks:
     """The blocks of a file that is open, which is closed then. The ending of its name shows what a sidecar or a raw picture is.
 
-    Raises what `blocks_of` raises, `OSError` and `TooMuch`.
+    Raises what `blocks_of_file` raises, `OSError` and `TooMuch`.
     """
     if session is None:
         with Session() as own:

@@ -15,11 +15,11 @@ from . import extraction, programs
 LONGEST = LIMIT + 7  # bytes of a block that are read: one more than any block and its six bytes in front can have
 
 
-def blocks_of(name: bytes, session: Session, whole: bool = False, is_block: bool = False) -> Blocks:
+def blocks_of_named(name: bytes, session: Session, whole: bool = False, is_block: bool = False) -> Blocks:
     """The blocks of a picture, or the file as a block by itself."""
     if not is_block:
         try:
-            return extraction.blocks_of(name, whole, session)
+            return extraction.blocks_of_file(name, whole, session)
         except programs.Failed as error:
             return Blocks(problem=Problem.TOO_SLOW if isinstance(error, programs.TooSlow) else Problem.TOOL_FAILED, detail=str(error))
         except programs.Missing as error:

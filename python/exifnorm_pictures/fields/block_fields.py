@@ -29,19 +29,19 @@ class Fields:
             from . import normal_form, xmp_properties  # which load the library and the reader of XML, and a catalogue's fields need neither
 
             source = self._source
-            self._made = normal_form.fields(source) if isinstance(source, bytes) else xmp_properties.fields(source)
+            self._made = normal_form.fields_of_form(source) if isinstance(source, bytes) else xmp_properties.fields_of_statements(source)
         return self._made
 
 
 def fields_of(block: Block) -> List[Field]:
     """The fields of a block; none of one that has no meaning, or in a catalogue that doesn't have them. Raises `Damaged`."""
-    if isinstance(block.made, Fields):
-        return block.made.all()
-    return unpacked(block.packed) if block.packed else []
+    if isinstance(block.fresh, Fields):
+        return block.fresh.all()
+    return unpacked(block.fields) if block.fields else []
 
 
 def with_fields(blocks: Sequence[Block]) -> List[Tuple[Block, List[Field]]]:
     """The blocks of a picture of a catalogue, each with its fields. Raises `Damaged`, also if they are more than `index` keeps."""
-    if sum(length(it.packed) for it in blocks if it.packed) > KEPT_BYTES:
+    if sum(length(it.fields) for it in blocks if it.fields) > KEPT_BYTES:
         raise Damaged("the fields of a picture are too long")
     return [(it, fields_of(it)) for it in blocks]

@@ -9,7 +9,7 @@ import functools
 import re
 from typing import Dict, Iterable, Iterator, List, NamedTuple, Optional, Sequence, Set, Tuple
 
-from ..model.xmp_values import Long, texts
+from ..model.xmp_values import Long, texts_in
 from .listing import Field
 from .own_texts import is_own
 from .plain_names import group_name, plain_name
@@ -50,7 +50,7 @@ LABELS = (
     Label("usage terms", "", "", "xmpRights:UsageTerms"),
 )
 COMMENT, DATE = "comment", "date created"
-WORDS = (*(it.word for it in LABELS), COMMENT)
+LABEL_WORDS = (*(it.word for it in LABELS), COMMENT)
 # Texts that Windows writes beside the others, in UTF-16. They are shown, and nothing is compared with them.
 WINDOWS = {"9c9b": "title", "9c9c": COMMENT, "9c9d": "creator", "9c9e": "keywords", "9c9f": "title"}
 
@@ -280,7 +280,7 @@ def _text(values: Optional[Sequence[bytes]]) -> str:
 
 def _of_properties(fields: Sequence[Field]) -> Iterator[LabelText]:
     """The texts of a packet, by its properties."""
-    by_key = {it.key: tuple(text.strip() for value in it.value for text in texts(value)) for it in fields}  # type: ignore[arg-type]
+    by_key = {it.key: tuple(text.strip() for value in it.value for text in texts_in(value)) for it in fields}  # type: ignore[arg-type]
     for label in LABELS:
         if label.xmp in by_key:
             values = by_key[label.xmp]

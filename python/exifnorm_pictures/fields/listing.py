@@ -34,7 +34,7 @@ class Field(NamedTuple):
     - bytes of BYTE, ASCII, SBYTE, UNDEFINED and UTF8, and `octets` of IPTC and of the thumbnail: bytes
     - SHORT, LONG, WHOLE, SSHORT and SLONG: a tuple of numbers; FLOAT and DOUBLE: a tuple of bit patterns
     - RATIONAL and SRATIONAL: a tuple of pairs, numerator and denominator
-    - XMP: a tuple of its values, of which there is one but for rare RDF: `Literal`, `Resource`, `Array` or `Structure`
+    - XMP: a tuple of its values, of which there is one but for rare RDF: `Literal`, `Uri`, `Array` or `Structure`
     - `Long` in place of a value that is too long to be kept
     """
 

@@ -14,10 +14,10 @@ from .listing import OCTETS, Field, digest_of
 _LEAST = 5  # bytes of a field: the head of an empty DataSet
 
 
-def fields(form: bytes) -> List[Field]:
+def fields_of_form(form: bytes) -> List[Field]:
     """The fields of a normal form, in the order of a listing.
 
-    >>> fields(b"\\x1c\\x02\\x78\\x00\\x04Vase")
+    >>> fields_of_form(b"\\x1c\\x02\\x78\\x00\\x04Vase")
     [Field(where='iptc', key='2:120', type='octets', elements=4, value=b'Vase')]
     """
     each = places(form)

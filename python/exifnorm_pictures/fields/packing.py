@@ -19,7 +19,7 @@ from typing import Any, Callable, List, NamedTuple, Optional, Sequence
 
 from ..model.budgets import FIELD_BYTES
 from ..model.columns import Damaged
-from ..model.xmp_values import Array, Literal, Long, Resource, Structure, XmpValue
+from ..model.xmp_values import Array, Literal, Long, Uri, Structure, XmpValue
 from .listing import LONGEST_BYTES, MAKER_NOTE, OCTETS, Field, Value, digest_of, kept_value, plain_text
 
 _SHORTEST = 200  # characters of a list that compression makes longer, or hardly shorter
@@ -120,7 +120,7 @@ def _json_of_property(value: XmpValue) -> str:
         if not value.language and not value.datatype:
             return _quoted(value.text)
         return f"[{_quoted(value.text)},{_quoted(value.language)}" + (f",{_quoted(value.datatype)}]" if value.datatype else "]")
-    if isinstance(value, Resource):
+    if isinstance(value, Uri):
         return f'{{"uri":{_quoted(value.uri)}}}'
     if isinstance(value, Array):
         return f'{{"{value.kind}":[{",".join(map(_json_of_property, value.members))}]}}'
@@ -199,7 +199,7 @@ def _property(value: Any) -> XmpValue:
     if word == "fields":
         return Structure(tuple([(_text(name), _property(one)) for name, one in first]))
     if word == "uri":
-        return Resource(_text(first))
+        return Uri(_text(first))
     if word == "sha256":
         return Long(_text(first), _text(*others))
     if word not in ("Alt", "Bag", "Seq") or more:

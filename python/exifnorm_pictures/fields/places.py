@@ -6,7 +6,7 @@ import re
 from fractions import Fraction
 from typing import Dict, Iterable, NamedTuple, Optional
 
-from ..model.xmp_values import texts
+from ..model.xmp_values import texts_in
 from .listing import Field
 from .plain_numbers import degrees
 from .plain_texts import text_of
@@ -72,7 +72,7 @@ def _of_xmp(field: Optional[Field], signs: str) -> Optional[Fraction]:
     """An angle of XMP: `54,59,22.8N` or `54,59.38N` (XMP part 2, 8.7.5)."""
     if field is None or not isinstance(field.value, tuple):
         return None
-    text = next(iter(texts(field.value[0])), "").strip()  # type: ignore[arg-type]
+    text = next(iter(texts_in(field.value[0])), "").strip()  # type: ignore[arg-type]
     match = re.fullmatch(r"(\d{1,3}),(\d{1,2}(?:\.\d+)?)(?:,(\d{1,2}(?:\.\d+)?))?([NSEW])", text)
     if match is None or match[4] not in signs:
         return None

@@ -183,7 +183,7 @@ def _without_words(field: Field) -> str:
 
 
 _HALVES = (("0001", "0002"), ("0003", "0004"))
-POSITION = tuple(key for half in _HALVES for key in half)  # the tags of the four fields
+POSITION_TAGS = tuple(key for half in _HALVES for key in half)  # the tags of the four fields
 
 
 def position(fields: Dict[str, Field]) -> Optional[str]:

@@ -36,7 +36,7 @@ class With:
 
 
 @dataclass(frozen=True)
-class Compared:
+class Condition:
     """Pictures of which a text of this label compares so. `!=` is `Not` of `=`."""
 
     label: str
@@ -65,7 +65,7 @@ class Any:
     questions: Tuple["Question", ...]
 
 
-Question = Union[With, Compared, Not, All, Any]
+Question = Union[With, Condition, Not, All, Any]
 
 
 def labels_of(question: Question) -> List[str]:
@@ -74,7 +74,7 @@ def labels_of(question: Question) -> List[str]:
     >>> labels_of(question_of("without credit and creator = Anna or credit = x"))
     ['credit', 'creator']
     """
-    if isinstance(question, (With, Compared)):
+    if isinstance(question, (With, Condition)):
         return [question.label]
     parts = (question.question,) if isinstance(question, Not) else question.questions
     return list(dict.fromkeys(label for part in parts for label in labels_of(part)))
@@ -232,8 +232,8 @@ class _Reader:
         elif token.word in ORDERED:
             self._check_number(value)
         if token.word == "!=":
-            return Not(Compared(label, "=", value.text))
-        return Compared(label, token.word, value.text)
+            return Not(Condition(label, "=", value.text))
+        return Condition(label, token.word, value.text)
 
     def _read_value(self) -> _Token:
         """A text in quotes, or all up to a word that joins."""

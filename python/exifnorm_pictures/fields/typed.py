@@ -8,7 +8,7 @@ from datetime import date, datetime, time
 from fractions import Fraction
 from typing import Any, List, Optional, Sequence, Tuple, Union
 
-from ..model.xmp_values import Array, Literal, Long, Resource, XmpValue
+from ..model.xmp_values import Array, Literal, Long, Uri, XmpValue
 from .listing import Field, is_comment, is_wide_text, kept_value, marked_text
 from .plain_texts import comment, is_utf8, xmp_texts
 
@@ -165,7 +165,7 @@ def _one_of_xmp(value: XmpValue) -> Value:
     """A text; of alternatives the default one; of a list a tuple; None for a structure."""
     if isinstance(value, Literal):
         return value.text
-    if isinstance(value, Resource):
+    if isinstance(value, Uri):
         return value.uri
     if not isinstance(value, Array):
         return None

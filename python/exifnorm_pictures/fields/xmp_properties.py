@@ -6,18 +6,18 @@ import hashlib
 from typing import Dict, List, Tuple
 
 from ..model.xmp_names import short_name
-from ..xmp.tree import MEMBER, Literal, Node, Resource, Statement, Statements, Value, key_of, unique
-from ..model.xmp_values import Array, Long, Structure, XmpValue, exact, texts
+from ..xmp.tree import MEMBER, Literal, Node, Uri, Statement, Statements, Value, key_of, unique
+from ..model.xmp_values import Array, Long, Structure, XmpValue, exact, texts_in
 from .listing import DIGITS, Field
 
 WHERE = "xmp"
 LONGEST_STRUCTURE = 400  # characters of the exact form of a value without texts that is kept whole
 
 
-def fields(statements: Statements) -> List[Field]:
+def fields_of_statements(statements: Statements) -> List[Field]:
     """A field for each property, by its name.
 
-    >>> fields((Statement("http://purl.org/dc/elements/1.1/format", Literal("image/jpeg")),))
+    >>> fields_of_statements((Statement("http://purl.org/dc/elements/1.1/format", Literal("image/jpeg")),))
     [Field(where='xmp', key='dc:format', type='text', elements=1, value=(Literal(text='image/jpeg', language='', datatype=''),))]
     """
     by_property: Dict[str, List[Value]] = {}
@@ -43,7 +43,7 @@ def _form(value: Value) -> Tuple[str, int]:
 def _kept(value: Value) -> XmpValue:
     """A value; of a long structure, which has no text that a reader shows, its beginning and a digest."""
     kept = _value(value)
-    if isinstance(value, Node) and not texts(kept):
+    if isinstance(value, Node) and not texts_in(kept):
         text = exact(kept)
         if len(text) > LONGEST_STRUCTURE:
             return Long(hashlib.sha256(key_of(value).encode("utf-8", "surrogatepass")).hexdigest()[:DIGITS], text[:60])
@@ -51,7 +51,7 @@ def _kept(value: Value) -> XmpValue:
 
 
 def _value(value: Value) -> XmpValue:
-    if isinstance(value, (Literal, Resource)):
+    if isinstance(value, (Literal, Uri)):
         return value
     statements = unique(value.statements)
     word = value.container

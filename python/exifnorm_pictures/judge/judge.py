@@ -42,9 +42,9 @@ def judge(kind: str, block: bytes, packs: bool = False, at: FoundBlock = _BY_ITS
 def _with_fields(block: Block, fields: Fields, packs: bool) -> Block:
     """A block with its fields."""
     if not packs:
-        return block._replace(made=fields)
+        return block._replace(fresh=fields)
     kept = packed(fields.all())
-    return block._replace(packed=kept.octets, but_note=kept.but_note, made=fields)
+    return block._replace(fields=kept.octets, but_note=kept.but_note, fresh=fields)
 
 
 def _repaired(refused: Block, block: bytes, packs: bool, budget: Optional[Budget]) -> Block:
@@ -95,7 +95,7 @@ def judge_all(blocks: Blocks, packs: bool = False) -> List[Block]:
             continue
         block = known.get((at.kind, at.data)) if many else None
         if block is not None:
-            kept += len(block.packed or b"")
+            kept += len(block.fields or b"")
             note = block.note if at.note is None else at.note
             judged.append(_within(block._replace(name=at.name, source=at.where, extractor=at.extractor, note=note), kept))
             continue
@@ -106,10 +106,10 @@ def judge_all(blocks: Blocks, packs: bool = False) -> List[Block]:
             if at.kind == EXIF and (block.digest or block.repaired):
                 block = _with_notes(block, at, blocks)
         if many:  # pages of a TIFF can share a value
-            block = block._replace(made=None) if packs else block
+            block = block._replace(fresh=None) if packs else block
             blocks.budget.check_time()
             known[at.kind, at.data] = block
-        kept += len(block.packed or b"")
+        kept += len(block.fields or b"")
         judged.append(_within(block, kept))
     judged = _all_within(judged) if packs else judged
     return judged + extended.not_named() if extended else judged
@@ -117,18 +117,18 @@ def judge_all(blocks: Blocks, packs: bool = False) -> List[Block]:
 
 def _within(block: Block, kept: int) -> Block:
     """A block without its packed fields, if so many bytes are kept of a picture: its pages may share one long text."""
-    return block if kept <= KEPT_BYTES or block.packed is None else block._replace(packed=left_out(block.packed), made=None)
+    return block if kept <= KEPT_BYTES or block.fields is None else block._replace(fields=left_out(block.fields), fresh=None)
 
 
 def _all_within(blocks: List[Block]) -> List[Block]:
     """The blocks without the packed fields of those from which on all of them, unpacked, are more than are kept of a picture."""
-    if sum(len(it.packed or b"") for it in blocks) * _INFLATES <= KEPT_BYTES:  # as of nearly each picture
+    if sum(len(it.fields or b"") for it in blocks) * _INFLATES <= KEPT_BYTES:  # as of nearly each picture
         return blocks
     within: List[Block] = []
     kept = 0
     for block in blocks:
-        is_long = block.packed is not None and not is_short(block.packed)
-        kept += length(block.packed or b"") if is_long and kept <= KEPT_BYTES else 0
+        is_long = block.fields is not None and not is_short(block.fields)
+        kept += length(block.fields or b"") if is_long and kept <= KEPT_BYTES else 0
         within.append(_within(block, kept) if is_long else block)
     return within
 
@@ -183,7 +183,7 @@ def _judge_xmp(at: FoundBlock, extensions: xmp.Extensions, left: Dict[str, bytes
         left.pop(name, None)
     if statements is None:
         return _unreadable(XMP, at, len(at.data), octets.hexdigest(), cause)
-    result = Block(XMP, *at[2:5], Status.ACCEPTED, xmp.digest(statements), None, None, len(at.data), octets.hexdigest())
+    result = Block(XMP, *at[2:5], Status.ACCEPTED, xmp.digest_of_packet(statements), None, None, len(at.data), octets.hexdigest())
     return _with_fields(result, Fields(statements), packs)
 
 

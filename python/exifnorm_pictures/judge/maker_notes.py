@@ -40,7 +40,7 @@ LONGEST = 200  # characters of a value that is kept whole
 MANY = 16  # files of one call: what ExifTool writes about them, previews too, is in memory
 
 
-class Reading(NamedTuple):
+class NotesReading(NamedTuple):
     """The values of a picture's MakerNotes, and what ExifTool warns of as it reads them."""
 
     values: Values
@@ -59,7 +59,7 @@ class Reading(NamedTuple):
         return hashlib.sha256(repr((sorted(self.values.items()), self.warnings)).encode("utf-8", "surrogatepass")).digest()
 
 
-class Difference(NamedTuple):
+class NoteDifference(NamedTuple):
     """A value that reads otherwise; missing where it isn't read at all."""
 
     name: str
@@ -67,12 +67,12 @@ class Difference(NamedTuple):
     after: Optional[str]
 
 
-def readings_of(session: Session, paths: Sequence[bytes]) -> List[Reading]:
+def readings_of(session: Session, paths: Sequence[bytes]) -> List[NotesReading]:
     """What ExifTool reads of the MakerNotes of some files. Raises `programs.Failed` and `programs.Missing`."""
     return [it for at in range(0, len(paths), MANY) for it in _asked(session, paths[at : at + MANY])]
 
 
-def _asked(session: Session, paths: Sequence[bytes]) -> List[Reading]:
+def _asked(session: Session, paths: Sequence[bytes]) -> List[NotesReading]:
     answers = exiftool.ask_several(session, paths, (), _WORDS)
     warnings = [sorted(value for name, value in it.items() if _is_warning(name)) for it in answers]
     warned = [number for number, some in enumerate(warnings) if some]
@@ -80,7 +80,7 @@ def _asked(session: Session, paths: Sequence[bytes]) -> List[Reading]:
         others = exiftool.ask_several(session, [paths[number] for number in warned], (), (*_WARNINGS, _WITHOUT))
         for number, answer in zip(warned, others):
             warnings[number] = sorted((Counter(warnings[number]) - Counter(answer.values())).elements())
-    return [Reading(_values(it), tuple(some)) for it, some in zip(answers, warnings)]
+    return [NotesReading(_values(it), tuple(some)) for it, some in zip(answers, warnings)]
 
 
 def _is_warning(name: str) -> bool:
@@ -91,7 +91,7 @@ def _values(answer: Dict[str, str]) -> Values:
     return {name: _short(value) for name, value in answer.items() if not _is_warning(name) and name.rpartition(":")[2] not in _PLACES}
 
 
-def each_reading(session: Session, paths: Sequence[bytes]) -> Iterator[Optional[Reading]]:
+def each_reading(session: Session, paths: Sequence[bytes]) -> Iterator[Optional[NotesReading]]:
     """What ExifTool reads of the MakerNotes of each file; None for one at which it fails. Raises `programs.Missing`."""
     for at in range(0, len(paths), MANY):
         chunk = paths[at : at + MANY]
@@ -101,7 +101,7 @@ def each_reading(session: Session, paths: Sequence[bytes]) -> Iterator[Optional[
             yield from (_by_itself(session, path) for path in chunk)
 
 
-def _by_itself(session: Session, path: bytes) -> Optional[Reading]:
+def _by_itself(session: Session, path: bytes) -> Optional[NotesReading]:
     try:
         return _asked(session, [path])[0]
     except programs.Failed:
@@ -116,45 +116,45 @@ def _short(value: str) -> str:
     )
 
 
-def differences(before: Values, after: Values) -> List[Difference]:
+def note_differences(before: Values, after: Values) -> List[NoteDifference]:
     """The values that differ."""
-    return [Difference(it, before.get(it), after.get(it)) for it in dict.fromkeys([*before, *after]) if before.get(it) != after.get(it)]
+    return [NoteDifference(it, before.get(it), after.get(it)) for it in dict.fromkeys([*before, *after]) if before.get(it) != after.get(it)]
 
 
-def packed(reading: Reading) -> bytes:
+def packed_reading(reading: NotesReading) -> bytes:
     """A reading for a catalogue."""
     return zlib.compress(json.dumps(reading).encode("ascii"), 6)
 
 
-def unpacked(octets: bytes) -> Reading:
-    """A reading from the result of `packed`. Raises `Damaged` for anything else."""
+def unpacked_reading(octets: bytes) -> NotesReading:
+    """A reading from the result of `packed_reading`. Raises `Damaged` for anything else."""
     has(bytes, octets)
     try:
         opening = zlib.decompressobj()
         values, warnings = json.loads(opening.decompress(octets, FIELD_BYTES))
         if all(isinstance(it, str) for it in (*warnings, *values, *values.values())):
-            return Reading(dict(values), tuple(warnings))
+            return NotesReading(dict(values), tuple(warnings))
     except (zlib.error, ValueError, TypeError, AttributeError, RecursionError) as error:
         raise Damaged(f"readings of MakerNotes that can't be read: {error}") from error
     raise Damaged("readings of MakerNotes have something else than texts")
 
 
-class Compared(NamedTuple):
+class ComparedNotes(NamedTuple):
     """The values that differ between two pictures. If none does, why that may mean nothing, and whether only one of the two is warned of so."""
 
-    differences: List[Difference]
+    differences: List[NoteDifference]
     doubt: str = ""
     is_new: bool = False
 
 
-def compared(session: Session, sides: Sides, picture: Picture, other: Picture) -> Optional[Compared]:
+def compared_notes(session: Session, sides: Sides, picture: Picture, other: Picture) -> Optional[ComparedNotes]:
     """Two pictures compared; None if a reading isn't known: a file has changed since, or there is no ExifTool."""
-    known: Dict[int, Reading] = {}
+    known: Dict[int, NotesReading] = {}
     for number, side in enumerate((picture, other)):
-        kept = sides.maker_notes(number, side, unpacked)
+        kept = sides.maker_notes(number, side, unpacked_reading)
         if kept is not None:
             known[number] = kept
-        elif not is_there(side):
+        elif not is_as_it_was(side):
             return None
     missing = [number for number in (0, 1) if number not in known]
     try:
@@ -162,11 +162,11 @@ def compared(session: Session, sides: Sides, picture: Picture, other: Picture) -
     except (programs.Failed, programs.Missing):
         return None
     first, second = known[0], known[1]
-    changes = differences(first.values, second.values)
-    return Compared(changes) if changes else Compared([], second.doubt or first.doubt, first.warnings != second.warnings)
+    changes = note_differences(first.values, second.values)
+    return ComparedNotes(changes) if changes else ComparedNotes([], second.doubt or first.doubt, first.warnings != second.warnings)
 
 
-def is_there(picture: Picture) -> bool:
+def is_as_it_was(picture: Picture) -> bool:
     """Whether the file is the one that was looked at."""
     try:
         return is_marked_as(Stamp.of(os.stat(picture.path)), picture.marks)

@@ -76,7 +76,7 @@ ROW_BYTES = 64 << 20  # of a value or a row, and of all rows of a table for one 
 ROW_NUMBER = 1 << 53  # of a picture or a run, beyond which adding them could leave 64 bits
 WAITING_BYTES = 1 << 20  # of rows that wait until they are written to a table together
 READY_BYTES = 16 << 20  # of pictures that wait until they are committed together
-STEPS = 1_000_000  # of SQLite until Python heeds a signal: some milliseconds
+SQL_STEPS = 1_000_000  # of SQLite until Python heeds a signal: some milliseconds
 
 _OFTEN = 15  # after so many counts the time is looked at, which takes longer than all else here
 

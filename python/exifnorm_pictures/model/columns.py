@@ -11,11 +11,10 @@ class Damaged(Exception):
 
 
 class Is(NamedTuple):
-    """More about a column: what it is, its definition in SQL after its name if its type doesn't tell it, and its name if the field has another."""
+    """More about a column: what it is, and its definition in SQL after its name if its type doesn't tell it."""
 
     about: str = ""
     sql: str = ""
-    name: str = ""
 
 
 _SQL = {int: "INTEGER", str: "TEXT", bytes: "BLOB"}
@@ -31,13 +30,13 @@ class Columns(Generic[Record]):
         """`first` and `last` are further definitions in SQL, each with what it is after `--`."""
         declared: Dict[str, Any] = {name: kind for name, kind in record.__annotations__.items() if hasattr(kind, "__metadata__")}
         columns = [(name, kind.__origin__, _more(*kind.__metadata__)) for name, kind in declared.items()]
-        self.names: Tuple[str, ...] = tuple(more.name or name for name, _, more in columns)
+        self.names: Tuple[str, ...] = tuple(name for name, _, _ in columns)
         self.types: List[Any] = [get_args(kind) or kind for _, kind, _ in columns]  # those of a row's values
         self.width = len(columns)
         named: Any = record  # a NamedTuple, which types can't say
         self._made: Callable[[Iterable[Any]], Record] = named._make
         self._others = tuple(named._field_defaults[name] for name in named._fields[self.width :])
-        self._lines = [*first, *(_defined(more.name or name, kind, more) for name, kind, more in columns), *last]
+        self._lines = [*first, *(_defined(name, kind, more) for name, kind, more in columns), *last]
 
     @property
     def listed(self) -> str:

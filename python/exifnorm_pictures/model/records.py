@@ -43,12 +43,10 @@ class Block(NamedTuple):
     note: Annotated[
         Optional[int], "where its MakerNote begins: in the block, or in a TIFF, whose block is laid out anew, in the file"
     ] = None
-    packed: Annotated[
-        Optional[bytes], Is("its fields: JSON, compressed by zlib if it is long; of a refused block, those after repair", name="fields")
-    ] = None
+    fields: Annotated[Optional[bytes], "its fields: JSON, compressed by zlib if it is long; of a refused block, those after repair"] = None
     # What a catalogue doesn't have
     but_note: Optional[str] = None  # a digest of its fields without the MakerNote, if it has one; of a refused block, of those after repair
-    made: Optional[object] = None  # in place of packed fields those of a block that was judged just now: `fields.block_fields.Fields`
+    fresh: Optional[object] = None  # the fields of a block that was judged just now: `fields.block_fields.Fields`
 
     def row(self) -> Tuple[Any, ...]:
         """The block as a row of the catalogue."""
@@ -235,7 +233,7 @@ class Picture(NamedTuple):
     @property
     def kept_bytes(self) -> int:
         """About how many bytes its fields and texts have, if it was looked at just now."""
-        return sum(len(block.packed or b"") for block in self.blocks) + sum(len(text.text) for text in self.texts)
+        return sum(len(block.fields or b"") for block in self.blocks) + sum(len(text.text) for text in self.texts)
 
     @property
     def state(self) -> str:

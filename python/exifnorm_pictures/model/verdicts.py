@@ -88,12 +88,12 @@ _IN_SENTENCE = (  # in the order of the clauses
 )
 
 
-def sentence(verdicts: Sequence[Verdict], open_parts: Sequence[str] = ()) -> str:
+def sentence_of_verdicts(verdicts: Sequence[Verdict], open_parts: Sequence[str] = ()) -> str:
     """The kinds that were compared, and the result, in a sentence.
 
-    >>> sentence([Verdict(EXIF, Result.SAME), Verdict(IPTC, Result.SAME), Verdict(XMP, Result.SAME)])
+    >>> sentence_of_verdicts([Verdict(EXIF, Result.SAME), Verdict(IPTC, Result.SAME), Verdict(XMP, Result.SAME)])
     'Exif, IPTC and XMP are the same'
-    >>> sentence([Verdict(EXIF, Result.SAME), Verdict(IPTC, Result.ABSENT), Verdict(XMP, Result.DIFFERENT)], ["second picture"])
+    >>> sentence_of_verdicts([Verdict(EXIF, Result.SAME), Verdict(IPTC, Result.ABSENT), Verdict(XMP, Result.DIFFERENT)], ["second picture"])
     'Exif is the same, XMP is different, no IPTC; not wholly read: second picture'
     """
     parts = []
@@ -108,14 +108,14 @@ def sentence(verdicts: Sequence[Verdict], open_parts: Sequence[str] = ()) -> str
 
 def clause(kinds: Sequence[str], result: str, same_bytes: bool) -> str:
     """The result of some kinds, as `Exif and IPTC are the same in the same bytes`."""
-    words = f"{listed([NAMES[it] for it in kinds])} {'the same' if result == Result.SAME else result}"
+    words = f"{with_verb([NAMES[it] for it in kinds])} {'the same' if result == Result.SAME else result}"
     return words + (" in the same bytes" if same_bytes else "")
 
 
-def listed(names: Sequence[str]) -> str:
+def with_verb(names: Sequence[str]) -> str:
     """Some names with their verb.
 
-    >>> listed(["Exif"]), listed(["Exif", "IPTC", "XMP"])
+    >>> with_verb(["Exif"]), with_verb(["Exif", "IPTC", "XMP"])
     ('Exif is', 'Exif, IPTC and XMP are')
     """
     return f"{names[0]} is" if len(names) == 1 else f"{', '.join(names[:-1])} and {names[-1]} are"

@@ -19,7 +19,7 @@ class Literal(NamedTuple):
     datatype: str = ""
 
 
-class Resource(NamedTuple):
+class Uri(NamedTuple):
     """A name in the form of a URI."""
 
     uri: str
@@ -62,7 +62,7 @@ class Long(NamedTuple):
     begins: Union[str, bytes]  # the beginning of numbers and of XMP as they are printed exactly, or of bytes
 
 
-XmpValue = Union[Literal, Resource, Array, Structure, Long]
+XmpValue = Union[Literal, Uri, Array, Structure, Long]
 
 
 def identity(value: XmpValue) -> str:
@@ -74,7 +74,7 @@ def _identity(value: XmpValue, printed: str) -> str:
     """The same of a value whose exact form is known."""
     if isinstance(value, Literal):
         return f'"{len(value.language)}:{value.language}{len(value.datatype)}:{value.datatype}{value.text}'
-    return printed if isinstance(value, Resource) else "_" + printed
+    return printed if isinstance(value, Uri) else "_" + printed
 
 
 def exact(value: XmpValue) -> str:
@@ -86,7 +86,7 @@ def exact(value: XmpValue) -> str:
     if isinstance(value, Literal):
         text = '"' + escaped(value.text).replace('"', '\\"') + '"'
         return text + (f"@{escaped(value.language)}" if value.language else "") + (f"^^{escaped(value.datatype)}" if value.datatype else "")
-    if isinstance(value, Resource):
+    if isinstance(value, Uri):
         return f"<{escaped(value.uri)}>"
     if isinstance(value, Array):
         printed = [(exact(it), it) for it in value.members]  # each once: Bags may be nested
@@ -98,24 +98,24 @@ def exact(value: XmpValue) -> str:
     return "{" + ", ".join(f"{escaped(name)}={exact(one)}" for name, one in value.members) + "}"
 
 
-def texts(value: XmpValue) -> Tuple[str, ...]:
+def texts_in(value: XmpValue) -> Tuple[str, ...]:
     """The texts of a value: of a list all, of alternatives the default one. A structure has none, unless it is a text with qualifiers.
 
-    >>> texts(Array("Alt", (Literal("Krug", "de"), Literal("Vase", "x-default")))), texts(Structure((("stEvt:action", Literal("saved")),)))
+    >>> texts_in(Array("Alt", (Literal("Krug", "de"), Literal("Vase", "x-default")))), texts_in(Structure((("stEvt:action", Literal("saved")),)))
     (('Vase',), ())
     """
     if isinstance(value, Literal):
         return (value.text,)
-    if isinstance(value, Resource):
+    if isinstance(value, Uri):
         return (value.uri,)
     if isinstance(value, Array):
-        return _chosen(value.members) if value.kind == "Alt" else tuple(text for it in value.members for text in texts(it))
+        return _chosen(value.members) if value.kind == "Alt" else tuple(text for it in value.members for text in texts_in(it))
     if isinstance(value, Long):
         return ()
     numbered = [(int(match[1]), it) for name, it in value.members for match in [_MEMBER.match(name)] if match]
     if numbered:  # a list with qualifiers
         numbered.sort(key=_number)
-        return tuple(text for _, it in numbered for text in texts(it))
+        return tuple(text for _, it in numbered for text in texts_in(it))
     return tuple(it.text for name, it in value.members if name == VALUE and isinstance(it, Literal))
 
 
@@ -132,7 +132,7 @@ def simple_texts(value: XmpValue) -> Iterator[Tuple[str, str]]:
     """The texts of a value or of a list of such, each with its language. Raises `ValueError` for a structure, a text with a datatype, and a long value."""
     if isinstance(value, Literal) and not value.datatype:
         yield value.text, value.language
-    elif isinstance(value, Resource):
+    elif isinstance(value, Uri):
         yield value.uri, ""
     elif isinstance(value, Array):
         for member in value.ordered():

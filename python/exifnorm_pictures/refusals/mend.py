@@ -10,7 +10,7 @@ from dataclasses import dataclass, field
 from typing import Callable, Dict, List, NamedTuple, Optional, Tuple, Union
 
 from ..extract import programs
-from ..extract.extraction import blocks_of
+from ..extract.extraction import blocks_of_file
 from ..files import atomic, copying, opening
 from ..files.session import Session
 from ..judge.judge import judge_all
@@ -18,19 +18,28 @@ from ..model.budgets import MENDED_BYTES, TooMuch
 from ..model.found import EXIF, REST, Blocks, damage
 from ..model.steps import Step, loses
 from ..model.texts import reason, shown_path
+from ..model.words import Word
 from . import repaired_file
-from .repaired_file import KINDS
+from .repaired_file import REPAIRED_TYPES
 
-COPY, NONE = "copy", "none"
-STEPS = ("repair", "touch", "exiv2", "rebuild")
-STEP_WORDS = {
-    COPY: "nothing was to be mended: a plain copy",
-    "repair": "the block was repaired, and the rest of the file kept",
-    "touch": "ExifTool added a field and removed it",
-    "exiv2": "exiv2 added a field and removed it",
-    "rebuild": "ExifTool wrote all tags that it knows into a new block",
-    NONE: "no remedy helped",
-}
+
+class Remedy(Word):
+    """How a picture was mended. The remedies are tried in this order."""
+
+    text: str  # for people
+
+    def __new__(cls, word: str, text: str) -> "Remedy":
+        remedy = str.__new__(cls, word)
+        remedy._value_ = word
+        remedy.text = text
+        return remedy
+
+    COPY = ("copy", "nothing was to be mended: a plain copy")
+    REPAIR = ("repair", "the block was repaired, and the rest of the file kept")
+    TOUCH = ("touch", "ExifTool added a field and removed it")
+    EXIV2 = ("exiv2", "exiv2 added a field and removed it")
+    REBUILD = ("rebuild", "ExifTool wrote all tags that it knows into a new block")
+    NONE = ("none", "no remedy helped")
 
 
 class NotWritten(Exception):
@@ -44,16 +53,16 @@ class NeedsExifTool(programs.Failed):
         if repair is not None:
             why = f"the repair of its block loses {' and '.join(loses(repair.steps))}, and ExifTool, which shows what that is,"
         else:
-            known = "no repair of its block is known" if kind in KINDS else f"in a {kind} file no block is repaired"
+            known = "no repair of its block is known" if kind in REPAIRED_TYPES else f"in a {kind} file no block is repaired"
             why = f"{known}, and ExifTool, which writes it again,"
         super().__init__(f"{why} isn't installed. In Debian: apt-get install libimage-exiftool-perl")
 
 
 @dataclass
 class Mended:
-    """The result: the refusals before, the step that worked, and the printed values that were lost or changed."""
+    """The result: the refusals before, the remedy that worked, and the printed values that were lost or changed."""
 
-    step: str
+    remedy: Remedy
     before: Dict[str, str]
     lost: List[str] = field(default_factory=list)
     gained: List[str] = field(default_factory=list)
@@ -66,7 +75,7 @@ class Mended:
 def mend(picture: bytes, out: bytes, session: Session, folder: Optional[bytes] = None, lossless: bool = False) -> Mended:
     """Writes a copy with accepted blocks to the new file `out`. Raises `NotWritten`, `NeedsExifTool`, `programs.Failed` and `TooMuch`.
 
-    The steps are tried in the order of `STEPS`. The first that changes no printed value is used; if none is, the one that loses
+    The remedies are tried in their order. The first that changes no printed value is used; if none is, the one that loses
     the fewest values and, among equals, adds the fewest; with `lossless` a copy that loses any isn't written. The values are those that
     ExifTool prints, without offsets. Without ExifTool only a repair that loses nothing is used. Temporary files are in the session's
     folder. With `folder` the folders of `out` are made; no link may lead out of it. A copy is judged before it gets its name, since another
@@ -84,7 +93,7 @@ def mend(picture: bytes, out: bytes, session: Session, folder: Optional[bytes] =
         def check(copy: bytes) -> None:
             name = os.path.join(os.fsencode(own), b"copy" + os.fsencode(_suffix(picture)))
             os.symlink(copy, name)
-            written = blocks_of(name, session=session)
+            written = blocks_of_file(name, session=session)
             if written.problem or _refusals(written) or (file == picture and damage(it.what for it in written.not_read) != result.damage):
                 raise NotWritten("the picture was changed while it was copied")
 
@@ -94,28 +103,28 @@ def mend(picture: bytes, out: bytes, session: Session, folder: Optional[bytes] =
 
 
 def attempt(session: Session, picture: bytes, room: str) -> Tuple[Mended, Optional[bytes]]:
-    """What `mend` does with a picture, and the file that it would write, which is in the folder `room`; none if no step helps. Raises
+    """What `mend` does with a picture, and the file that it would write, which is in the folder `room`; none if no remedy helps. Raises
     `NeedsExifTool`, `programs.Failed` and `TooMuch`."""
-    taken = blocks_of(picture, session=session)
+    taken = blocks_of_file(picture, session=session)
     if taken.problem:
-        return Mended(NONE, {}, problem=f"{taken.problem}: {taken.detail}"), None
+        return Mended(Remedy.NONE, {}, problem=f"{taken.problem}: {taken.detail}"), None
     before, left = _refusals(taken), damage(it.what for it in taken.not_read)
     if not before:
-        return Mended(COPY, {}, damage=left), picture
+        return Mended(Remedy.COPY, {}, damage=left), picture
     if os.stat(picture).st_size > MENDED_BYTES:
         raise TooMuch(f"more than {MENDED_BYTES:,} bytes of a picture to mend")
     repair = _repaired(session, picture, taken, room)
     if programs.is_there("exiftool"):
         best = _best(session, picture, repair, room)
     elif repair is not None and not loses(repair.steps):
-        best = ("repair", repair.file, [], [])
+        best = (Remedy.REPAIR, repair.file, [], [])
     else:
         raise NeedsExifTool(taken.type, repair)
     if best is None:
-        return Mended(NONE, before, damage=left), None
-    step, file, lost, gained = best
-    repairs = repair.steps if repair and step == "repair" else ()
-    return Mended(step, before, lost, gained, "", repairs, left), os.fsencode(file)
+        return Mended(Remedy.NONE, before, damage=left), None
+    remedy, file, lost, gained = best
+    repairs = repair.steps if remedy == Remedy.REPAIR and repair else ()
+    return Mended(remedy, before, lost, gained, "", repairs, left), os.fsencode(file)
 
 
 def _make_folders(out: bytes, folder: bytes) -> None:
@@ -145,7 +154,7 @@ def _repaired(session: Session, picture: bytes, taken: Blocks, room: str) -> Opt
             return None
         with open(name, "xb") as copy:
             repaired_file.write(given, repair[0], copy)
-    after = blocks_of(os.fsencode(name), session=session)
+    after = blocks_of_file(os.fsencode(name), session=session)
     if after.problem or _refusals(after) or _beside_exif(after) != _beside_exif(taken):
         return None
     return _Repair(name, repair[1])
@@ -170,7 +179,7 @@ def _refusals(taken: Blocks) -> Dict[str, str]:
     return {it.name: it.line for it in judge_all(taken) if not it.is_accepted}
 
 
-Attempt = Tuple[str, str, List[str], List[str]]
+Attempt = Tuple[Remedy, str, List[str], List[str]]
 
 
 def _suffix(picture: bytes) -> str:
@@ -189,21 +198,21 @@ def _best(session: Session, picture: bytes, repair: Optional[_Repair], room: str
     _copy(picture, first)
     before = _printed(session, first)
     best: Optional[Attempt] = None
-    for step in STEPS:
-        file = os.path.join(room, step + suffix)
-        if step != "repair":
+    for remedy in (Remedy.REPAIR, *_REMEDIES):
+        file = os.path.join(room, remedy + suffix)
+        if remedy != Remedy.REPAIR:
             _copy(first, file)
-            if not _REMEDIES[step](session, file):
+            if not _REMEDIES[remedy](session, file):
                 continue
         elif repair is None:
             continue
-        taken = blocks_of(os.fsencode(file), session=session)
+        taken = blocks_of_file(os.fsencode(file), session=session)
         if taken.problem or _refusals(taken):
             continue
         after = _printed(session, file)
         lost, gained = sorted((before - after).elements()), sorted((after - before).elements())
         if best is None or (len(lost), len(gained)) < (len(best[2]), len(best[3])):
-            best = (step, file, lost, gained)
+            best = (remedy, file, lost, gained)
         if not lost and not gained:
             break
     return best
@@ -249,7 +258,12 @@ def _rebuild(session: Session, name: str) -> bool:
     return programs.run(programs.exiftool(*words), session.seconds).returncode == 0
 
 
-_REMEDIES: Dict[str, Callable[[Session, str], bool]] = {"touch": _touch, "exiv2": _by_exiv2, "rebuild": _rebuild}
+_REMEDIES: Dict[Remedy, Callable[[Session, str], bool]] = {
+    Remedy.TOUCH: _touch,
+    Remedy.EXIV2: _by_exiv2,
+    Remedy.REBUILD: _rebuild,
+}
+
 
 _OFFSETS = re.compile(rb"Offset|Start |Padding|IPTCDigest")
 

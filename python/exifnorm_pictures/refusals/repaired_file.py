@@ -114,4 +114,4 @@ def _webp_chunk(data: bytes) -> bytes:
 
 
 _WRAPPERS: Dict[str, Callable[[bytes], bytes]] = {"JPEG": _segment, "PNG": _png_chunk, "WEBP": _webp_chunk}
-KINDS = tuple(_WRAPPERS)  # the types of files in which blocks are replaced
+REPAIRED_TYPES = tuple(_WRAPPERS)  # the types of files in which blocks are replaced

@@ -26,7 +26,7 @@ from ..model.problems import Problem
 from ..model.records import WORDS, Picture, has, kind_of
 from ..model.results import Result
 from ..model.texts import Members, path_members, shown_path
-from .contradictions import Contradictions, checked, texts
+from .contradictions import Contradictions, checked, texts_by_standard
 
 _ORDER = {result: number for number, result in enumerate(Result)}
 # what a page has of each list
@@ -289,7 +289,7 @@ def members(about: About) -> Iterator[Members]:
 
 
 def _conflict_members(conflict: Conflict) -> Members:
-    return {"label": conflict.label, "detail": conflict.detail or None, "texts": texts(conflict)}
+    return {"label": conflict.label, "detail": conflict.detail or None, "texts": texts_by_standard(conflict)}
 
 
 def _changed_members(about: About) -> Iterator[Members]:

@@ -12,11 +12,11 @@ from typing import Dict, Iterator, List, NamedTuple, Tuple
 from ..catalogue.store import Catalogue
 from ..catalogue.texts import PictureTexts, texts_of
 from ..comparison.conflicts import Conflict, conflicts
-from ..fields.labels import COMMENT, STANDARDS, WORDS
+from ..fields.labels import COMMENT, STANDARDS, LABEL_WORDS
 from ..fields.block_fields import with_fields
 from ..model.records import Block, Picture
 
-_COMPARED = tuple(it for it in WORDS if it != COMMENT)
+_COMPARED = tuple(it for it in LABEL_WORDS if it != COMMENT)
 
 
 class Checked(NamedTuple):
@@ -72,7 +72,7 @@ def _checked(picture: Picture, blocks: List[Block], texts: PictureTexts) -> Chec
     return Checked(picture.path, known, is_whole)
 
 
-def texts(conflict: Conflict) -> Dict[str, str]:
+def texts_by_standard(conflict: Conflict) -> Dict[str, str]:
     """The texts by standard."""
     by_standard: Dict[str, List[str]] = {}
     for text in conflict.texts:

@@ -10,7 +10,7 @@ from html import escape
 from typing import Dict, List, Optional, Sequence, Tuple
 
 from ..comparison import changed
-from ..comparison.coded import sentence as sentence_of_coded
+from ..comparison.coded import sentence_of_coded as sentence_of_coded
 from ..comparison.conflicts import Conflict
 from ..comparison.readings import of_unknown
 from ..fields.labels import STANDARDS
@@ -35,13 +35,13 @@ from .contents import (
     shortened,
     unproved,
 )
-from .contradictions import texts
+from .contradictions import texts_by_standard
 from .style import STYLE
 from .thumbnails import small_pictures
 
 MOST_OPEN = 8  # changes that are shown unfolded
 
-WORDS = {
+STATE_WORDS = {
     **COUNTED,
     "accepted": "accepted: all blocks were read",
     "refused": "with a block that is refused or unreadable",
@@ -89,7 +89,7 @@ _TONES = {"accepted": "good", "refused": "bad", "no block": "plain", "NoPicture"
 
 def _overview(contents: Gathered) -> str:
     cards = "".join(
-        f'<li class="{_TONES.get(state, "odd")}"><b>{count:,}</b> {_text(WORDS.get(state, state))}</li>'
+        f'<li class="{_TONES.get(state, "odd")}"><b>{count:,}</b> {_text(STATE_WORDS.get(state, state))}</li>'
         for state, count in contents.states.most_common()
     )
     number, same = contents.all_groups
@@ -109,7 +109,7 @@ def _share(contents: Gathered) -> str:
     at, parts = 0.0, []
     for state, count in contents.states.most_common():
         width = 1000 * count / max(contents.total, 1)
-        words = f"{count:,} {WORDS.get(state, state)}"
+        words = f"{count:,} {STATE_WORDS.get(state, state)}"
         tone = _TONES.get(state, "odd")
         parts.append(f'<rect class="{tone}" x="{at:.1f}" width="{width:.1f}" height="22"><title>{_text(words)}</title></rect>')
         at += width
@@ -253,7 +253,7 @@ def _contradictions(contents: Gathered) -> str:
 def _conflict(conflict: Conflict) -> str:
     """The texts of a label in a row."""
     detail = f'<br><span class="note">{_text(conflict.detail)}</span>' if conflict.detail else ""
-    by_standard = texts(conflict)
+    by_standard = texts_by_standard(conflict)
     cells = "".join(f'<td data-of="{standard}">{_caption(by_standard.get(standard))}</td>' for standard in STANDARDS)
     return f"<tr><th>{_text(conflict.label)}{detail}</th>{cells}</tr>"
 

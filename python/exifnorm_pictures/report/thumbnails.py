@@ -34,7 +34,7 @@ def small_pictures(paths: Sequence[bytes], session: Optional[Session] = None) ->
 def _exif(session: Optional[Session], path: bytes) -> Optional[bytes]:
     """The first Exif block of a picture, as far as it can be read."""
     try:
-        return next((it.data for it in extraction.blocks_of(path, session=session).of_kind(EXIF)), None)
+        return next((it.data for it in extraction.blocks_of_file(path, session=session).of_kind(EXIF)), None)
     except (programs.Missing, programs.Failed):
         return None
 

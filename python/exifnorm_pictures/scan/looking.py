@@ -22,7 +22,7 @@ from .batches import How
 from .walk import FoundFile
 
 if TYPE_CHECKING:
-    from ..judge.maker_notes import Reading
+    from ..judge.maker_notes import NotesReading
 
 # Nanoseconds in which two edits may have one time: twice a tick of the slowest kernel; and of file systems without parts of a second,
 # of which FAT has two seconds, and others one.
@@ -71,7 +71,7 @@ def _look(file: FoundFile, how: How, session: Session, packs: bool) -> Picture:
 def _read(file: FoundFile, how: How, session: Session, packs: bool) -> Tuple[Blocks, List[Block]]:
     """The blocks of a file and its sidecars, and what they mean. A file over a limit has a problem, and so has one for which a program takes too long."""
     try:
-        blocks = extraction.blocks_of(file.path, how.whole, session)
+        blocks = extraction.blocks_of_file(file.path, how.whole, session)
         if blocks.problem == Problem.NO_FILE:  # which was there when its folder was listed
             blocks = Blocks(problem=Problem.VANISHED, detail=Problem.VANISHED.text)
         if file.sidecars:
@@ -83,17 +83,17 @@ def _read(file: FoundFile, how: How, session: Session, packs: bool) -> Tuple[Blo
         return Blocks(problem=Problem.TOO_SLOW, detail=str(error)), []
 
 
-def _kept(judged: Sequence[Block], reading: "Optional[Reading]", has_texts: bool) -> Tuple[Tuple[KeptText, ...], List[Block]]:
+def _kept(judged: Sequence[Block], reading: "Optional[NotesReading]", has_texts: bool) -> Tuple[Tuple[KeptText, ...], List[Block]]:
     """The texts by label, for a catalogue that has them, and the blocks without the fields that were made of them."""
     texts: Tuple[KeptText, ...] = ()
     if has_texts:
         from ..catalogue import label_texts  # which takes long to import
 
         texts = label_texts.rows_of([(block, fields_of(block)) for block in judged], reading.values if reading else {})
-    return texts, [block._replace(made=None) for block in judged]
+    return texts, [block._replace(fresh=None) for block in judged]
 
 
-def _maker_notes(session: Session, path: bytes, judged: Sequence[Block]) -> "Optional[Reading]":
+def _maker_notes(session: Session, path: bytes, judged: Sequence[Block]) -> "Optional[NotesReading]":
     """What ExifTool reads of the MakerNotes of a picture that has one."""
     if all(block.note is None for block in judged):
         return None
@@ -102,10 +102,10 @@ def _maker_notes(session: Session, path: bytes, judged: Sequence[Block]) -> "Opt
     return maker_notes.readings_of(session, [path])[0]
 
 
-def _packed(reading: "Reading") -> bytes:
+def _packed(reading: "NotesReading") -> bytes:
     from ..judge import maker_notes
 
-    return maker_notes.packed(reading)
+    return maker_notes.packed_reading(reading)
 
 
 def _pixels(path: bytes, blocks: Blocks) -> Tuple[Optional[str], str, str, Optional[str]]:

@@ -110,7 +110,9 @@ def _stamp(entry: "os.DirEntry[bytes]") -> Optional[Stamp]:
         return None
 
 
-def listed(name: str, by_nul: bool, before_read: Callable[[], object] = bool, stdin: Optional[io.BufferedIOBase] = None) -> Iterator[bytes]:
+def names_in_list(
+    name: str, by_nul: bool, before_read: Callable[[], object] = bool, stdin: Optional[io.BufferedIOBase] = None
+) -> Iterator[bytes]:
     """The names in a list file: one for each line, or each ended by a NUL. Raises `BadList`.
 
     Those of standard input, `-`, come one by one, each before more is read, so that a program can ask for a name and wait for the answer.

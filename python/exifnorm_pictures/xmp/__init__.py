@@ -14,7 +14,7 @@ entity is expanded and nothing is fetched.
 """
 
 from .packets import CAUSES, Unreadable
-from .reading import Extensions, digest, statements
+from .reading import Extensions, digest_of_packet, statements
 from .tree import Statements
 
-__all__ = ["CAUSES", "Extensions", "Statements", "Unreadable", "digest", "statements"]
+__all__ = ["CAUSES", "Extensions", "Statements", "Unreadable", "digest_of_packet", "statements"]

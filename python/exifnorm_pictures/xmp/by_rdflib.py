@@ -7,7 +7,7 @@ from xml.etree import ElementTree
 
 from ..model.budgets import Budget, TooMuch
 from .packets import Unreadable
-from .tree import RDF, Literal, Node, Resource, Statement, Statements, Value
+from .tree import RDF, Literal, Node, Uri, Statement, Statements, Value
 
 _BASE = "this:base"
 _MARKUP = {f"{RDF}XMLLiteral", f"{RDF}HTML"}  # datatypes whose values rdflib parses again
@@ -87,6 +87,6 @@ class _Tree:
         if isinstance(value, self._rdflib.Literal):
             return Literal(str(value), (value.language or "").lower(), str(value.datatype or ""))
         if isinstance(value, self._rdflib.URIRef):
-            return Resource(str(value))
+            return Uri(str(value))
         self._reached.add(value)
         return Node(tuple(self._statement(*it) for it in self._by_subject.get(value, ())))

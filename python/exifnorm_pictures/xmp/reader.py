@@ -9,7 +9,7 @@ from xml.etree.ElementTree import Element
 
 from ..model.budgets import CACHED, LANGUAGE
 from .packets import Unreadable
-from .tree import MEMBER, RDF, TYPE, Literal, Node, Resource, Statement, Statements, Value
+from .tree import MEMBER, RDF, TYPE, Literal, Node, Uri, Statement, Statements, Value
 
 _R = f"{{{RDF}}}"
 _XML = "{http://www.w3.org/XML/1998/namespace}"
@@ -83,7 +83,7 @@ def _node(node: Element, language: str) -> List[Statement]:
     language = _language(node, language)
     statements: List[Statement] = []
     if node.tag != _DESCRIPTION:
-        statements.append(Statement(TYPE, Resource(RDF + node.tag[len(_R) :])))
+        statements.append(Statement(TYPE, Uri(RDF + node.tag[len(_R) :])))
     for name, text in node.attrib.items():
         if name == _R + "type":
             statements.append(Statement(TYPE, _resource(text)))
@@ -109,10 +109,10 @@ def _properties(node: Element, language: str) -> List[Statement]:
     return statements
 
 
-def _resource(uri: str) -> Resource:
+def _resource(uri: str) -> Uri:
     if not _ABSOLUTE.match(uri):
         raise Unusual
-    return Resource(uri)
+    return Uri(uri)
 
 
 def _value(element: Element, language: str) -> Value:

@@ -8,7 +8,7 @@ from typing import Dict, Mapping, Optional, Set, Tuple, Union
 from ..model.budgets import RARE_ELEMENTS, Budget, TooLong, TooMuch
 from . import by_rdflib, reader
 from .packets import Unreadable, rdf_of, spend
-from .tree import TYPE, Literal, Node, Statements, Value, digest_of, key_of
+from .tree import TYPE, Literal, Node, Statements, Value, digest_of_statements, key_of
 
 NOTE = "http://ns.adobe.com/xmp/note/HasExtendedXMP"
 
@@ -95,6 +95,6 @@ def _named(statements: Statements) -> Tuple[str, ...]:
     return tuple(dict.fromkeys(it.value.text.upper() for it in statements if it.predicate == NOTE and isinstance(it.value, Literal)))
 
 
-def digest(statements: Statements) -> str:
+def digest_of_packet(statements: Statements) -> str:
     """SHA-256 of some statements, in any order."""
-    return digest_of(statements)
+    return digest_of_statements(statements)

@@ -6,7 +6,7 @@ import hashlib
 import re
 from typing import Dict, List, NamedTuple, Tuple, Union
 
-from ..model.xmp_values import Literal, Resource
+from ..model.xmp_values import Literal, Uri
 
 RDF = "http://www.w3.org/1999/02/22-rdf-syntax-ns#"
 TYPE = RDF + "type"
@@ -24,10 +24,10 @@ class Node(NamedTuple):
         """`Bag`, `Seq` or `Alt`, or nothing."""
         types = {it.value for it in self.statements if it.predicate == TYPE and not isinstance(it.value, Node)}
         first = next(iter(types), None)
-        return CONTAINERS.get(first.uri, "") if len(types) == 1 and isinstance(first, Resource) else ""
+        return CONTAINERS.get(first.uri, "") if len(types) == 1 and isinstance(first, Uri) else ""
 
 
-Value = Union[Literal, Resource, Node]
+Value = Union[Literal, Uri, Node]
 
 
 class Statement(NamedTuple):
@@ -47,11 +47,11 @@ __all__ = [
     "TYPE",
     "Literal",
     "Node",
-    "Resource",
+    "Uri",
     "Statement",
     "Statements",
     "Value",
-    "digest_of",
+    "digest_of_statements",
     "key_of",
     "unique",
 ]
@@ -60,14 +60,14 @@ __all__ = [
 def key_of(value: Value) -> str:
     """A text that is equal for two values exactly if they mean the same; long values are compared by SHA-256.
 
-    >>> key_of(Literal("Z", "de")), key_of(Resource("http://x/"))
+    >>> key_of(Literal("Z", "de")), key_of(Uri("http://x/"))
     ('"2:de0:Z', '<http://x/')
     """
     if isinstance(value, Literal):
         return f'"{len(value.language)}:{value.language}{len(value.datatype)}:{value.datatype}{value.text}'
-    if isinstance(value, Resource):
+    if isinstance(value, Uri):
         return "<" + value.uri
-    return "_" + digest_of(value.statements, value.container == "Bag")
+    return "_" + digest_of_statements(value.statements, value.container == "Bag")
 
 
 def unique(statements: Statements) -> "List[Statement]":
@@ -82,11 +82,11 @@ def unique(statements: Statements) -> "List[Statement]":
     return [*plain, *(it for it in statements if isinstance(it.value, Node))]
 
 
-def digest_of(statements: Statements, is_bag: bool = False) -> str:
+def digest_of_statements(statements: Statements, is_bag: bool = False) -> str:
     """A digest that is equal for the same statements in any order.
 
     >>> first, second = Statement("a", Literal("1")), Statement("b", Literal("2"))
-    >>> digest_of((first, second)) == digest_of((second, first)), digest_of((first,)) == digest_of((second,))
+    >>> digest_of_statements((first, second)) == digest_of_statements((second, first)), digest_of_statements((first,)) == digest_of_statements((second,))
     (True, False)
     """
     lines: List[str] = []

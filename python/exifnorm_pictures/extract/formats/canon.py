@@ -9,7 +9,7 @@ from .boxes import Box, boxes
 from .streams import Stream, leave
 
 UUID = bytes.fromhex("85c0b687820f11e08111f4ce462b6a48")
-VERSION, MAIN, EXIF, MAKER_NOTE, GPS = b"CNCV", b"CMT1", b"CMT2", b"CMT3", b"CMT4"
+CNCV, CMT1, CMT2, CMT3, CMT4 = b"CNCV", b"CMT1", b"CMT2", b"CMT3", b"CMT4"
 _WITHOUT = frozenset((b"CCTP", b"CTBO", b"THMB", b"free"))  # kinds and places of tracks, thumbnail
 
 
@@ -17,7 +17,7 @@ def parts(blocks: Blocks, stream: Stream, box: Box) -> Dict[bytes, Box]:
     """The version and the structures of the box. Other boxes in it are named. Raises `Broken`."""
     structures: Dict[bytes, Box] = {}
     for structure in boxes(stream, box.start, box.end):
-        if structure.kind in (VERSION, MAIN, EXIF, MAKER_NOTE, GPS):
+        if structure.kind in (CNCV, CMT1, CMT2, CMT3, CMT4):
             if structure.kind in structures:
                 raise Broken(f"a second {structure.name}")
             structures[structure.kind] = structure
@@ -29,5 +29,5 @@ def parts(blocks: Blocks, stream: Stream, box: Box) -> Dict[bytes, Box]:
 def leave_all(blocks: Blocks, stream: Stream, box: Box) -> None:
     """Names the structures, in a picture whose Exif is elsewhere. Raises `Broken`."""
     for structure in parts(blocks, stream, box).values():
-        if structure.kind != VERSION:
+        if structure.kind != CNCV:
             leave(blocks, f"{structure.name} of Canon", stream, structure.start, structure.end)

@@ -14,12 +14,12 @@ from ...model.budgets import Budget
 from ...model.found import Broken
 from ...model.tiff_types import HEADS, LONG
 from ..structure import gaps
-from .canon import EXIF, GPS, MAIN, MAKER_NOTE
+from .canon import CMT1, CMT2, CMT3, CMT4
 from .tiff_block import NOWHERE, Layout, Table, is_pointer
 from .tiff_directories import Directories, Directory
 from .tiff_entries import IN_ENTRY, Entry
 
-_TAGS = {EXIF: 0x8769, GPS: 0x8825}
+_TAGS = {CMT2: 0x8769, CMT4: 0x8825}
 _NOTE, _INTEROPERABILITY, _UNDEFINED = 0x927C, 0xA005, 7
 
 
@@ -28,9 +28,9 @@ def one_block(structures: Dict[bytes, bytes], budget: Budget) -> Optional[bytes]
 
     They can't be one if they have several byte orders, further directories, pointers to what is in another box, or damage.
     """
-    if MAIN not in structures or len({structures[it][:4] for it in structures if it != MAKER_NOTE}) > 1:
+    if CMT1 not in structures or len({structures[it][:4] for it in structures if it != CMT3}) > 1:
         return None
-    if structures[MAIN][:4] not in HEADS:
+    if structures[CMT1][:4] not in HEADS:
         return None
     try:
         return _Joined(structures, budget).block()
@@ -56,9 +56,9 @@ class _Joined(Directories):
     def __init__(self, structures: Dict[bytes, bytes], budget: Budget) -> None:
         self._ranges: Dict[bytes, Tuple[int, int]] = {}
         joined = b""
-        if MAKER_NOTE in structures:
-            structures = {**structures, MAKER_NOTE: _laid_out(structures[MAKER_NOTE], budget)}
-        for kind in (MAIN, EXIF, GPS, MAKER_NOTE):
+        if CMT3 in structures:
+            structures = {**structures, CMT3: _laid_out(structures[CMT3], budget)}
+        for kind in (CMT1, CMT2, CMT4, CMT3):
             if kind in structures:
                 self._ranges[kind] = (len(joined), len(joined) + len(structures[kind]))
                 joined += structures[kind]
@@ -67,13 +67,13 @@ class _Joined(Directories):
 
     def block(self) -> bytes:
         """One block of all. Raises `Broken`, `TooMuch` and `_NotOne`."""
-        tables = {kind: self._table(kind) for kind in (MAIN, EXIF, GPS) if kind in self._ranges}
-        if MAKER_NOTE in self._ranges:
-            start, end = self._ranges[MAKER_NOTE]
-            if EXIF not in tables or end - start <= IN_ENTRY:
+        tables = {kind: self._table(kind) for kind in (CMT1, CMT2, CMT4) if kind in self._ranges}
+        if CMT3 in self._ranges:
+            start, end = self._ranges[CMT3]
+            if CMT2 not in tables or end - start <= IN_ENTRY:
                 raise _NotOne
-            _insert(tables[EXIF].entries, Entry(_NOTE, _UNDEFINED, end - start, self._packed(start), end - start))
-        main = tables.pop(MAIN)
+            _insert(tables[CMT2].entries, Entry(_NOTE, _UNDEFINED, end - start, self._packed(start), end - start))
+        main = tables.pop(CMT1)
         for kind, table in tables.items():
             if table.entries:
                 _insert(main.entries, Entry(_TAGS[kind], LONG, 1, bytes(4), 4))
@@ -89,7 +89,7 @@ class _Joined(Directories):
         """The first directory of a structure, with its interoperability directory."""
         entries = self._directory(kind, self._firsts[kind])
         below: Dict[int, Table] = {}
-        for entry in entries if kind == EXIF else ():
+        for entry in entries if kind == CMT2 else ():
             if entry.tag == _INTEROPERABILITY and is_pointer(entry) and not below:
                 below[entry.tag] = Table(self._directory(kind, self.number(entry.last)), {})
         return Table(entries, below)

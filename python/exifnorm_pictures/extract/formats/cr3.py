@@ -20,7 +20,7 @@ _WITHOUT = frozenset((b"ftyp", b"mdat", b"free", b"skip", b"wide"))
 _WITHOUT_IN_MOVIE = frozenset((b"mvhd", b"free"))
 _BELOW_TRACK = frozenset((b"mdia", b"minf", b"stbl"))
 _PIXELS = b"CRAW"
-_NAMES = {canon.EXIF: "CMT2", canon.MAKER_NOTE: "the MakerNote", canon.GPS: "CMT4"}  # of blocks that can't be one with CMT1
+_NAMES = {canon.CMT2: "CMT2", canon.CMT3: "the MakerNote", canon.CMT4: "CMT4"}  # of blocks that can't be one with CMT1
 
 
 def is_cr3(head: bytes) -> bool:
@@ -58,9 +58,9 @@ def _movie(blocks: Blocks, stream: Stream, moov: Box) -> None:
             _Track(blocks, stream, box).take()
         elif box.kind not in _WITHOUT_IN_MOVIE:
             leave(blocks, f"{box.name} in moov", stream, box.start, box.end)
-    if canon.MAIN not in structures:
+    if canon.CMT1 not in structures:
         raise Broken("the file has no CMT1 box")
-    version = structures.pop(canon.VERSION, None)
+    version = structures.pop(canon.CNCV, None)
     if version is not None and not content(stream, version).startswith(b"CanonCR3"):
         raise LeftToOthers("a film of Canon")
     _add_exif(blocks, stream, structures)
@@ -72,7 +72,7 @@ def _add_exif(blocks: Blocks, stream: Stream, canon_boxes: Dict[bytes, Box]) -> 
     block = one_block(structures, blocks.budget)
     if block is not None:
         names = ", ".join(it.decode("ascii") for it in sorted(structures))
-        blocks.add(EXIF, block, f"boxes {names} at {canon_boxes[canon.MAIN].at}")
+        blocks.add(EXIF, block, f"boxes {names} at {canon_boxes[canon.CMT1].at}")
         return
     for kind, data in structures.items():
         blocks.add(EXIF, data, f"{canon_boxes[kind].name} at {canon_boxes[kind].at}", _NAMES.get(kind, ""))

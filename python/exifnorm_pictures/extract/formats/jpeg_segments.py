@@ -5,7 +5,7 @@ from __future__ import annotations
 from typing import List, NamedTuple, Tuple
 
 import exifnorm
-from exifnorm._jpeg import KINDS, Row, part_rows
+from exifnorm._jpeg import PART_KINDS, PartRow, part_rows
 
 from ...model.budgets import SEGMENTS, SEGMENT_BYTES, Budget
 from .streams import HEAD, Stream
@@ -34,14 +34,14 @@ def is_not_compared(marker: int, data: bytes) -> bool:
     return any(marker == number and data.startswith(head) for number, head, _ in NOT_COMPARED)
 
 
-EXIF_PIECE, PHOTOSHOP_PIECE, XMP_PACKET, XMP_PIECE = (KINDS.index(it) for it in ("exif", "photoshop", "xmp", "extended xmp"))
+EXIF_PIECE, PHOTOSHOP_PIECE, XMP_PACKET, XMP_PIECE = (PART_KINDS.index(it) for it in ("exif", "photoshop", "xmp", "extended xmp"))
 
 
 class Head(NamedTuple):
     """The head of a picture, or what is there of one that is damaged."""
 
     octets: bytes  # of the file from the picture's start on; they have all parts, and may have more
-    parts: List[Row]  # each with its marker, the number of its kind, whether a block begins with it, its offset and its size
+    parts: List[PartRow]  # each with its marker, the number of its kind, whether a block begins with it, its offset and its size
     end: int  # in the file, after the last part
     fault: str = ""  # why the head isn't whole
 
@@ -73,12 +73,16 @@ def read_head(stream: Stream, start: int, budget: Budget) -> Head:
 _FAULTS = {"JpegCut": "the file ends inside the segment", "JpegNoMarker": "no marker", "JpegLength": "no segment", "JpegNoStart": "no JPEG"}
 
 
-def _parts(octets: bytes, budget: Budget) -> Tuple[List[Row], str, int]:
+def _parts(octets: bytes, budget: Budget) -> Tuple[List[PartRow], str, int]:
     """The parts of a head, and the cause and the offset of its fault, if it has one. Raises `TooMuch`."""
     try:
         return part_rows(octets, budget.left[SEGMENTS]), "", 0
     except exifnorm.HeadRefused as why:
-        return [(marker, KINDS.index(kind), begins, start, size) for marker, kind, begins, start, size in why.parts], why.cause, why.place
+        return (
+            [(marker, PART_KINDS.index(kind), begins, start, size) for marker, kind, begins, start, size in why.parts],
+            why.cause,
+            why.place,
+        )
     except exifnorm.TooMany as many:
         budget.spend(SEGMENTS, many.most + 1)  # which raises
         raise
