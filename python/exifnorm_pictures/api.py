@@ -273,10 +273,10 @@ class _Whole(NamedTuple):
     head: Optional[bytes]  # of a JPEG
 
     @classmethod
-    def of(cls, opened: Callable[[Budget], Parts]) -> "_Whole":
+    def of(cls, opened: Callable[[Budget], Parts], name: bytes) -> "_Whole":
         """That of a file, which is opened several times."""
         with contextlib.closing(opened(Budget())) as file:
-            coded = coded_picture.of_stream(file, file.budget)
+            coded = coded_picture.of_stream(file, file.budget, name)
         with contextlib.closing(opened(Budget())) as file:
             head = proved.head_of(file)
         with contextlib.closing(opened(Budget(whole=True))) as file:
@@ -355,7 +355,7 @@ class Picture:
         """The same with the digests of the coded picture and of the file, if the file is still the one that was read."""
         if self._whole is None and self._is_unchanged():
             with contextlib.suppress(OSError, TooMuch):
-                whole = _Whole.of(lambda budget: File(*opening.opened(self._path), budget))
+                whole = _Whole.of(lambda budget: File(*opening.opened(self._path), budget), self._path)
                 self._whole = whole if self._is_unchanged() else None
         if self._whole is None:
             return self._record()
@@ -503,7 +503,7 @@ def _read_object(source: BinaryIO, name: str, whole: bool, compares: bool) -> Pi
     try:
         with seekable(source, Budget(whole)) as file:
             reading = _reading(FileObject(file, Budget(whole)), os.fsencode(name), name, whole)
-            return Picture(name, reading, whole=_Whole.of(lambda budget: FileObject(file, budget)) if compares else None)
+            return Picture(name, reading, whole=_Whole.of(lambda budget: FileObject(file, budget), os.fsencode(name)) if compares else None)
     except TooMuch as why:
         raise NotReadable(Problem.TOO_MUCH, str(why), name) from None
 

@@ -5,15 +5,17 @@ What decides the pixels is in the formats' standards: ITU T.81, the PNG specific
 
 import hashlib
 import io
+import itertools
 import json
 import os
+import random
 import struct
 import zlib
 
 import pytest
 from made_blocks import ASCII, LONG, SHORT, segment
 from made_files import A, B, Placed, app1, app1_xmp, app13, chunk, iim, jpeg, mpf, page, png, png_xmp, profile, resource, tiff, title, webp
-from made_raw import dng
+from made_raw import dng, srw
 from studio import SMALL_JPEG, needs, put, tool, write
 
 from exifnorm_pictures.catalogue.store import Catalogue
@@ -34,6 +36,29 @@ def pixel(data, **more):
     return page(*((tag, *it) for tag, it in known.items()))
 
 
+def file_of(*entries, order=">", data=b"abcdefgh"):
+    """A TIFF whose strips are in these bytes, at 8, of entries as they are in the file: tag, type, count, and last four bytes."""
+    rows = b"".join(struct.pack(order + "HHI", *it[:3]) + it[3] for it in sorted(entries))
+    head = (b"MM\0*" if order == ">" else b"II*\0") + struct.pack(order + "I", 8 + len(data))
+    return head + data + struct.pack(order + "H", len(entries)) + rows + bytes(4)
+
+
+def entries_of(order=">", **more):
+    """A page of eight points of a row, and other entries by their tags."""
+    numbers = {0x100: 8, 0x101: 1, 0x102: 8, 0x103: 1, 0x106: 1, 0x111: 8, 0x115: 1, 0x116: 1, 0x117: 8}
+    numbers.update({int(key[1:], 16): it for key, it in more.items()})
+    return [it if isinstance(it, tuple) else (tag, LONG, 1, struct.pack(order + "I", it)) for tag, it in numbers.items() if it is not None]
+
+
+def frame(names, *segments):
+    """A JPEG of three components with these names; what is behind its tables is no data of a picture, which nothing here decodes."""
+    parts = b"".join(bytes([it, 0x11, 0]) for it in names)
+    scan = b"\xff\xda" + struct.pack(">HB", 12, 3) + b"".join(bytes([it, 0]) for it in names) + b"\0\x3f\0"
+    return b"\xff\xd8" + b"".join(segments) + segment(0xC0, b"\x08\0\1\0\1\3" + parts) + scan + b"data\xff\xd9"
+
+
+JFIF, RGB = segment(0xE0, b"JFIF\0\1\1\0\0\1\0\1\0\0"), segment(0xEE, b"Adobe\0d\0\0\0\0\0")
+VP8L = b"\x2f" + struct.pack("<I", 1 << 28) + b"data"  # transparent somewhere (RFC 9649, 3.4)
 SCAN = SMALL_JPEG.index(b"\xff\xda")
 VP8 = b"VP8 of a picture"
 
@@ -58,6 +83,18 @@ SAME = {
     "TIFF: another place": (tiff(pixel(b"abcd")), tiff(pixel(b"abcd"), more=bytes(40))),
     "TIFF: LONG in place of SHORT": (tiff(pixel(b"abcd", x102=(SHORT, 8))), tiff(pixel(b"abcd", x102=(LONG, 8)))),
     "TIFF: a trailer": (tiff(pixel(b"abcd")), tiff(pixel(b"abcd"), behind=b"trailer")),
+    "JPEG: JFIF, where other segments decide as it does": (
+        frame(b"\1\2\3", JFIF, segment(0xEE, b"Adobe\0d\0\0\0\0\1")),
+        frame(b"\1\2\3", segment(0xEE, b"Adobe\0d\0\0\0\0\1")),
+    ),
+    "JPEG: JFIF of usual names": (frame(b"\1\2\3", JFIF), frame(b"\1\2\3")),
+    "WebP: VP8X of what is transparent": (webp((b"VP8L", VP8L)), webp((b"VP8X", b"\x1c\0\0\0" + bytes(6)), (b"VP8L", VP8L))),
+    "WebP: VP8X of what isn't transparent": (
+        webp((b"VP8L", VP8L[:1] + bytes(8))),
+        webp((b"VP8X", bytes(10)), (b"VP8L", VP8L[:1] + bytes(8))),
+    ),
+    "TIFF: orientation, which is a field": (file_of(*entries_of()), file_of(*entries_of(x112=6))),
+    "TIFF: the byte order of samples of a byte": (file_of(*entries_of()), file_of(*entries_of("<"), order="<")),
     "DNG: another artist": (dng(b"Anna"), dng(b"Otto", gap=40)),
 }
 DIFFERENT = {
@@ -69,6 +106,15 @@ DIFFERENT = {
         jpeg(segment(0xDB, b"\0" * 65), segment(0xC4, b"abcd")),
         jpeg(segment(0xDB, b"\0" * 65 + b"\xff\xc4abcd")),
     ),
+    "JPEG: JFIF beside Adobe's RGB": (frame(b"\1\2\3", JFIF, RGB), frame(b"\1\2\3", RGB)),
+    "JPEG: JFIF of components R, G and B": (frame(b"RGB", JFIF), frame(b"RGB")),
+    "PNG: a chunk in the data": (
+        png().replace(b"\0\0\0\0IEND", chunk(b"fdAT", b"abcd") + b"\0\0\0\0IEND"),
+        png().replace(
+            chunk(b"IDAT", zlib.compress(b"\0\0")),
+            chunk(b"IDAT", zlib.compress(b"\0\0") + chunk(b"fdAT", b"abcd")[4:8] + chunk(b"fdAT", b"abcd")[:4] + b"abcd"),
+        ),
+    ),
     "PNG: data": (png(), png().replace(chunk(b"IDAT", zlib.compress(b"\0\0")), chunk(b"IDAT", zlib.compress(b"\0\1")))),
     "PNG: a palette": (png(chunk(b"PLTE", b"abc")), png(chunk(b"PLTE", b"abd"))),
     "PNG: transparency": (png(chunk(b"tRNS", b"ab")), png(chunk(b"tRNS", b"ac"))),
@@ -79,11 +125,32 @@ DIFFERENT = {
         webp((b"VP8X", b"\2\0\0\0" + bytes(6)), (b"ANIM", VP8)),
         webp((b"VP8X", b"\2\0\0\0" + b"\1" + bytes(5)), (b"ANIM", VP8)),
     ),
+    "WebP: transparency that VP8X doesn't name": (
+        webp((b"VP8X", b"\x10\0\0\0" + bytes(6)), (b"ALPH", b"a"), (b"VP8 ", VP8)),
+        webp((b"VP8X", bytes(10)), (b"ALPH", b"a"), (b"VP8 ", VP8)),
+    ),
+    "WebP: lossless transparency that VP8X doesn't name": (webp((b"VP8L", VP8L)), webp((b"VP8X", bytes(10)), (b"VP8L", VP8L))),
+    "WebP: transparency of an animation": (
+        webp((b"VP8X", b"\x12\0\0\0" + bytes(6)), (b"ANMF", VP8)),
+        webp((b"VP8X", b"\2\0\0\0" + bytes(6)), (b"ANMF", VP8)),
+    ),
+    "TIFF: the byte order of samples of two bytes": (
+        file_of(*entries_of(x100=4, x102=16)),
+        file_of(*entries_of("<", x100=4, x102=16), order="<"),
+    ),
+    "TIFF: a SubIFD in place of a page": (tiff(pixel(b"ab", x14a=(LONG, pixel(b"cd")))), tiff(pixel(b"ab"), pixel(b"cd"))),
+    "TIFF: pages exchanged": (tiff(pixel(b"ab"), pixel(b"cd")), tiff(pixel(b"cd"), pixel(b"ab"))),
+    "TIFF: tables of JPEG that swallow other entries": (
+        tiff(pixel(b"abcd", x15b=(7, b"tables"), x200=(SHORT, 1))),
+        tiff(pixel(b"abcd", x15b=(7, b"tables 512:1"))),
+    ),
+    "TIFF: slices of CR2": (tiff(pixel(b"abcd", xc640=(7, b"123456"))), tiff(pixel(b"abcd", xc640=(7, b"123457")))),
+    "SRW: the table of rows": (srw(), srw().replace(b"\xbb" * 16, b"\xbb" * 15 + b"\xbc")),
     "TIFF: a strip": (tiff(pixel(b"abcd")), tiff(pixel(b"abce"))),
     "TIFF: a second page": (tiff(pixel(b"abcd")), tiff(pixel(b"abcd"), pixel(b"abcd"))),
     "TIFF: a SubIFD": (tiff(pixel(b"ab", x14a=(LONG, pixel(b"cd")))), tiff(pixel(b"ab", x14a=(LONG, pixel(b"ce"))))),
     **{
-        f"TIFF: tag {tag[1:]}": (tiff(pixel(b"abcd", **{tag: (SHORT, 2)})), tiff(pixel(b"abcd", **{tag: (SHORT, 3)})))
+        f"TIFF: tag {tag[1:]}": tuple(tiff(pixel(b"abcd", **{"x116": (SHORT, 4), tag: (SHORT, it)})) for it in (2, 3))
         for tag in "x100 x101 x102 x103 x106 x10a x115 x116 x11c x124 x125 x13d x142 x143 x14c x152 x153 x211 x212".split()
     },
     "TIFF: a colour map": (tiff(pixel(b"abcd", x140=(SHORT, b"abcdef"))), tiff(pixel(b"abcd", x140=(SHORT, b"abcdeg")))),
@@ -99,6 +166,19 @@ NONE = {
     "a TIFF with a strip outside": tiff(pixel(b"abcd", x111=(LONG, 0x7FFFFFF0))),
     "a TIFF without lengths": tiff([it for it in pixel(b"abcd") if it[0] != 0x117]),
     "a TIFF with old tables": tiff(pixel(b"abcd", x207=(LONG, 8))),
+    "a TIFF with its width outside": file_of(*entries_of(x100=(0x100, LONG, 2, b"\x7f\0\0\0"))),
+    # What readers take otherwise than it is written
+    "TIFF, two widths": file_of(*entries_of(), (0x100, LONG, 1, b"\0\0\0\7")),
+    "TIFF, two strips": file_of(*entries_of(), (0x111, LONG, 1, b"\0\0\0\x0a")),
+    "TIFF, a strip of no length": file_of(*entries_of(x117=0)),
+    "TIFF, no strip": file_of(*entries_of(x111=0, x117=0)),
+    "TIFF, a short strip": file_of(*entries_of(x117=7)),
+    "TIFF, a strip for two rows": file_of(*entries_of(x101=2, x100=4, x116=1)),
+    "TIFF, a short strip of samples": file_of(*entries_of(x115=2)),
+    "TIFF, a short tile": file_of(*entries_of(x111=None, x117=None, x142=4, x143=4, x144=8, x145=8)),
+    "TIFF, a width of another type": file_of(*entries_of(x100=(0x100, 9, 1, b"\0\0\0\x08"))),
+    "TIFF, lengths of tiles": file_of(*entries_of(x145=2)),
+    "TIFF, a private directory": file_of(*entries_of(x8290=8)),
 }
 
 
@@ -118,6 +198,13 @@ def test_different(one, other):
 def test_none(octets, tmp_path):
     write(tmp_path / "a", octets)
     assert coded_picture.of_file(bytes(tmp_path / "a"), Budget()).digest == ""
+
+
+@pytest.mark.parametrize("name", ["a.iiq", "a.3FR", "a.tif"])
+def test_raw_pictures_of_other_makers(name, tmp_path):
+    """It isn't known where the pixels of a raw picture are that is left to ExifTool: its directories may have a preview alone."""
+    write(tmp_path / name, tiff(pixel(b"abcd")))
+    assert (coded_picture.of_file(bytes(tmp_path / name), Budget()).digest == "") is not name.endswith(".tif")
 
 
 @pytest.mark.parametrize("name", NONE)
@@ -194,6 +281,43 @@ def test_a_picture_has_one_budget(tmp_path):
     assert coded_picture.of_file(bytes(tmp_path / "a"), budget).digest != ""
     budget.left[BYTES_READ] = 1000
     assert coded_picture.of_file(bytes(tmp_path / "a"), budget).digest == ""
+
+
+def pixels(image, octets):
+    """What Pillow decodes, but for the orientation, by which it turns a picture; None if it decodes nothing."""
+    try:
+        found = image.open(io.BytesIO(octets))
+        if found.width * found.height > 1 << 16 or found.tag_v2.get(0x112, 1) != 1:
+            return None
+        return found.mode, found.size, (found.convert("RGB") if found.mode == "P" else found).tobytes()
+    except Exception:
+        return None
+
+
+@pytest.mark.filterwarnings("ignore::UserWarning")  # of Pillow, about the changes
+@pytest.mark.parametrize("mode", ["RGB", "L", "P", "I;16", "CMYK"])
+def test_equal_digests_are_equal_pixels(mode):
+    """Of changed TIFFs, two with one digest are decoded by Pillow to the same pixels."""
+    image, chance, count = pytest.importorskip("PIL.Image"), random.Random(mode), 0
+    made = io.BytesIO()
+    image.frombytes(mode, (9, 5), chance.randbytes(9 * 5 * {"RGB": 3, "I;16": 2, "CMYK": 4}.get(mode, 1))).save(made, "TIFF")
+    whole = made.getvalue()
+    (at,) = struct.unpack_from("<I", whole, 4)
+    for _ in range(500):
+        octets = bytearray(whole)
+        for _ in range(chance.choice((1, 2))):
+            row = at + 2 + 12 * chance.randrange(struct.unpack_from("<H", whole, at)[0])
+            form, place, most = chance.choice((("<H", 0, 0x220), ("<H", 2, 14), ("<I", 4, 4), ("<I", 8, 12), ("<I", 8, len(whole))))
+            struct.pack_into(form, octets, row + place, chance.randrange(most))
+        other = bytearray(octets)
+        for _ in range(3):
+            other[chance.randrange(8, len(other))] ^= 1 << chance.randrange(8)
+        found = [(coded_picture.of_stream(io.BytesIO(it), Budget()).digest, pixels(image, bytes(it))) for it in (octets, other, whole)]
+        for (first, one), (second, two) in itertools.combinations(found, 2):
+            if first and first == second and one and two:
+                count += 1
+                assert one == two, (bytes(octets).hex(), bytes(other).hex())
+    assert count > 20
 
 
 @needs("exiftool", "convert")

@@ -3,26 +3,28 @@
 Files with the same digest show the same picture, whatever their metadata are. Files with different ones may show the same picture too, if
 it was coded again. Colour profiles don't count.
 
-JPEG: all segments but those of applications and comments, of which Adobe's APP14 counts, and all data of the scans. PNG: the chunks of
-`_PNG`. WebP: the chunks of `_WEBP`, and of an animation the size in VP8X. TIFF, BigTIFF, and raw pictures in this structure: of each page and SubIFD the tags of
-`_CODING`, and the strips and tiles in their order.
+JPEG: all segments but those of applications and comments, of which Adobe's APP14 counts, and JFIF where it decides the colours; and all data
+of the scans. PNG: the chunks of `_PNG`. WebP: the chunks of `_WEBP`, and of an animation the size in VP8X. TIFF, BigTIFF, and raw pictures
+in this structure: see `coded_tiff`.
 """
 
 from __future__ import annotations
 
 import contextlib
 import hashlib
-from typing import Dict, Iterator, List, NamedTuple, Optional, Tuple
+from typing import NamedTuple, Optional
 
 from ..files import opening
-from ..model.budgets import CHUNKS, STRIPS, Budget, TooMuch
+from ..model.budgets import CHUNKS, Budget, TooMuch
 from ..model.found import Broken
+from . import coded_tiff, raw_files
+from .coded_tiff import NotFollowed
 from .formats import bigtiff, jpeg, png, tiff, webp
-from .formats.jpeg_segments import EOI, SOI, SOS, read_head
+from .formats.jpeg_segments import EOI, SOI, SOS, Head, read_head
 from .formats.jpeg_tail import Markers
 from .formats.streams import File, Stream, pieces, read_at, size_of
-from .formats.tiff_directories import Directories, Directory
-from .formats.tiff_entries import BIG, Entry
+from .formats.tiff_directories import Directories
+from .formats.tiff_entries import BIG
 
 
 class CodedPicture(NamedTuple):
@@ -33,22 +35,20 @@ class CodedPicture(NamedTuple):
     damage: str = ""  # what is damaged
 
 
-class NotFollowed(Broken):
-    """A coded picture in a form that isn't followed here, which is no damage."""
-
-
 def of_file(path: bytes, budget: Budget) -> CodedPicture:
     """The digest of the coded picture of a file: none if its format has none here, if it is damaged, or if it goes over what is left of a
     budget."""
     try:
         with contextlib.closing(File(*opening.opened(path), budget)) as file:
-            return of_stream(file, budget)
+            return of_stream(file, budget, path)
     except OSError:
         return CodedPicture()
 
 
-def of_stream(stream: Stream, budget: Budget) -> CodedPicture:
-    """The same of a file that is open."""
+def of_stream(stream: Stream, budget: Budget, name: bytes = b"") -> CodedPicture:
+    """The same of a file that is open. Its name shows raw pictures of which it isn't known where their pixels are."""
+    if raw_files.is_left(name):
+        return CodedPicture()
     beside = hashlib.blake2b(digest_size=32)
     nothing = beside.digest()
     try:
@@ -73,9 +73,9 @@ def digest(stream: Stream, budget: Budget, beside: "Optional[hashlib.blake2b]" =
     elif webp.is_webp(head):
         _webp(stream, coded, budget, beside)
     elif head[:4] in tiff.HEADS:
-        _tiff(Directories(stream), coded, budget, beside)
+        coded_tiff.add(Directories(stream), coded, budget, beside)
     elif head[:4] in bigtiff.HEADS:
-        _tiff(Directories(stream, BIG), coded, budget, beside)
+        coded_tiff.add(Directories(stream, BIG), coded, budget, beside)
     else:
         return ""
     return coded.hexdigest()
@@ -90,6 +90,8 @@ def _add(stream: Stream, hasher: "hashlib.blake2b", start: int, end: int) -> Non
 
 _METADATA = frozenset((*range(0xE0, 0xEE), 0xEF, 0xFE))  # APP0 to APP13, APP15 and COM
 _PROFILE, _COMMENT = 0xE2, 0xFE
+_JFIF, _ADOBE = 0xE0, 0xEE
+_NO_FRAMES = (0xC4, 0xC8, 0xCC)  # tables, and what is reserved
 _ALONE = frozenset((0x01, *range(0xD0, 0xD8)))  # markers without a segment
 
 
@@ -104,7 +106,26 @@ def _jpeg(stream: Stream, coded: "hashlib.blake2b", budget: Budget, beside: "has
             coded.update(head.octets[start - 4 : start + size])
         elif marker == _COMMENT or (marker == _PROFILE and head.octets.startswith(b"ICC_PROFILE\0", start)):
             beside.update(head.octets[start - 4 : start + size])
+    if _jfif_decides(head):
+        coded.update(b"JFIF")
     _scans(stream, coded, head.parts[-1][3] - 4, budget)
+
+
+def _jfif_decides(head: Head) -> bool:
+    """Whether the colours of three components are those of JFIF, as there is a segment of it, and would be RGB without it: readers take a
+    picture so by Adobe's transform 0, or by the letters of its components."""
+    frame = transform = b""
+    is_jfif = False
+    for marker, _, _, start, size in head.parts:
+        data = head.octets[start : start + min(size, 32)]
+        if marker == _JFIF and data.startswith(b"JFIF\0"):
+            is_jfif = True
+        elif marker == _ADOBE and data.startswith(b"Adobe") and size >= 12:
+            transform = data[11:12]
+        elif 0xC0 <= marker <= 0xCF and marker not in _NO_FRAMES:
+            frame = data
+    names = frame[6:15:3] if frame[5:6] == b"\3" else b""
+    return is_jfif and bool(names) and (transform == b"\0" or (not transform and names == b"RGB"))
 
 
 def _scans(stream: Stream, coded: "hashlib.blake2b", at: int, budget: Budget) -> None:
@@ -136,11 +157,12 @@ _PNG_COLOURS = frozenset((b"iCCP", b"gAMA", b"cHRM", b"sRGB", b"cICP"))
 _PNG_TEXTS = frozenset((b"tEXt", b"zTXt", b"iTXt"))
 _PNG_METADATA = (b"XML:com.adobe.xmp", b"Raw profile type ")  # the beginnings of texts that are blocks
 _WEBP = frozenset((b"VP8 ", b"VP8L", b"ALPH", b"ANIM", b"ANMF"))
+_ALPHA = 0x10  # the bit of VP8X that says that a picture is transparent somewhere
 _MOVES = 0x02  # the bit of VP8X that says so; a picture that doesn't move has VP8X only if it has metadata or ALPH
 
 
 def _png(stream: Stream, coded: "hashlib.blake2b", budget: Budget, beside: "hashlib.blake2b") -> None:
-    at, size, last = len(png.START), size_of(stream), b""
+    at, size, last, data = len(png.START), size_of(stream), b"", 0
     while True:
         budget.spend(CHUNKS)
         head = read_at(stream, at, 8)
@@ -150,8 +172,11 @@ def _png(stream: Stream, coded: "hashlib.blake2b", budget: Budget, beside: "hash
         if kind == b"IEND":
             return
         if kind in _PNG:
+            if kind != b"IDAT" and last == b"IDAT":
+                coded.update(b"%d" % data)  # so that a chunk is none of the data
             if kind != b"IDAT" or last != b"IDAT":  # the data of these chunks are one stream
                 coded.update(kind if kind == b"IDAT" else kind + head[:4])
+            data += length if kind == b"IDAT" else 0
             _add(stream, coded, at + 8, at + 8 + length)
             last = kind
         elif kind in _PNG_COLOURS or (kind in _PNG_TEXTS and not read_at(stream, at + 8, min(length, 17)).startswith(_PNG_METADATA)):
@@ -162,7 +187,7 @@ def _png(stream: Stream, coded: "hashlib.blake2b", budget: Budget, beside: "hash
 
 def _webp(stream: Stream, coded: "hashlib.blake2b", budget: Budget, beside: "hashlib.blake2b") -> None:
     end = 8 + int.from_bytes(read_at(stream, 4, 4), "little")
-    at = 12
+    at, flags = 12, _ALPHA
     if end > size_of(stream):
         raise Broken("the file is shorter than its header says")
     while at + 8 <= end:
@@ -174,8 +199,10 @@ def _webp(stream: Stream, coded: "hashlib.blake2b", budget: Budget, beside: "has
         if head[:4] == b"VP8X":
             flags, *size = read_at(stream, at + 8, min(length, 10)) or b"\0"
             if flags & _MOVES:
-                coded.update(head[:4] + bytes(size))
+                coded.update(head[:4] + bytes([flags & _ALPHA, *size]))
         elif head[:4] in _WEBP:
+            if not flags & _ALPHA and _has_alpha(head[:4], read_at(stream, at + 8, min(length, 5))):
+                coded.update(b"opaque")  # readers leave out what VP8X doesn't name
             coded.update(head)
             _add(stream, coded, at + 8, at + 8 + length)
         elif head[:4] == b"ICCP":
@@ -183,71 +210,6 @@ def _webp(stream: Stream, coded: "hashlib.blake2b", budget: Budget, beside: "has
         at += 8 + length + length % 2
 
 
-# TIFF
-
-_CODING = (
-    *(0x0100, 0x0101, 0x0102, 0x0103, 0x0106, 0x010A, 0x0115, 0x0116, 0x011C, 0x0124, 0x0125, 0x013D, 0x0140, 0x0142, 0x0143, 0x014C),
-    *(0x0152, 0x0153, 0x015B, 0x0200, 0x0203, 0x0205, 0x0206, 0x0211, 0x0212, 0x0214),
-)
-_OFFSETS = {0x0111: 0x0117, 0x0144: 0x0145, 0x0201: 0x0202}  # of strips, tiles and JPEGs, each with the tag of their lengths
-_TIFF_PROFILE = 0x8773
-_OLD_TABLES = (0x0207, 0x0208, 0x0209)  # of JPEG in TIFF 6.0, whose lengths aren't in the file's directories
-
-
-def _tiff(directories: Directories, coded: "hashlib.blake2b", budget: Budget, beside: "hashlib.blake2b") -> None:
-    left, strips = directories.size, 0  # strips may share bytes in a made file
-    for number, page in enumerate(tiff.Reader(directories, False).pages()):
-        by_tag: Dict[int, Entry] = {it.tag: it for it in page.directory.entries}
-        if _TIFF_PROFILE in by_tag:
-            beside.update(b"%d:" % number + directories.value(by_tag[_TIFF_PROFILE]))
-        if any(tag in by_tag for tag in _OLD_TABLES):
-            raise NotFollowed("old tables of JPEG")
-        for tag in _CODING:
-            if tag in by_tag:
-                coded.update(b"%d:%s " % (tag, _value(directories, by_tag[tag])))
-        for start, end in _joined(_strips(directories, page.directory, by_tag, coded)):
-            strips += 1
-            left -= end - start
-            if left < 0 or strips > STRIPS:
-                raise Broken("the strips are more than the file")
-            budget.check_time()
-            _add(directories.stream, coded, start, end)
-
-
-def _value(directories: Directories, entry: Entry) -> bytes:
-    """A value: numbers as texts, so that SHORT and LONG are alike."""
-    numbers = directories.numbers(entry)
-    return b",".join(b"%d" % number for number in numbers) if numbers else directories.value(entry)
-
-
-def _strips(directories: Directories, page: Directory, by_tag: Dict[int, Entry], coded: "hashlib.blake2b") -> Iterator[Tuple[int, int]]:
-    """The ranges of the strips, tiles and JPEGs of a page, after their lengths, which are added. Raises `Broken`."""
-    for tag, of_lengths in _OFFSETS.items():
-        if tag not in by_tag:
-            continue
-        starts, lengths = (directories.numbers(by_tag[it]) if it in by_tag else [] for it in (tag, of_lengths))
-        if len(starts) != len(lengths) or not starts:
-            raise Broken(f"the strips of the directory at {page.at} have no lengths")
-        coded.update(b"%d:%s " % (of_lengths, b",".join(b"%d" % it for it in lengths)))
-        for start, length in zip(starts, lengths):
-            if start + length > directories.size:
-                raise Broken("a strip isn't in the file")
-            yield start, start + length
-
-
-def _joined(ranges: Iterator[Tuple[int, int]]) -> Iterator[Tuple[int, int]]:
-    """The same bytes in the same order, in fewer ranges.
-
-    >>> list(_joined(iter([(2, 5), (5, 9), (1, 2)])))
-    [(2, 9), (1, 2)]
-    """
-    last: Optional[List[int]] = None
-    for start, end in ranges:
-        if last and start == last[1]:
-            last[1] = end
-            continue
-        if last:
-            yield last[0], last[1]
-        last = [start, end]
-    if last:
-        yield last[0], last[1]
+def _has_alpha(kind: bytes, data: bytes) -> bool:
+    """Whether a chunk with these first bytes has transparency (RFC 9649, 3.4: the bit after the signature, the width and the height)."""
+    return kind == b"ALPH" or (kind == b"VP8L" and len(data) == 5 and bool(data[4] & 0x10))

@@ -8,3 +8,14 @@ LEFT = "nrw arq sr2 srf rwl 3fr iiq erf mef mos dcr kdc k25 gpr fff raw".split()
 OTHERS = "cr3 crw raf mrw x3f".split()
 
 ALL = (*READ, *LEFT, *OTHERS)
+_LEFT = frozenset(it.encode("ascii") for it in LEFT)
+
+
+def is_left(name: bytes) -> bool:
+    """Whether a file with this name is left to other programs.
+
+    >>> is_left(b"a.IIQ"), is_left(b"a.nef"), is_left(b"raw")
+    (True, False, False)
+    """
+    _, dot, ending = name.rpartition(b".")
+    return bool(dot) and ending.lower() in _LEFT

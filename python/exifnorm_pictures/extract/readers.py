@@ -17,8 +17,6 @@ HEAD = 16  # bytes of a file that show its format
 
 Read = Callable[[Stream, bool], Blocks]  # raises `Broken` and `LeftToOthers`; the second argument is --whole
 
-# Raw pictures in the structure of TIFF whose private entries aren't known here, by their names, and those that are
-_LEFT_NAME = re.compile(rf"\.(?:{'|'.join(raw_files.LEFT)})\Z".encode(), re.I)
 _RAW_NAME = re.compile(rb"\.(nef|arw|srw|pef)\Z", re.I)
 
 
@@ -37,7 +35,7 @@ class Format(NamedTuple):
 
 
 def _is_tiff(head: bytes, path: bytes) -> bool:
-    return head[:4] in tiff.HEADS and not _LEFT_NAME.search(path)
+    return head[:4] in tiff.HEADS and not raw_files.is_left(path)
 
 
 def type_of(blocks: Blocks, path: bytes) -> str:

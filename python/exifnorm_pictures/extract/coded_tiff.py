@@ -1,0 +1,166 @@
+"""The coded picture of a TIFF or BigTIFF, for a digest: of each page and SubIFD, where it stands among them, the tags that say how to decode
+its data, and its strips or tiles in their order.
+
+What readers take otherwise than it is written has no digest: readers guess the length of a strip that has none, and go beyond one that is
+too short for pixels that aren't compressed; and of two entries of one tag some take the first and some the last.
+"""
+
+from __future__ import annotations
+
+import hashlib
+from typing import Dict, Iterator, List, Optional, Sequence, Tuple
+
+from ..model.budgets import STRIPS, Budget
+from ..model.found import Broken
+from ..model.tiff_types import IFD, LONG, LONG8, SHORT
+from .formats import tiff
+from .formats.streams import pieces
+from .formats.tiff_directories import Directories, Directory
+from .formats.tiff_entries import IN_ENTRY, Entry
+
+_WIDTH, _HEIGHT, _BITS, _COMPRESSION, _PHOTOMETRIC = 0x0100, 0x0101, 0x0102, 0x0103, 0x0106
+_SAMPLES, _ROWS, _PLANES, _TILE_WIDTH, _TILE_HEIGHT = 0x0115, 0x0116, 0x011C, 0x0142, 0x0143
+# TIFF 6.0; of raw pictures CFA patterns (TIFF/EP), linearization and the arrangement of samples (DNG), and slices (CR2)
+_CODING = (
+    *(_WIDTH, _HEIGHT, _BITS, _COMPRESSION, _PHOTOMETRIC, 0x010A, _SAMPLES, _ROWS, _PLANES, 0x0124, 0x0125, 0x013D, 0x0140),
+    *(_TILE_WIDTH, _TILE_HEIGHT, 0x014C, 0x0152, 0x0153, 0x015B, 0x0200, 0x0203, 0x0205, 0x0206, 0x0211, 0x0212, 0x0214),
+    *(0x828D, 0x828E, 0xC617, 0xC618, 0xC640, 0xC71E, 0xC71F, 0xCD43),
+)
+_STRIPS, _TILES = 0x0111, 0x0144
+_OFFSETS = {_STRIPS: 0x0117, _TILES: 0x0145, 0x0201: 0x0202, 0xA010: 0xA011}  # each with the tag of the lengths; Samsung's table of rows
+_PROFILE = 0x8773
+_OLD_TABLES = frozenset((0x0207, 0x0208, 0x0209))  # of JPEG in TIFF 6.0, whose lengths aren't in the file's directories
+_PRIVATE = frozenset((0x0190, 0x8290, 0x8606, 0x888A, 0xFE00))  # pointers to directories that may lead to pixels
+_COUNTED = frozenset((*_CODING, *_OFFSETS, *_OFFSETS.values(), _PROFILE))
+_NUMBERS = frozenset((_WIDTH, _HEIGHT, _BITS, _COMPRESSION, _PHOTOMETRIC, _SAMPLES, _ROWS, _PLANES, _TILE_WIDTH, _TILE_HEIGHT))
+_JPEG, _UNCOMPRESSED, _YCBCR = (6, 7), 1, 6
+
+Entries = Dict[int, Entry]
+
+
+class NotFollowed(Broken):
+    """A coded picture in a form that isn't followed here, which is no damage."""
+
+
+def add(directories: Directories, coded: "hashlib.blake2b", budget: Budget, beside: "hashlib.blake2b") -> None:
+    """Adds the coded picture to a digest, and colour profiles to `beside`. Raises `Broken` and `TooMuch`."""
+    left, strips = directories.size, 0  # strips may share bytes in a made file
+    for number, page in enumerate(tiff.Reader(directories, False).pages()):
+        entries = _counted(page.directory)
+        if _PROFILE in entries:
+            beside.update(b"%d:" % number + directories.value(entries[_PROFILE]))
+        coded.update(page.part.encode("ascii"))
+        coded.update(_order(directories, entries))
+        for tag in _CODING:
+            if tag in entries:
+                coded.update(_value(directories, entries[tag]))
+        for start, end in _joined(_strips(directories, page.directory, entries, coded)):
+            strips += 1
+            left -= end - start
+            if left < 0 or strips > STRIPS:
+                raise Broken("the strips are more than the file")
+            budget.check_time()
+            for data in pieces(directories.stream, start, end):
+                coded.update(data)
+
+
+def _counted(directory: Directory) -> Entries:
+    """The entries that count, by their tags. Raises `NotFollowed`."""
+    entries: Entries = {}
+    for entry in directory.entries:
+        if entry.tag in _OLD_TABLES:
+            raise NotFollowed("old tables of JPEG")
+        if entry.tag in _PRIVATE and entry.type in (LONG, IFD):
+            raise NotFollowed("a private directory, which may lead to pixels")
+        if entry.tag in _COUNTED and entries.setdefault(entry.tag, entry) is not entry:
+            raise NotFollowed(f"two entries of tag {entry.tag:04x}")
+    return entries
+
+
+def _value(directories: Directories, entry: Entry) -> bytes:
+    """A value for a digest: numbers as texts, so that SHORT and LONG are alike. Raises `Broken`."""
+    if entry.size > IN_ENTRY and directories.place_of(entry) is None:
+        raise Broken(f"the value of tag {entry.tag:04x} isn't in the file")
+    if entry.type in (SHORT, LONG, LONG8):
+        return b"%d:%s " % (entry.tag, b",".join(b"%d" % number for number in directories.numbers(entry)))
+    if entry.tag in _NUMBERS or not entry.size:
+        raise NotFollowed(f"tag {entry.tag:04x} has another type or no value")
+    return b"%d:%d:%d:" % (entry.tag, entry.type, entry.size) + directories.value(entry)
+
+
+def _numbers(directories: Directories, entries: Entries, tag: int, default: int) -> List[int]:
+    """The numbers of an entry, or the default of its tag."""
+    return (directories.numbers(entries[tag]) if tag in entries else []) or [default]
+
+
+def _order(directories: Directories, entries: Entries) -> bytes:
+    """The byte order of a file, if its samples have it too."""
+    (compression, *_), bits = (_numbers(directories, entries, tag, 1) for tag in (_COMPRESSION, _BITS))
+    has_order = compression not in _JPEG and any(it > 8 and it % 8 == 0 for it in bits)
+    return directories.order.encode("ascii") if has_order else b""
+
+
+def _strips(directories: Directories, page: Directory, entries: Entries, coded: "hashlib.blake2b") -> Iterator[Tuple[int, int]]:
+    """The ranges of the strips, tiles and JPEGs of a page, after their lengths, which are added. Raises `Broken`."""
+    if sum(any(tag in entries for tag in pair) for pair in ((_STRIPS, 0x0117), (_TILES, 0x0145))) > 1:
+        raise NotFollowed("strips and tiles in one directory")
+    for tag, of_lengths in _OFFSETS.items():
+        if tag not in entries and of_lengths not in entries:
+            continue
+        starts, lengths = (directories.numbers(entries[it]) if it in entries else [] for it in (tag, of_lengths))
+        if len(starts) != len(lengths) or not starts:
+            raise Broken(f"the strips of the directory at {page.at} have no lengths")
+        coded.update(b"%d:%s " % (of_lengths, b",".join(b"%d" % it for it in lengths)))
+        if tag in (_STRIPS, _TILES):
+            _check_lengths(directories, entries, lengths)
+        for start, length in zip(starts, lengths):
+            if start + length > directories.size:
+                raise Broken("a strip isn't in the file")
+            yield start, start + length
+
+
+def _check_lengths(directories: Directories, entries: Entries, lengths: Sequence[int]) -> None:
+    """Raises `NotFollowed` for strips and tiles whose lengths readers guess."""
+    if not all(lengths):
+        raise NotFollowed("a strip without a length")
+    count, size, last = _uncompressed(directories, entries)
+    if any(length < (size if number % count else last) for number, length in enumerate(lengths, 1)) or len(lengths) < count:
+        raise NotFollowed("strips that are shorter than their pixels")
+
+
+def _uncompressed(directories: Directories, entries: Entries) -> Tuple[int, int, int]:
+    """How many strips or tiles a plane has, the bytes of each but the last one, and those of the last one: of compressed ones 0."""
+
+    def numbers(tag: int, default: int = 1) -> List[int]:
+        return _numbers(directories, entries, tag, default)
+
+    if numbers(_COMPRESSION)[0] != _UNCOMPRESSED or numbers(_PHOTOMETRIC)[0] == _YCBCR:
+        return 1, 0, 0
+    bits, samples = numbers(_BITS), numbers(_SAMPLES)[0]
+    if numbers(_PLANES)[0] != 2:
+        bits = [sum(bits) if len(bits) == samples else bits[0] * samples]
+    if _TILES in entries:
+        size = (numbers(_TILE_WIDTH)[0] * bits[0] + 7) // 8 * numbers(_TILE_HEIGHT)[0]
+        return 1, size, size
+    row, height = (numbers(_WIDTH, 0)[0] * bits[0] + 7) // 8, numbers(_HEIGHT, 0)[0]
+    rows = min(numbers(_ROWS, height)[0], height) or 1
+    count = max((height + rows - 1) // rows, 1)
+    return count, row * rows, row * (height - (count - 1) * rows)
+
+
+def _joined(ranges: Iterator[Tuple[int, int]]) -> Iterator[Tuple[int, int]]:
+    """The same bytes in the same order, in fewer ranges.
+
+    >>> list(_joined(iter([(2, 5), (5, 9), (1, 2)])))
+    [(2, 9), (1, 2)]
+    """
+    last: Optional[List[int]] = None
+    for start, end in ranges:
+        if last and start == last[1]:
+            last[1] = end
+            continue
+        if last:
+            yield last[0], last[1]
+        last = [start, end]
+    if last:
+        yield last[0], last[1]
