@@ -1,194 +1,28 @@
-"""What each command does about twice as much of anything is at most 2.3 times as much work, counted as calls and as steps of SQLite.
+"""What each command does about twice as much of anything is at most 2.3 times as much work, and takes at most 2.3 times as much memory.
 
-The pictures of each format grow in each way that the format knows, and the folders and catalogues in theirs. A quadratic part shows at
-these sizes: if a picture has n fields, and each is compared with all others, the second size has four times the work.
+The pictures of each format grow in each way that the format knows, and folders and catalogues in theirs. Work is counted as calls, steps
+of SQLite, bytes that are hashed and bytes that are asked of the allocator, of which SQLite, zlib, expat and the library ask, too. A
+quadratic part shows at these sizes: if a picture has n fields, and each is compared with all others, the second size has four times the
+work. With --long the sizes are ten times as large, and the time of a processor is compared, which also knows the inside of calls.
+
+Each growth says what must be read of what it makes. That a picture never takes more than its limits allow is in test_attacks.py.
 """
 
-import functools
+import json
 import shutil
-import sqlite3
-import struct
-import sys
-from typing import NamedTuple, Tuple
+from collections import Counter
 
 import pytest
-from made_blocks import ASCII, UNDEFINED
-from made_boxes import PICTURE, XMP_UUID, Item, box, cr3, heif, item_exif, jp2, jxl, mime, uuid
-from made_files import (
-    app1,
-    app1_xmp,
-    app13,
-    chunk,
-    iim,
-    jpeg,
-    page,
-    png,
-    png_xmp,
-    profile,
-    raf,
-    resource,
-    segment,
-    small_tiff,
-    tiff,
-    webp,
-    xmp,
-)
-from made_more_files import application, gif, gif_xmp, psd
-from made_raw import fuji
+from growing import FOLDERS, FORMATS as MAKERS, IN_EACH_FORMAT, KINDS, OTHERS, Whole
+from work import COUNTED, Counting, compiled
 
-from exifnorm_pictures.cli import main
 from exifnorm_pictures.cli.parser import parsers
 from exifnorm_pictures.extract.readers import FORMATS
-from exifnorm_pictures.model import budgets
 
 TIMES = 2.3
-FEW = 50  # calls, and steps of SQLite in hundreds, that aren't about the input
-BYTE = 1
-
-
-class Parts(NamedTuple):
-    """What a picture has: the entries of its Exif block, a record, its packets, and a number of small parts that have no metadata."""
-
-    entries: Tuple = ((0x010F, ASCII, b"Abc\0"),)
-    record: bytes = b""
-    packets: Tuple = ()
-    others: int = 0
-
-    @property
-    def exif(self):
-        return small_tiff(*self.entries)
-
-
-def of_fields(number, mark):
-    """Each block has many fields."""
-    entries = tuple((0xA500 + it, ASCII, b"%s%02d\0" % (mark, it % 100)) for it in range(number))
-    record = b"".join(iim(b"%s%d" % (mark, it)) for it in range(number))
-    return Parts(entries, record, (xmp("".join(f"<dc:a{it}>{mark.decode()}</dc:a{it}>" for it in range(number))),))
-
-
-def of_texts(number, mark):
-    """A property has many texts, and a title in many languages."""
-    texts = "".join(f"<rdf:li>{mark.decode()}{it}</rdf:li>" for it in range(number))
-    titles = "".join(f"<rdf:li xml:lang='x-{it}'>{mark.decode()}</rdf:li>" for it in range(number))
-    inside = f"<dc:subject><rdf:Bag>{texts}</rdf:Bag></dc:subject><dc:title><rdf:Alt>{titles}</rdf:Alt></dc:title>"
-    return Parts(packets=(xmp(inside),), record=b"\x1c\x02\x78" + struct.pack(">H", 20 * number) + mark * 20 * number)
-
-
-def of_packets(number, mark):
-    return Parts(packets=tuple(xmp(f"<dc:format>{mark.decode()}{it}</dc:format>") for it in range(number)))
-
-
-def of_repairs(number, mark):
-    """The entries of the block are in the wrong order, and each is there twice."""
-    entries = [(0xA500 + it // 2, ASCII, mark + b"xy\0") for it in reversed(range(2 * number))]
-    return Parts(entries=tuple(entries))
-
-
-def of_segments(number, mark):
-    return Parts(others=number, packets=(xmp(f"<dc:format>{mark.decode()}</dc:format>"),))
-
-
-def as_written(entries):
-    """A block of entries in the order in which they are given."""
-    rows = b"".join(struct.pack("<HHI", tag, kind, len(value)) + value for tag, kind, value in entries)
-    return b"II*\0\x08\0\0\0" + struct.pack("<H", len(entries)) + rows + bytes(4)
-
-
-def whole_jpeg(parts, block=None):
-    record = [app13(resource(0x0404, parts.record))] * bool(parts.record)
-    block = parts.exif if block is None else block
-    return jpeg(app1(block), *record, *map(app1_xmp, parts.packets), *[segment(0xFE, b"x")] * parts.others)
-
-
-def whole_png(parts):
-    record = [profile(b"iptc", parts.record)] * bool(parts.record)
-    return png(chunk(b"eXIf", parts.exif), *record, *map(png_xmp, parts.packets), *[chunk(b"tEXt", b"a\0b")] * parts.others)
-
-
-def whole_webp(parts):
-    packets = [(b"XMP ", it) for it in parts.packets]
-    return webp((b"VP8 ", b"abcd"), (b"EXIF", parts.exif), *packets, *[(b"ICCP", b"x")] * parts.others)
-
-
-def pages(parts, **more):
-    """A TIFF with a page for each packet and each other part."""
-    record = [(0x83BB, UNDEFINED, parts.record)] * bool(parts.record)
-    packets = [[(0x02BC, BYTE, it)] for it in parts.packets] or [[]]
-    return tiff(page(*parts.entries, *record, *packets[0]), *(page(*it) for it in packets[1:]), *[page()] * parts.others, **more)
-
-
-def whole_heif(parts):
-    packets = [mime(it, (1,)) for it in parts.packets]
-    return heif(PICTURE, Item(b"Exif", item_exif(parts.exif), describes=(1,)), *packets, *[PICTURE] * parts.others)
-
-
-def whole_cr3(parts):
-    more = [box(b"uuid", XMP_UUID, it) for it in parts.packets[1:]] + [box(b"free", b"x")] * parts.others
-    return cr3(box(b"CMT1", parts.exif), packet=parts.packets[0] if parts.packets else None, behind=b"".join(more))
-
-
-def whole_psd(parts):
-    record = [resource(0x0404, parts.record)] * bool(parts.record)
-    packets = [resource(0x0424, it) for it in parts.packets]
-    return psd(resource(0x0422, parts.exif), *record, *packets, *[resource(0x0425, b"x")] * parts.others)
-
-
-def whole_jxl(parts):
-    packets = [box(b"xml ", it) for it in parts.packets]
-    return jxl(box(b"Exif", bytes(4), parts.exif), *packets, *[box(b"free", b"x")] * parts.others)
-
-
-def whole_jp2(parts):
-    record = [uuid("33c7a4d2b81d4723a0baf1a3e097ad38", parts.record)] * bool(parts.record)
-    packets = [box(b"uuid", XMP_UUID, it) for it in parts.packets]
-    return jp2(uuid("4a706754696666457869662d3e4a5032", parts.exif), *record, *packets, *[box(b"free", b"x")] * parts.others)
-
-
-def whole_gif(parts):
-    record = [application(b"MGKIPTC0000", parts.record)] * bool(parts.record)
-    block = application(b"MGK8BIM0000", resource(0x0422, parts.exif))
-    return gif(block, *record, *map(gif_xmp, parts.packets), *[b"\x21\xfe\1x\0"] * parts.others)
-
-
-def big_tiff(parts):
-    """A BigTIFF with a page for each packet and each other part (the BigTIFF design of libtiff)."""
-    record = [(0x83BB, UNDEFINED, parts.record)] * bool(parts.record)
-    packets = [[(0x02BC, BYTE, it)] for it in parts.packets] or [[]]
-    made = bytearray(struct.pack("<2sHHHQ", b"II", 43, 8, 0, 0))
-    link = 8
-    directories = [[*parts.entries, *packets[0], *record], *packets[1:], *[[(0x010F, ASCII, b"Abc\0")]] * parts.others]
-    for entries in directories:
-        rows = b""
-        for tag, kind, value in sorted(entries):
-            inside = value.ljust(8, b"\0") if len(value) <= 8 else struct.pack("<Q", len(made))
-            made += value if len(value) > 8 else b""
-            rows += struct.pack("<HHQ", tag, kind, len(value)) + inside
-        struct.pack_into("<Q", made, link, len(made))
-        made += struct.pack("<Q", len(entries)) + rows
-        link = len(made)
-        made += bytes(8)
-    return bytes(made)
-
-
-USUAL = {"fields": of_fields, "texts": of_texts, "packets": of_packets, "segments": of_segments}
-
-# By the name of each format: the ending of its files, and what makes one
-MAKERS = {
-    "JPEG": ("jpg", whole_jpeg),
-    "PNG": ("png", whole_png),
-    "WebP": ("webp", whole_webp),
-    "TIFF; DNG, CR2, NEF, PEF, ARW, SRW": ("tif", pages),
-    "ORF, RW2": ("orf", lambda parts: pages(parts, order="<", head=b"IIRO")),
-    "RAF": ("raf", lambda parts: raf(whole_jpeg(parts), directory=struct.pack(">IHHI", 1, 0x0100, 4, 7), pixels=fuji())),
-    "HEIC, HEIF, AVIF": ("heic", whole_heif),
-    "CR3": ("cr3", whole_cr3),
-    "PSD, PSB": ("psd", whole_psd),
-    "JPEG XL": ("jxl", whole_jxl),
-    "JPEG 2000": ("jp2", whole_jp2),
-    "GIF": ("gif", whole_gif),
-    "BigTIFF": ("btf", big_tiff),
-    "NAME.xmp": ("xmp", lambda parts: parts.packets[0] if parts.packets else xmp("")),
-}
+FEW = {"calls": 3000, "steps": 20, "asked": 600_000, "hashed": 20_000, "memory": 200_000, "seconds": 0.3}  # that aren't about the input
+LONG_TIMES = 7  # the time of a processor, for four times as much
+OF_A_PICTURE = 50_000  # bytes by which memory may grow for each further picture, whatever it has
 
 # What each command is given: P and Q are folders with the same names, A and B a picture of each, C and D their catalogues
 COMMANDS = {
@@ -199,7 +33,11 @@ COMMANDS = {
     "verify": ["--catalogue C --quiet --jobs 1"],
     "same": ["--catalogue C", "--catalogue C --json --ignore dc:none"],
     "history": ["A C D"],
-    "changed": ["C D --each --no-exiftool --quiet --jobs 1", "C D --json --ignore dc:none --no-exiftool --quiet --jobs 1"],
+    "changed": [
+        "C D --no-exiftool --quiet --jobs 1",
+        "C D --each --no-exiftool --quiet --jobs 1",
+        "C D --json --ignore dc:none --no-exiftool --quiet --jobs 1",
+    ],
     "compare": ["A B --no-exiftool", "A B --json --exact --no-exiftool"],
     "show": ["A", "A --json", "A --csv"],
     "captions": ["P", "C --json"],
@@ -211,6 +49,8 @@ COMMANDS = {
     "export": ["C written.sqlite --quiet"],
     "mend": ["A mended"],
 }
+EACH = [f"{command} {words}" for command, calls in COMMANDS.items() for words in calls]
+OF_CATALOGUES = [it for it in EACH if not {"P", "A"} & set(it.split()) and not it.startswith("verify")]
 
 
 def test_all_commands_and_formats_are_counted():
@@ -218,156 +58,157 @@ def test_all_commands_and_formats_are_counted():
     assert set(MAKERS) == {it.name for it in FORMATS}
 
 
-class Counter:
-    """Calls of Python, and hundreds of steps of SQLite, since it was made."""
-
-    def __init__(self):
-        self.calls = self.steps = 0
-
-    def called(self, _, event, __):
-        self.calls += event in ("call", "c_call")
-
-    def stepped(self):
-        self.steps += 1
+@pytest.fixture(scope="module")
+def counting(tmp_path_factory):
+    process = Counting(compiled(tmp_path_factory.mktemp("count")))
+    yield process
+    process.close()
 
 
-class Work:
-    """Counts what a command does in this process, in a folder."""
+class Archive:
+    """Two folders with the same names, their catalogues, and what commands do about them."""
 
-    def __init__(self, folder, monkeypatch, capsys):
-        self.folder, self.capsys = folder, capsys
-        self.counter = Counter()
-        connect, work = sqlite3.connect, self
+    def __init__(self, counting, folder, put):
+        self.counting, self.folder = counting, folder
+        (folder / "rules").write_text("every picture needs credit\nkeywords is x\n")
+        for side, mark in (("P", b"qa"), ("Q", b"qb")):
+            (folder / side).mkdir()
+            put(mark, folder / side)
+        first = sorted(it.name for it in (folder / "P").iterdir() if it.is_file())[0]
+        self.names = {"A": f"P/{first}", "B": f"Q/{first}"}
 
-        class Connection(sqlite3.Connection):
-            def set_progress_handler(self, *_):
-                super().set_progress_handler(work.counter.stepped, 100)
+    def run(self, words, statuses=(0, 1, 2)):
+        """What a command does."""
+        work = self.counting.run(self.folder, *(self.names.get(it, it) for it in words.split()))
+        assert work.status in statuses, (words, work.status, work.err[-3000:])
+        return work
 
-        def connected(*words, **more):
-            base = connect(*words, **more, factory=Connection)
-            base.set_progress_handler()
-            return base
-
-        monkeypatch.setattr(sqlite3, "connect", connected)
-        monkeypatch.setattr(budgets, "SECONDS", 1000.0)
-        monkeypatch.setattr(budgets, "PROGRAM_SECONDS", 1000.0)
-
-    def run(self, *words):
-        """The work of a command, which may end with any status but that of an error of its own."""
-        for name, module in list(sys.modules.items()):
-            if name.startswith("exifnorm_pictures"):
-                for value in list(vars(module).values()):
-                    if isinstance(value, functools._lru_cache_wrapper):
-                        value.cache_clear()  # what the last size left would cost nothing in the next
-        self.counter = Counter()
-        before = sys.getprofile()
-        sys.setprofile(self.counter.called)
-        try:
-            status = main._run(list(words))
-        finally:
-            sys.setprofile(before)
-        printed = self.capsys.readouterr()
-        assert status in (0, 1, 2), (words, status, printed.err)
-        return self.counter.calls, self.counter.steps
-
-    def of_commands(self, put):
-        """The work of each command over two folders with what `put` writes into each."""
-        for name in ("P", "Q", "C", "D", "new", "merged", "kept", "moving", "written.html", "written.sqlite", "mended"):
-            path = self.folder / name
-            shutil.rmtree(path) if path.is_dir() else path.unlink(missing_ok=True)
-        (self.folder / "rules").write_text("every picture needs credit\nkeywords is x\n")
-        for side, mark in (("P", b"a"), ("Q", b"b")):
-            (self.folder / side).mkdir()
-            put(self.folder / side, mark)
+    def index(self):
+        """The counts of `index`, which makes the catalogues."""
         for side, catalogue in (("P", "C"), ("Q", "D")):
-            self.run("index", side, "--catalogue", catalogue, "--quiet", "--jobs", "1", "--pixels", "--sidecars")
+            work = self.run(f"index {side} --catalogue {catalogue} --quiet --jobs 1 --pixels --sidecars")
         for name in ("kept", "moving"):
             shutil.copy(self.folder / "C", self.folder / name)
-        first = sorted(it.name for it in (self.folder / "P").iterdir())[0]
-        names = {"A": f"P/{first}", "B": f"Q/{first}"}
-        return {
-            f"{command} {words}": self.run(command, *(names.get(it, it) for it in words.split()))
-            for command, calls in COMMANDS.items()
-            for words in calls
-        }
+        return work.out.decode().strip()
+
+    def works(self, commands):
+        """The work of each command."""
+        self.index()
+        return {it: self.run(it) for it in commands}
+
+
+def of_size(counting, folder, put, number):
+    folder = folder / str(number)
+    folder.mkdir()
+    return Archive(counting, folder, lambda mark, side: put(number, mark, side))
+
+
+def what_is_read(archive):
+    """How often the blocks of each kind have the mark, by `show --json`, or how many members a long value with it has; and the causes of those
+    blocks that aren't accepted."""
+    shown = json.loads(archive.run("show A --json").out)
+    assert not shown["problem"], shown
+    counts = Counter()
+    for block in shown["blocks"]:
+        with_mark = [it for it in block["fields"] if "qa" in it["exact"]]
+        counts[block["kind"]] += sum(it["count"] if "sha256:" in it["exact"] else it["exact"].count("qa") for it in with_mark)
+    return {kind: number for kind, number in counts.items() if number}, {it["cause"] for it in shown["blocks"]} - {None}
+
+
+def check(start, once, twice):
+    """That the work of the second size is little more than twice that of the first."""
+    bad = {}
+    for words in once:
+        for what in COUNTED:
+            fixed = 0 if what == "memory" else getattr(start[words], what)  # the most memory may be that of something else
+            first, second = (getattr(it[words], what) - fixed for it in (once, twice))
+            if second > TIMES * max(first, 0) + FEW[what]:
+                bad[words, what] = first, second
+    return bad
+
+
+def check_seconds(start, once, four):
+    bad = {}
+    for words in once:
+        first, second = (it[words].seconds - start[words].seconds for it in (once, four))
+        if second > LONG_TIMES * max(first, 0) + FEW["seconds"]:
+            bad[words, "seconds"] = first, second
+    return bad
+
+
+def grown(counting, start, folder, put, size, is_long, commands):
+    """What is bad about the work at a size and at twice that, and four times in the long form."""
+    once, twice = (of_size(counting, folder, put, it).works(commands) for it in (size, 2 * size))
+    bad = check(start, once, twice)
+    if is_long:
+        bad.update(check_seconds(start, once, of_size(counting, folder, put, 4 * size).works(commands)))
+    return bad, once, twice
+
+
+@pytest.fixture(scope="module")
+def start(counting, tmp_path_factory):
+    """The work of each command for hardly anything, which is about the command and not its input."""
+    ending, make = next(iter(MAKERS.values()))
+
+    def put(number, mark, side):
+        (side / f"a.{ending}").write_bytes(make(IN_EACH_FORMAT["fields"].make(number, mark).parts))
+
+    return of_size(counting, tmp_path_factory.mktemp("start"), put, 1).works(EACH)
 
 
 @pytest.fixture
-def work(folder, monkeypatch, capsys):
-    monkeypatch.chdir(folder)
-    return Work(folder, monkeypatch, capsys)
+def is_long(pytestconfig):
+    return pytestconfig.getoption("--long")
 
 
-def check(work, size, put):
-    """`put(number)` gives a function that writes a folder."""
-    work.of_commands(put(1))  # what is loaded at the first call isn't counted
-    start, once, twice = (work.of_commands(put(number)) for number in (1, size, 2 * size))
-    costs = {
-        (words, what): (once[words][it] - start[words][it], twice[words][it] - start[words][it])
-        for words in start
-        for it, what in enumerate(("calls", "steps"))
-    }
-    bad = {key: it for key, it in costs.items() if it[1] > TIMES * max(it[0], 0) + FEW}
-    assert not bad, f"work at {size} and {2 * size}: {bad}"
-
-
-@pytest.mark.parametrize("growth", USUAL)
+@pytest.mark.parametrize("growth", IN_EACH_FORMAT)
 @pytest.mark.parametrize("name", MAKERS)
-def test_pictures_of_a_format(name, growth, work):
+def test_pictures_of_a_format(name, growth, counting, start, folder, is_long):
     ending, make = MAKERS[name]
+    growth = IN_EACH_FORMAT[growth]
 
-    def put(number):
-        return lambda folder, mark: (folder / f"a.{ending}").write_bytes(make(USUAL[growth](number, mark)))
+    def put(number, mark, side):
+        (side / f"a.{ending}").write_bytes(make(growth.make(number, mark).parts))
 
-    check(work, 100, put)
-
-
-def put_repairs(number):
-    return lambda folder, mark: (folder / "a.jpg").write_bytes(whole_jpeg(Parts(), as_written(of_repairs(number, mark).entries)))
-
-
-def put_names(number):
-    """Pictures of which no two mean the same."""
-    return lambda folder, mark: [
-        (folder / f"{it:04}.jpg").write_bytes(whole_jpeg(of_fields(1 + it % 2, b"%s%04d" % (mark, it)))) for it in range(number)
-    ]
-
-
-def put_groups(number):
-    """Pictures in groups of four."""
-    return lambda folder, mark: [
-        (folder / f"{it:04}.jpg").write_bytes(whole_jpeg(Parts(packets=(xmp(f"<dc:format>{it // 4}</dc:format>"),))))
-        for it in range(number)
-    ]
+    size = growth.long if is_long else growth.short
+    is_first = is_long or name == next(iter(MAKERS))  # what a catalogue has of a picture doesn't depend on its format
+    commands = [it for it in EACH if is_first or it not in OF_CATALOGUES]
+    (folder / "read").mkdir()
+    archive = of_size(counting, folder / "read", put, size)
+    format = next(it for it in FORMATS if it.name == name)
+    has = {kind for kind, places in zip(KINDS, (format.exif, format.iptc, format.xmp)) if places}
+    expected = {kind: count for kind, count in growth.make(size, b"qa").texts.items() if kind in has}
+    if name == "NAME.xmp" and growth.make.__name__ == "of_packets":
+        expected = {"xmp": 1}  # the file is the packet
+    assert what_is_read(archive) == (expected, set())
+    bad, *_ = grown(counting, start, folder, put, size, is_long, commands)
+    assert not bad, bad
 
 
-def put_one_group(number):
-    return lambda folder, mark: [(folder / f"{it:04}.jpg").write_bytes(whole_jpeg(of_segments(0, mark))) for it in range(number)]
+@pytest.mark.parametrize("name", OTHERS)
+def test_pictures(name, counting, start, folder, is_long):
+    ending, growth = OTHERS[name]
+
+    def put(number, mark, side):
+        (side / f"a.{ending}").write_bytes(growth.make(number, mark).octets)
+
+    size = growth.long if is_long else growth.short
+    (folder / "read").mkdir()
+    whole: Whole = growth.make(size, b"qa")
+    assert what_is_read(of_size(counting, folder / "read", put, size)) == (whole.texts, {whole.cause} - {None})
+    bad, *_ = grown(counting, start, folder, put, size, is_long, EACH)
+    assert not bad, bad
 
 
-def put_sidecars(number):
-    """Versions of one picture's sidecar, and a sidecar of each of other pictures."""
-
-    def put(folder, mark):
-        (folder / "a.jpg").write_bytes(whole_jpeg(Parts()))
-        for it in range(number):
-            (folder / f"a_{it:02}.jpg.xmp").write_bytes(xmp(f"<dc:format>{mark.decode()}{it}</dc:format>"))
-            (folder / f"b{it}.jpg").write_bytes(whole_jpeg(Parts()))
-            (folder / f"b{it}.jpg.xmp").write_bytes(xmp(f"<dc:format>{mark.decode()}{it}</dc:format>"))
-
-    return put
-
-
-FOLDERS = {
-    "repairs": (100, put_repairs),
-    "names": (40, put_names),
-    "groups": (40, put_groups),
-    "rows of one group": (40, put_one_group),
-    "sidecars": (30, put_sidecars),
-}
-
-
-@pytest.mark.parametrize("growth", FOLDERS)
-def test_folders(growth, work):
-    size, put = FOLDERS[growth]
-    check(work, size, put)
+@pytest.mark.parametrize("name", FOLDERS)
+def test_folders(name, counting, start, folder, is_long):
+    growth = FOLDERS[name]
+    size = growth.long if is_long else growth.short
+    (folder / "read").mkdir()
+    assert of_size(counting, folder / "read", growth.put, size).index() == growth.counts(size)
+    bad, once, twice = grown(counting, start, folder, growth.put, size, is_long, EACH)
+    for words in once:
+        grows = twice[words].memory - once[words].memory
+        if grows > OF_A_PICTURE * size + FEW["memory"]:
+            bad[words, "memory of a picture"] = grows / size
+    assert not bad, bad
