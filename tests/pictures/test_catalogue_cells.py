@@ -16,6 +16,7 @@ from exifnorm_pictures.fields import block_fields, packing
 from exifnorm_pictures.judge import judge
 from exifnorm_pictures.model.columns import Damaged
 from exifnorm_pictures.model.found import Blocks
+from exifnorm_pictures.model.records import BLOCKS, PICTURES, block_of_row, not_read_of_row
 
 VALUES = {
     "NULL": None,
@@ -154,3 +155,35 @@ def test_what_index_writes_is_read(monkeypatch):
             monkeypatch.setattr(block_fields, "KEPT_BYTES", 2 * one - 1)
             with pytest.raises(Damaged):
                 block_fields.with_fields(judged)
+
+
+ROWS = {
+    "pictures": (PICTURES, PICTURES.record, 1),
+    "blocks": (BLOCKS, block_of_row, "exif"),
+}
+
+
+@pytest.mark.parametrize("table", ROWS)
+def test_a_value_that_is_too_long(table):
+    """Rows of a crafted file can share their bytes, so that a million texts of a megabyte each take no more space than one."""
+    columns, of_row, first = ROWS[table]
+    values = {name: kind[0] if isinstance(kind, tuple) else kind for name, kind in zip(columns.names, columns.types)}
+    row = [first] + [{bytes: b"[]", str: "[]", int: 1}[values[name]] for name in columns.names[1:]]
+    assert of_row(tuple(row))
+    for at, (name, kind) in enumerate(values.items()):
+        if kind in (str, bytes) and name not in ("kind", "repair"):
+            most = columns.longest[at]
+            assert most <= 10_000 or name in ("fields", "maker_notes", "sidecars")
+            for length in (most, most + 1):
+                changed = [*row[:at], kind(b"x" * length) if kind is bytes else "x" * length, *row[at + 1 :]]
+                if length == most:
+                    of_row(tuple(changed))
+                else:
+                    with pytest.raises(Damaged, match="too long"):
+                        of_row(tuple(changed))
+
+
+def test_a_part_that_is_too_long():
+    assert not_read_of_row(("x" * 10_000, ""))
+    with pytest.raises(Damaged, match="too long"):
+        not_read_of_row(("x" * 10_001, ""))

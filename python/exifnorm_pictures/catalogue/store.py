@@ -22,7 +22,7 @@ from ..model.columns import Damaged
 from ..model.errors import Failure
 from ..model.found import NotRead
 from ..model.problems import NO_BYTES
-from ..model.records import BLOCKS, PICTURES, Block, Picture, Stamp, block_of_row, has, not_read_of_row, picture_of_row
+from ..model.records import BLOCKS, PICTURES, Block, Picture, Stamp, block_of_row, has_short, not_read_of_row, picture_of_row
 
 APPLICATION = 0x45584E50  # 'EXNP', which distinguishes a catalogue from other SQLite files
 VERSION = 6
@@ -568,12 +568,12 @@ def put_rows(base: sqlite3.Connection, run: int, first: int, entries: Iterable[P
 
 def root_of_row(row: Tuple[bytes]) -> bytes:
     """The folder of a row `root`."""
-    has(bytes, row[0])
+    has_short(bytes, row[0])
     return row[0]
 
 
 def _run_of_row(row: Run) -> Run:
-    has(str, *(it for it in row if it is not None))
+    has_short(str, *(it for it in row if it is not None))
     return row
 
 

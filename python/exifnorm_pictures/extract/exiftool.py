@@ -25,6 +25,7 @@ from . import programs, raw_files
 from .formats.streams import Stream, digest_of, size_of
 from .programs import Failed
 
+_WORDS_LENGTH = 1000  # characters that are kept of a type or an error
 _WORDS = ("-EXIF:Exif", "-IPTC:IPTC", "-XMP:XMP", "-FileType#", "-MIMEType#", "-Error#")
 _TAGS = {"EXIF": EXIF, "IPTC": IPTC, "XMP": XMP}
 _SEVERAL = ("CR3", "CRX", "CRM")  # Canon's, by ExifTool's names
@@ -170,7 +171,7 @@ def by_others(session: Session, path: bytes, stream: Stream, whole: bool, why: s
 
 
 def _first(answer: Dict[str, str], tag: str) -> str:
-    return next(iter(values(answer, tag)), "")
+    return next(iter(values(answer, tag)), "")[:_WORDS_LENGTH]
 
 
 def _blocks(answer: Dict[str, str]) -> Blocks:

@@ -65,8 +65,10 @@ BLOCK_ENTRIES = 5 * 65_535  # of five directories of a block, as it may have; in
 FIELDS = 100_000  # of a block that are kept to be shown; the block is compared by its digest in any case; need 150
 SHOWN_FIELDS = 50_000  # of a picture that show prints, all its blocks together: as JSON each takes 2.4 kB of memory; need 400
 SHOWN_CHARACTERS = 8 << 20  # of their values, plain and exact
-FIELD_BYTES = 8 << 20  # of the fields of a block as JSON, here and in a catalogue of others; need 8.6 kB
-KEPT_BYTES = 8 << 20  # of the fields of a picture in a catalogue, all blocks together, as JSON and as packed; need 8.6 kB
+FIELD_BYTES = 4 << 20  # of the fields of a block as JSON, here and in a catalogue of others; need 8.6 kB
+KEPT_BYTES = (
+    4 << 20
+)  # of the fields of a picture in a catalogue, all blocks together, as JSON and as packed: those of two take 130 MB; need 8.6 kB
 WHOLE_FILE = 16 << 20  # bytes of a file of which no block was read, for a digest of all of it; with --whole any number
 MENDED_BYTES = 1 << 30  # of a picture with a refused block that `mend` copies for each remedy, which may write its holes; need 100 MB
 OUTPUT = 64 << 20  # bytes that another program may write about a picture

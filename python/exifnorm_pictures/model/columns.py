@@ -10,11 +10,15 @@ class Damaged(Exception):
     """A catalogue has a value that nothing here writes: it is damaged. Only what reads the values of a catalogue raises this."""
 
 
+LONGEST = 10_000  # characters of a text, or bytes of a path, that `index` writes: many are in memory together
+
+
 class Is(NamedTuple):
-    """More about a column: what it is, and its definition in SQL after its name if its type doesn't tell it."""
+    """More about a column: what it is, its definition in SQL after its name if its type doesn't tell it, and the length of its longest value."""
 
     about: str = ""
     sql: str = ""
+    longest: int = LONGEST
 
 
 _SQL = {int: "INTEGER", str: "TEXT", bytes: "BLOB"}
@@ -32,6 +36,7 @@ class Columns(Generic[Record]):
         columns = [(name, kind.__origin__, _more(*kind.__metadata__)) for name, kind in declared.items()]
         self.names: Tuple[str, ...] = tuple(name for name, _, _ in columns)
         self.types: List[Any] = [get_args(kind) or kind for _, kind, _ in columns]  # those of a row's values
+        self.longest: List[int] = [more.longest for _, _, more in columns]
         self.width = len(columns)
         named: Any = record  # a NamedTuple, which types can't say
         self._made: Callable[[Iterable[Any]], Record] = named._make
@@ -51,8 +56,9 @@ class Columns(Generic[Record]):
         return "\n".join([f"CREATE TABLE {name} (", *lines, f"){end};"])
 
     def record(self, row: Tuple[Any, ...]) -> Record:
-        """The record of a row. Raises `Damaged` if a value isn't of the type of its column, or of one of its types."""
-        check(row, self.types)
+        """The record of a row. Raises `Damaged` if a value isn't of the type of its column, or of one of its types, or is longer than `index`
+        writes any."""
+        check(row, self.types, self.longest)
         return self._made(row + self._others)
 
 
@@ -66,8 +72,10 @@ def _defined(name: str, kind: Any, more: Is) -> str:
     return f"{name} {sql}" + (f" -- {more.about}" if more.about else "")
 
 
-def check(row: Iterable[object], types: Iterable[Any]) -> None:
-    """Raises `Damaged` if a value isn't of its type."""
-    for value, kind in zip(row, types):
+def check(row: Iterable[object], types: Iterable[Any], longest: Iterable[int]) -> None:
+    """Raises `Damaged` if a value isn't of its type, or is too long."""
+    for value, kind, most in zip(row, types, longest):
         if not isinstance(value, kind):
-            raise Damaged(f"{value!r} is a value of another type")
+            raise Damaged(f"{value!r:.200} is a value of another type")
+        if isinstance(value, (str, bytes)) and len(value) > most:
+            raise Damaged(f"a value of {len(value):,} characters is too long")

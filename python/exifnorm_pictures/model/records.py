@@ -8,7 +8,8 @@ import itertools
 import os
 from typing import Annotated, Any, Dict, Iterable, List, NamedTuple, Optional, Sequence, Set, Tuple
 
-from .columns import Columns, Damaged, Is, check
+from .budgets import ROW_BYTES
+from .columns import LONGEST, Columns, Damaged, Is, check
 from .found import EXIF, EXIFTOOL, IPTC, PROGRAMS, XMP, Blocks, NotRead
 from .steps import Step, loses, unpacked
 from .sides import REACHED, Side, Status, joined, side_of
@@ -17,6 +18,8 @@ KINDS = (EXIF, IPTC, XMP)
 WORDS = {EXIF: "exif", IPTC: "iptc", XMP: "xmp"}  # the names for people and in the catalogue: archivists know IPTC, the engine IIM
 KIND_OF = {word: kind for kind, word in WORDS.items()}
 
+_PATH = 5000  # bytes: Linux opens paths of 4,095, and lists a name of 255 in such a folder
+_STEPS, _EACH = 1 << 20, 1 << 20  # characters of the steps of a repair, and of what each of a picture's blocks or sidecars adds
 TOO_LONG, FAILED = "too long", "failed"
 AS_BEFORE = " as before"
 
@@ -37,13 +40,17 @@ class Block(NamedTuple):
         str, "SHA-256 of the block as it is in the file"
     ]  # which distinguishes a copied block from one that was written again
     repair: Annotated[
-        Optional[str], "of a refused block: the steps after which it is accepted, JSON: cause, what was done, what is lost"
+        Optional[str],
+        Is("of a refused block: the steps after which it is accepted, JSON: cause, what was done, what is lost", longest=_STEPS),
     ] = None
     repaired: Annotated[Optional[str], "SHA-256 of what it means after them"] = None
     note: Annotated[
         Optional[int], "where its MakerNote begins: in the block, or in a TIFF, whose block is laid out anew, in the file"
     ] = None
-    fields: Annotated[Optional[bytes], "its fields: JSON, compressed by zlib if it is long; of a refused block, those after repair"] = None
+    fields: Annotated[
+        Optional[bytes],
+        Is("its fields: JSON, compressed by zlib if it is long; of a refused block, those after repair", longest=ROW_BYTES),
+    ] = None
     # What a catalogue doesn't have
     but_note: Optional[str] = None  # a digest of its fields without the MakerNote, if it has one; of a refused block, of those after repair
     fresh: Optional[object] = None  # the fields of a block that was judged just now: `fields.block_fields.Fields`
@@ -135,8 +142,8 @@ class Picture(NamedTuple):
     """A picture and what is known of it: after it was looked at, or as a catalogue keeps it."""
 
     id: Annotated[int, Is(sql="INTEGER PRIMARY KEY")] = 0  # its number in a catalogue
-    path: Annotated[bytes, Is("absolute, as the file system has it", "BLOB NOT NULL UNIQUE")] = b""
-    root: Annotated[bytes, "the folder that was indexed"] = b""
+    path: Annotated[bytes, Is("absolute, as the file system has it", "BLOB NOT NULL UNIQUE", longest=_PATH)] = b""
+    root: Annotated[bytes, Is("the folder that was indexed", longest=_PATH)] = b""
     size: Annotated[Optional[int], "bytes"] = None
     modified: Annotated[Optional[int], "nanoseconds since 1970, in 64 bits"] = None
     changed: Annotated[Optional[int], "the same of the last change of the file's status (ctime)"] = None
@@ -158,13 +165,13 @@ class Picture(NamedTuple):
     exif_repaired: Annotated[
         Optional[str], "SHA-256 of what the Exif blocks mean after repairs that lose nothing, if one is refused"
     ] = None
-    maker_notes: Annotated[str, "where the MakerNotes begin, which decides what they mean; empty if there is none"] = ""
+    maker_notes: Annotated[str, Is("where the MakerNotes begin, which decides what they mean; empty if there is none", longest=_EACH)] = ""
     file: Annotated[str, "SHA-256 of the whole file, if nothing else of it can be compared; else empty"] = ""
     coded_picture: Annotated[Optional[str], "BLAKE2b of the coded picture; empty: not known of this file; NULL: not requested"] = None
     beside: Annotated[str, "BLAKE2b of its colour profiles and comments; empty: there is none, or not known"] = ""
     damage: Annotated[str, "what is damaged in the coded picture; empty: nothing, or not known"] = ""
     sha256: Annotated[Optional[str], "SHA-256 of the whole file; empty: it can't be read; NULL: not requested"] = None
-    sidecars: Annotated[str, "names, sizes, times and inodes of its XMP sidecars; empty if there is none"] = ""
+    sidecars: Annotated[str, Is("names, sizes, times and inodes of its XMP sidecars; empty if there is none", longest=_EACH)] = ""
     # What other tables of a catalogue have, and what it doesn't have, if the picture was looked at just now
     blocks: Tuple[Block, ...] = ()
     unread: Tuple[NotRead, ...] = ()
@@ -311,13 +318,18 @@ def _together(texts: Iterable[str]) -> str:
 
 def not_read_of_row(row: Tuple[Any, ...]) -> NotRead:
     """A part that was not read, of a row `what, digest`."""
-    has(str, *row)
+    has_short(str, *row)
     return NotRead(*row)
 
 
 def has(kind: type, *values: object) -> None:
     """Raises `Damaged` if a value of a row isn't of this type."""
-    check(values, itertools.repeat(kind))
+    check(values, itertools.repeat(kind), itertools.repeat(ROW_BYTES))
+
+
+def has_short(kind: type, *values: object) -> None:
+    """Raises `Damaged` if a value of a row isn't of this type, or is longer than any path or word that `index` writes."""
+    check(values, itertools.repeat(kind), itertools.repeat(LONGEST))
 
 
 def kind_of(word: str) -> str:

@@ -23,7 +23,7 @@ from ..fields.choosing import EVERYTHING, Choice
 from ..fields.left_out import lines
 from ..files.session import Session
 from ..model.problems import Problem
-from ..model.records import WORDS, Picture, has, kind_of
+from ..model.records import WORDS, Picture, has_short, kind_of
 from ..model.results import Result
 from ..model.texts import Members, path_members, shown_path
 from .contradictions import Contradictions, checked, texts_by_standard
@@ -130,7 +130,7 @@ def gather(about: About) -> Gathered:
             contents.all_problems += 1
             kept = later if picture.problem == Problem.NO_PICTURE else contents.problems
             if len(kept) < MOST_CHANGES:
-                kept.append(picture)
+                kept.append(picture._replace(maker_notes="", sidecars=""))  # which may be long
     contents.problems = (contents.problems + later)[:MOST_CHANGES]
     for block in _refused(about):
         contents.causes[block.cause] += 1
@@ -166,8 +166,8 @@ def _refused(about: About) -> Iterator[Refused]:
 
 def _refused_of_row(row: Tuple[Any, ...]) -> Refused:
     path, kind, name, cause, place = row
-    has(bytes, path)
-    has(str, name, cause)
+    has_short(bytes, path)
+    has_short(str, name, cause)
     return Refused(path, kind_of(kind), name, cause, place)
 
 
@@ -183,7 +183,7 @@ def _gather_parts(contents: Gathered, about: About) -> None:
 
 
 def _part_of_row(row: Tuple[str, int]) -> Tuple[str, int]:
-    has(str, row[0])
+    has_short(str, row[0])
     return row
 
 
