@@ -7,6 +7,7 @@ is a person's. Each rule is of texts in real files; tests/pictures/test_own_text
 from __future__ import annotations
 
 import re
+from typing import Iterator, Set
 
 # Whole texts, in capitals
 _TEXTS = {
@@ -45,13 +46,31 @@ def is_own(text: str, make: str = "", model: str = "") -> bool:
     (True, False, True)
     """
     line = " ".join(text.strip(" \0").split())
-    if not line:
-        return False
-    if line.upper() in _TEXTS or re.fullmatch(_CAMERA, line) or re.fullmatch(_FILE, line, re.I) or re.fullmatch(_PROGRAM, line, re.I):
+    upper = line.upper()
+    if upper in _TEXTS or _is_of_camera(line) or _is_file(line) or re.fullmatch(_PROGRAM, line, re.I):
         return True
-    words, names = _words(line), _words(f"{make} {model}")
-    return any(it in names and it not in _FILLING for it in words) and all(it in names or it in _FILLING for it in words)
+    names = set(_words(f"{make} {model}".upper())) - _FILLING
+    return bool(names) and _is_name(upper, names)
 
 
-def _words(text: str) -> "list[str]":
-    return [it for it in re.split(r"[^\w-]+", text.upper()) if it]
+def _is_of_camera(line: str) -> bool:
+    return "DIGITAL " in line and bool(re.fullmatch(_CAMERA, line))
+
+
+def _is_file(line: str) -> bool:
+    return "." in line[-5:-3] and bool(re.fullmatch(_FILE, line, re.I))
+
+
+def _is_name(line: str, names: Set[str]) -> bool:
+    """Whether a line has one of these names, and else only words that say nothing."""
+    has_name = False
+    for word in _words(line):
+        if word in names:
+            has_name = True
+        elif word not in _FILLING:
+            return False
+    return has_name
+
+
+def _words(text: str) -> Iterator[str]:
+    return (match[0] for match in re.finditer(r"[\w-]+", text))
