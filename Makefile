@@ -10,8 +10,9 @@
 #   make page                             a web page with it, in out/page
 #   make c-source                         the library as C source for other machines, in out/c
 #   make sdist                            the Python packages as source, which compile it, in out/sdist
-#   make aarch64                          libexifnorm for aarch64 Linux, proved for it, in out/aarch64/lib
-#   make static                           the program for x86-64 and aarch64, without any library, in out/x86_64 and out/aarch64
+#   make aarch64                          the program and libexifnorm for aarch64 Linux, proved for it, in out/aarch64
+#   make wheel MACHINE=aarch64            a Python wheel with that library, in out/aarch64/wheel; so with install, too
+#   make static                           the program for x86-64 and aarch64, without any library, in out/static
 #   make dist                             an archive of all that install writes, its sums and its components, in out/dist
 #   make release SIGN=KEY                 all packages, the archives and their sums, in out/release; signed if a key is given
 #   make clean                            removes what was built, except the proofs in out/proved
@@ -33,8 +34,10 @@ FISHDIR = $(PREFIX)/share/fish/vendor_completions.d
 PCPREFIX = $(PREFIX)
 # the list of installed files, which uninstall follows
 MANIFEST = $(PREFIX)/share/exifnorm/installed
+# the machine that is built and packaged for: this one, or aarch64
+MACHINE := $(shell uname -m)
 # strips the installed shared library; if empty, it stays as it was linked
-STRIP = strip
+STRIP = $(tools)strip
 PYTHON = python3
 # the folder with that Python's headers; without Python.h there, the package is installed without its extension module
 PYTHONINCLUDE = $(eval PYTHONINCLUDE := $(shell '$(PYTHON)' -c 'import sysconfig; print(sysconfig.get_paths()["include"])'))$(PYTHONINCLUDE)
@@ -48,10 +51,25 @@ PYTHONDIR = $(eval PYTHONDIR := $(shell '$(PYTHON)' -c 'import site, sys; below 
 # each of these is computed once, when it is first used
 VERSION = $(eval VERSION := $(shell sed -n 's/^pub const VERSION: &str = "\(.*\)";$$/\1/p' crates/px_engine/src/version.rt))$(VERSION)
 SONAME = libexifnorm.so.1
-built = out/lib
-archive = out/proved/libpx_c.a
+proved = out/proved/libpx_c.a
 # where ./exifnorm keeps the program that it built
 program = $$(ls out/exifnorm 2>/dev/null || ls crates/px_cli/out/px_cli)
+# the crate's archive, what it needs of C, the folder of all that is built, the programs of binutils, and the compiler
+ifeq ($(MACHINE),aarch64)
+archive = out/aarch64/libpx_c.a
+in_c = $(built)/heap.o
+built = out/aarch64/lib
+tools = aarch64-linux-gnu-
+cc = $(tools)gcc
+# this Python has the headers of this machine alone
+PYTHONINCLUDE =
+else
+archive = $(proved)
+in_c = "$$(dirname "$$(rt doc)")/c/liblibc_c.a"
+built = out/lib
+tools =
+cc = $(CC)
+endif
 packages = $(eval packages := $(patsubst python/%/__init__.py,%,$(shell find python -name __init__.py)))$(packages)
 pages = $(wildcard docs/*.1 docs/*.3)
 headers = $(addprefix $(built)/,$(notdir $(wildcard crates/px_c/include/*.h)))
@@ -66,29 +84,37 @@ stage = out/stage
 all: program library
 
 # Both refuse what was compiled without proofs, before anything is installed or packaged.
-program:
+program: $(if $(filter aarch64,$(MACHINE)),out/aarch64/bin/exifnorm)
 	@./exifnorm --prove
+	@$(if $<,python3 build/guard.py $<)
 
 library: $(built)/libexifnorm.a $(built)/libexifnorm.so $(headers)
 	@python3 build/guard.py $(built)/libexifnorm.a $(built)/$(SONAME)
 
 .PHONY: FORCE
 # build/store.py knows what has to be proved and built again, as for the program. What is up to date keeps its time.
-$(archive): FORCE
+$(proved): FORCE
 	@python3 build/prove.py px_c
 
-# The archive and what it needs of the toolchain as one object, which shows exifnorm_* alone.
-$(built)/exifnorm.o: $(archive) Makefile
+out/aarch64/libpx_c.a: FORCE
+	@python3 build/cross.py px_c aarch64
+
+# The archive and what it needs of C as one object, which shows exifnorm_* alone.
+$(built)/exifnorm.o: $(archive) $(filter %.o,$(in_c)) Makefile
 	mkdir -p $(built)
-	ld -r -o $@ --whole-archive $(archive) "$$(dirname "$$(rt doc)")/c/liblibc_c.a"
-	objcopy --wildcard --keep-global-symbol='exifnorm_*' $@
+	$(tools)ld -r -o $@ --whole-archive $(archive) $(in_c)
+	$(tools)objcopy --wildcard --keep-global-symbol='exifnorm_*' $@
+
+$(built)/heap.o: packaging/heap.c Makefile
+	mkdir -p $(built)
+	$(cc) -std=c99 -O2 -fPIC -c $< -o $@
 
 $(built)/libexifnorm.a: $(built)/exifnorm.o
 	rm -f $@
-	ar rcsD $@ $<
+	$(tools)ar rcsD $@ $<
 
 $(built)/$(SONAME): $(built)/exifnorm.o packaging/exifnorm.map
-	$(CC) $(LDFLAGS) -shared -o $@ $< -Wl,-soname,$(SONAME) -Wl,--version-script=packaging/exifnorm.map -Wl,-z,defs -Wl,-z,relro \
+	$(cc) $(LDFLAGS) -shared -o $@ $< -Wl,-soname,$(SONAME) -Wl,--version-script=packaging/exifnorm.map -Wl,-z,defs -Wl,-z,relro \
 	    -Wl,-z,now -Wl,-z,noexecstack
 
 $(built)/libexifnorm.so: $(built)/$(SONAME)
@@ -146,6 +172,7 @@ stage: all
 	for command in exifnorm exifnorm-pictures; do \
 	    python3 packaging/completions.py "$(stage)$(BINDIR)/$$command" '$(stage)$(BASHDIR)' '$(stage)$(ZSHDIR)' '$(stage)$(FISHDIR)' || exit 1; \
 	done
+	$(if $(filter aarch64,$(MACHINE)),install -m 755 out/aarch64/bin/exifnorm '$(stage)$(BINDIR)/')
 
 install: stage
 	python3 packaging/manifest.py install $(stage) '$(DESTDIR)' '$(MANIFEST)'
@@ -158,10 +185,11 @@ uninstall:
 epoch = $$(date -d "$$(sed -n 's/^ -- .*>  //p' debian/changelog | head -n 1)" +%s)
 
 wheel: library
-	rm -f out/wheel/*.whl
-	SOURCE_DATE_EPOCH=$(epoch) '$(PYTHON)' -m pip wheel --no-build-isolation --no-deps --disable-pip-version-check -w out/wheel ./python
+	rm -f $(built:lib=wheel)/*.whl
+	SOURCE_DATE_EPOCH=$(epoch) EXIFNORM_MACHINE=$(MACHINE) '$(PYTHON)' -m pip wheel --no-build-isolation --no-deps \
+	    --disable-pip-version-check -w $(built:lib=wheel) ./python
 
-wasm: $(archive)
+wasm: $(proved)
 	@python3 build/wasm.py out/wasm
 	@python3 build/guard.py out/wasm/exifnorm.wasm out/wasm/exifnorm64.wasm
 
@@ -174,50 +202,40 @@ page: wasm
 	python3 packaging/page.py out/wasm/exifnorm.wasm out/page/exifnorm-$(VERSION).html
 	@python3 build/guard.py out/page/exifnorm-$(VERSION).html
 
-c-source: $(archive)
+c-source: $(proved)
 	@python3 packaging/c_source.py $(VERSION) $(epoch) out/c
 
 sdist: c-source
 	@python3 packaging/sdist.py out/c/exifnorm-$(VERSION)-c $(epoch) out/sdist
 
-# The same for aarch64, with heap.c in place of what the toolchain has for x86-64 alone.
-CROSS = aarch64-linux-gnu-
-there = out/aarch64/lib
+# Programs of px_cli, with os.c and heap.c in place of the toolchain's C code: one for aarch64, and those with glibc in them. musl 1.2.3 has
+# not all that the program calls.
+aarch64:
+	@$(MAKE) MACHINE=aarch64 all
 
-aarch64: $(there)/libexifnorm.a $(there)/$(SONAME)
-	@python3 build/guard.py $^
-
-out/aarch64/libpx_c.a: FORCE
-	@python3 build/cross.py px_c aarch64
-
-$(there)/exifnorm.o: out/aarch64/libpx_c.a packaging/heap.c Makefile
-	mkdir -p $(there)
-	$(CROSS)gcc -std=c99 -O2 -fPIC -c packaging/heap.c -o $(there)/heap.o
-	$(CROSS)ld -r -o $@ --whole-archive out/aarch64/libpx_c.a $(there)/heap.o
-	$(CROSS)objcopy --wildcard --keep-global-symbol='exifnorm_*' $@
-
-$(there)/libexifnorm.a: $(there)/exifnorm.o
-	rm -f $@
-	$(CROSS)ar rcsD $@ $<
-
-$(there)/$(SONAME): $(there)/exifnorm.o packaging/exifnorm.map
-	$(CROSS)gcc -shared -o $@ $< -Wl,-soname,$(SONAME) -Wl,--version-script=packaging/exifnorm.map -Wl,-z,defs -Wl,-z,relro \
-	    -Wl,-z,now -Wl,-z,noexecstack
-
-# The program with glibc in it. os.c and heap.c are in place of the toolchain's C code. musl 1.2.3 has not all that the program calls.
-static: out/x86_64/exifnorm out/aarch64/exifnorm
-	@python3 build/guard.py $^
+static: library out/static/exifnorm-x86_64 out/static/exifnorm-aarch64
+	@python3 build/guard.py $(filter out/static/%,$^)
+	@python3 packaging/static.py $(VERSION) $(epoch) out/static
 
 out/x86_64/px_cli.o out/aarch64/px_cli.o: out/%/px_cli.o: FORCE
 	@python3 build/cross.py px_cli $*
 
-out/x86_64/exifnorm: static_compiler = $(CC)
-out/aarch64/exifnorm: static_compiler = $(CROSS)gcc
-out/x86_64/exifnorm: static_objcopy = objcopy
-out/aarch64/exifnorm: static_objcopy = $(CROSS)objcopy
-out/x86_64/exifnorm out/aarch64/exifnorm: out/%/exifnorm: out/%/px_cli.o packaging/os.c packaging/heap.c Makefile
-	$(static_objcopy) --redefine-sym main=rattle_main $< out/$*/program.o
-	$(static_compiler) -std=c99 -O2 -static -s -Wl,--gc-sections -o $@ out/$*/program.o packaging/os.c packaging/heap.c
+out/x86_64/program.o: objcopy = objcopy
+out/aarch64/program.o: objcopy = aarch64-linux-gnu-objcopy
+out/x86_64/program.o out/aarch64/program.o: %/program.o: %/px_cli.o
+	$(objcopy) --redefine-sym main=rattle_main $< $@
+
+in_place_of_the_kit = packaging/os.c packaging/heap.c
+
+out/aarch64/bin/exifnorm: out/aarch64/program.o $(in_place_of_the_kit) Makefile
+	mkdir -p out/aarch64/bin
+	aarch64-linux-gnu-gcc -std=c99 -O2 -fPIE -pie -s -Wl,--gc-sections -Wl,-z,relro -Wl,-z,now -Wl,-z,noexecstack -o $@ $< $(in_place_of_the_kit)
+
+out/static/exifnorm-x86_64: static_cc = $(CC)
+out/static/exifnorm-aarch64: static_cc = aarch64-linux-gnu-gcc
+out/static/exifnorm-x86_64 out/static/exifnorm-aarch64: out/static/exifnorm-%: out/%/program.o $(in_place_of_the_kit) Makefile
+	mkdir -p out/static
+	$(static_cc) -std=c99 -O2 -static -s -Wl,--gc-sections -o $@ $< $(in_place_of_the_kit)
 
 # Everything in one folder that can be unpacked anywhere.
 dist_name = exifnorm-$(VERSION)-$(shell uname -s | tr A-Z a-z)-$(shell uname -m)
@@ -238,7 +256,7 @@ dist:
 
 # Everything for one version, made of the sources that git lists. SIGN names the key of the signature.
 SIGN =
-release: all
+release: all aarch64 static
 	python3 packaging/release.py $(VERSION) $(epoch) '$(SIGN)'
 
 # The proofs take minutes, and stay.

@@ -316,7 +316,7 @@ def archive(folder: Path, seconds: int) -> Path:
     with tarfile.open(fileobj=octets, mode="w", format=tarfile.GNU_FORMAT) as tar:
         for file in sorted(path for path in folder.rglob("*") if path.is_file()):
             member = tarfile.TarInfo(str(file.relative_to(folder.parent)))
-            member.size, member.mtime, member.mode = file.stat().st_size, seconds, 0o644
+            member.size, member.mtime, member.mode = file.stat().st_size, seconds, 0o755 if os.access(file, os.X_OK) else 0o644
             tar.addfile(member, io.BytesIO(file.read_bytes()))
     target = folder.with_name(f"{folder.name}.tar.gz")
     target.write_bytes(gzip.compress(octets.getvalue(), 9, mtime=0))

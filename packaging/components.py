@@ -2,9 +2,12 @@
 """Lists the crates that the program and the libraries are linked from, as an SPDX document, and copies their licences.
 
   packaging/components.py VERSION SECONDS KIT LIST LICENCES
+  packaging/components.py VERSION SECONDS KIT LIST --release
 
 SECONDS is the time of the document since 1970. KIT is the folder of the Rattle toolchain, LIST the SPDX file (JSON), and LICENCES the
-folder for the licences, which gets a folder for each crate that has some.
+folder for the licences, which gets a folder for each crate that has some. With --release no licence is copied, and the list is that of a
+whole release: it also has the C library in the programs without libraries, and what the module for WebAssembly and the C source were made
+with.
 """
 
 from __future__ import annotations
@@ -12,6 +15,7 @@ from __future__ import annotations
 import json
 import re
 import shutil
+import subprocess
 import sys
 from dataclasses import dataclass
 from datetime import datetime, timezone
@@ -96,17 +100,42 @@ def package(name: str, version: str, licence: str) -> dict[str, Any]:
     }
 
 
-def relations(packages: list[dict[str, Any]]) -> Iterator[dict[str, str]]:
-    """The document describes the first package, which is linked with the others."""
-    first = packages[0]["SPDXID"]
+def said(*words: str) -> str:
+    """What a command prints."""
+    return subprocess.run(words, stdin=subprocess.DEVNULL, stdout=subprocess.PIPE, check=True, encoding="utf-8").stdout
+
+
+def c_versions(compiler: str) -> tuple[str, str]:
+    """The versions of glibc and of GCC whose parts a compiler links into a program."""
+    defined = said(compiler, "-E", "-dM", "-include", "features.h", "-x", "c", "/dev/null")
+    numbers = dict(re.findall(r"(?m)^#define __GLIBC(_MINOR)?__ (\d+)$", defined))
+    return f"{numbers['']}.{numbers['_MINOR']}", said(compiler, "-dumpversion").strip()
+
+
+def c_packages() -> list[dict[str, Any]]:
+    """What the compiler for C links into the programs without libraries."""
+    glibc, gcc = c_versions("cc")
+    return [package("glibc", glibc, "LGPL-2.1-or-later"), package("libgcc", gcc, "GPL-3.0-or-later WITH GCC-exception-3.1")]
+
+
+def tools() -> list[dict[str, Any]]:
+    """What made the module for WebAssembly, and the C source. Nothing of their own is in these."""
+    versions = (re.findall(r"[\d.]+", said(tool, "--version"))[-1] for tool in ("wasm-opt", "wasm2c"))
+    return [package(name, version, "Apache-2.0") for name, version in zip(("binaryen", "wabt"), versions)]
+
+
+def relations(first: str, linked: list[dict[str, Any]], used: list[dict[str, Any]]) -> Iterator[dict[str, str]]:
+    """The document describes the first package, which is linked with some and was made with others."""
     yield {"spdxElementId": "SPDXRef-DOCUMENT", "relationshipType": "DESCRIBES", "relatedSpdxElement": first}
-    for it in packages[1:]:
+    for it in linked:
         yield {"spdxElementId": first, "relationshipType": "STATIC_LINK", "relatedSpdxElement": it["SPDXID"]}
+    for it in used:
+        yield {"spdxElementId": it["SPDXID"], "relationshipType": "BUILD_TOOL_OF", "relatedSpdxElement": first}
 
 
-def document(version: str, seconds: int, crates: list[Crate]) -> dict[str, Any]:
+def document(version: str, seconds: int, linked: list[dict[str, Any]], used: list[dict[str, Any]]) -> dict[str, Any]:
     """The SPDX document."""
-    packages = [package("exifnorm", version, OWN), *(package(it.name, it.version, it.licence) for it in crates)]
+    first = package("exifnorm", version, OWN)
     created = datetime.fromtimestamp(seconds, timezone.utc).strftime("%Y-%m-%dT%H:%M:%SZ")
     return {
         "spdxVersion": "SPDX-2.3",
@@ -115,20 +144,22 @@ def document(version: str, seconds: int, crates: list[Crate]) -> dict[str, Any]:
         "name": f"exifnorm-{version}",
         "documentNamespace": f"https://spdx.org/spdxdocs/exifnorm-{version}-{seconds}",
         "creationInfo": {"created": created, "creators": ["Tool: exifnorm packaging/components.py"]},
-        "packages": packages,
-        "relationships": list(relations(packages)),
+        "packages": [first, *linked, *used],
+        "relationships": list(relations(first["SPDXID"], linked, used)),
     }
 
 
 def main(words: list[str]) -> None:
     if len(words) != 5:
         sys.exit(__doc__)
-    version, seconds, kit = words[0], int(words[1]), Path(words[2])
+    version, seconds, kit, is_release = words[0], int(words[1]), Path(words[2]), words[4] == "--release"
     table = uses((TOP / "crates.txt").read_text(encoding="utf-8"))
     names = kit_crates(kit, {it for it in below(BUILT, table) if it not in table})
     crates = [crate_of(kit, it) for it in sorted(names)]
-    Path(words[3]).write_text(json.dumps(document(version, seconds, crates), indent=1) + "\n", encoding="utf-8")
-    for crate in crates:
+    linked = [package(it.name, it.version, it.licence) for it in crates] + (c_packages() if is_release else [])
+    text = json.dumps(document(version, seconds, linked, tools() if is_release else []), indent=1)
+    Path(words[3]).write_text(f"{text}\n", encoding="utf-8")
+    for crate in crates if not is_release else []:
         for file in crate.files:
             folder = Path(words[4], crate.name)
             folder.mkdir(parents=True, exist_ok=True)

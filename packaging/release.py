@@ -24,6 +24,7 @@ TOP = Path(__file__).resolve().parent.parent
 sys.dont_write_bytecode = True
 sys.path.insert(0, str(TOP / "build"))
 
+import cross
 import module
 from crates import Crates
 from prove import NotBuilt
@@ -32,8 +33,10 @@ WORK, MADE = TOP / "out" / "releasing", TOP / "out" / "release"
 TOKEN = "OWNER-" + "FILLS-IN"  # marks what only the owner of the repository knows; in two parts, so that it doesn't mark this line
 PYTHON = "/usr/bin/python3"  # that of the packages
 TOOLS = {"dpkg-buildpackage": "dpkg-dev", "dh": "debhelper", "dh_python3": "dh-python", "rt": "the Rattle kit", "git": "git"}
-TOOLS |= {"wasm-opt": "binaryen", "wasm2c": "wabt"}
-KEPT = ("px_cli", "libpx_c.a", "*.made-from")  # of out/proved: with these nothing is proved again
+TOOLS |= {"wasm-opt": "binaryen", "wasm2c": "wabt", "aarch64-linux-gnu-gcc": "gcc-aarch64-linux-gnu"}
+# of out/proved, and of the folders of other machines: with these nothing is proved again
+KEPT = ("px_cli", "libpx_c.a", "*.made-from")
+KEPT_THERE = ("px_cli.o", "libpx_c.a", "*.made-from")
 
 
 class Failed(Exception):
@@ -95,12 +98,13 @@ def unpack(archive: Path, folder: Path) -> None:
     run("tar", "--extract", "--same-permissions", "--no-same-owner", f"--file={archive}", folder=folder)
 
 
-def copy_proofs(target: Path) -> None:
-    """Copies the proved program and library."""
-    target.mkdir(parents=True)
-    for pattern in KEPT:
-        for it in (TOP / "out" / "proved").glob(pattern):
-            shutil.copy2(it, target)
+def copy_proofs(out: Path) -> None:
+    """Copies the proved program and library, and those for other machines."""
+    for name, patterns in (("proved", KEPT), *((machine, KEPT_THERE) for machine in cross.MACHINES)):
+        (out / name).mkdir(parents=True)
+        for pattern in patterns:
+            for it in (TOP / "out" / name).glob(pattern):
+                shutil.copy2(it, out / name)
 
 
 def copy_module(out: Path) -> None:
@@ -109,23 +113,47 @@ def copy_module(out: Path) -> None:
     shutil.copytree(kept, out / "module" / kept.name)
 
 
-def build(tree: Path, source: Path) -> list[Path]:
+def build(tree: Path, source: Path, version: str, seconds: int) -> list[Path]:
     """Builds everything in a folder with the sources and the proofs. The results, without the archive of the sources."""
-    for words in (["all"], ["dist", f"PYTHON={PYTHON}"], ["wheel", f"PYTHON={PYTHON}"], ["sdist"], ["npm"], ["page"]):
+    python = f"PYTHON={PYTHON}"
+    for words in (
+        ["all"],
+        ["dist", python],
+        ["wheel", python],
+        ["wheel", python, "MACHINE=aarch64"],
+        ["static"],
+        ["sdist"],
+        ["npm"],
+        ["page"],
+    ):
         run("make", *words, folder=tree)
     run("dpkg-buildpackage", "-b", "-us", "-uc", folder=tree)
+    run("dpkg-buildpackage", "-B", "-us", "-uc", "--host-arch", "arm64", folder=tree)
     run("dpkg-source", "-b", source.name, folder=source.parent)
-    from_make = [*(tree / "out/dist").glob("exifnorm-*"), *(tree / "out/wheel").glob("*.whl")]
-    from_make += [*(tree / "out/c").glob("*.tar.gz"), *(tree / "out/sdist").glob("*.tar.gz")]
-    from_make += [*(tree / "out/npm").glob("*.tgz"), *(tree / "out/page").glob("*.html")]
-    return [*from_make, *tree.parent.glob("*.deb"), *source.parent.glob("*.dsc"), *source.parent.glob("*.debian.tar.*")]
+    out, listing = tree / "out", tree / "out" / f"exifnorm-{version}.spdx.json"
+    kit = Path(subprocess.check_output(["rt", "doc"], encoding="utf-8").strip()).parent
+    run(sys.executable, "packaging/components.py", version, str(seconds), kit, listing, "--release", folder=tree)
+    module_file = shutil.copyfile(out / "wasm" / "exifnorm.wasm", out / f"exifnorm-{version}.wasm")
+    patterns = (
+        "dist/*.tar.gz",
+        "wheel/*.whl",
+        "aarch64/wheel/*.whl",
+        "static/*.tar.gz",
+        "c/*.tar.gz",
+        "sdist/*.tar.gz",
+        "npm/*.tgz",
+        "page/*.html",
+    )
+    made = [listing, module_file, *(file for pattern in patterns for file in out.glob(pattern))]
+    return [*made, *tree.parent.glob("*.deb"), *source.parent.glob("*.dsc"), *source.parent.glob("*.debian.tar.*")]
 
 
 def readme(folder: Path, version: str) -> str:
     """The README, with the names of the files."""
-    wheel, archive = (next(folder.glob(it)).name for it in ("*.whl", f"*-{platform.machine()}.tar.gz"))
+    patterns = (f"*-linux-{platform.machine()}.tar.gz", f"*_{platform.machine()}.whl", "*_aarch64.whl")
+    archive, wheel, other_wheel = (next(folder.glob(pattern)).name for pattern in patterns)
     text = (TOP / "packaging" / "release" / "README").read_text(encoding="utf-8")
-    names = {"VERSION": version, "WHEEL": wheel, "ARCHIVE": archive, "FOLDER": archive[: -len(".tar.gz")]}
+    names = {"VERSION": version, "WHEEL": wheel, "AARCH64": other_wheel, "ARCHIVE": archive, "FOLDER": archive[: -len(".tar.gz")]}
     for name, it in names.items():
         text = text.replace(f"@{name}@", it)
     return text
@@ -144,11 +172,11 @@ def release(version: str, seconds: int, key: str) -> None:
     sources_archive, root = new / f"exifnorm_{version}.orig.tar.gz", f"exifnorm-{version}"
     archive_sources(sources_archive, root, seconds)
     unpack(sources_archive, WORK / "build")
-    copy_proofs(WORK / "build" / root / "out" / "proved")
+    copy_proofs(WORK / "build" / root / "out")
     copy_module(WORK / "build" / root / "out")
     unpack(sources_archive, WORK / "source")
     shutil.copy2(sources_archive, WORK / "source")
-    for it in build(WORK / "build" / root, WORK / "source" / root):
+    for it in build(WORK / "build" / root, WORK / "source" / root, version, seconds):
         shutil.copy2(it, new)
     (new / "README").write_text(readme(new, version), encoding="utf-8")
     write_sums(new)

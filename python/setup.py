@@ -1,10 +1,13 @@
 """Puts the library libexifnorm.so.1 and the extension module into the wheel, and gives the wheel the tag of the machine that they are for.
 
-`make` builds the library. setuptools builds in out/wheel, so the sources stay unchanged.
+`make` builds the library. setuptools builds in out/wheel, so the sources stay unchanged. With EXIFNORM_MACHINE=aarch64 in the environment
+the wheel is for aarch64, and has no extension module: this Python's headers are for this machine.
 """
 
 from __future__ import annotations
 
+import os
+import platform
 import re
 import shutil
 import subprocess
@@ -16,8 +19,11 @@ from setuptools.command.build_py import build_py
 from wheel.bdist_wheel import bdist_wheel
 
 TOP = Path(__file__).resolve().parent.parent
-LIBRARY = TOP / "out" / "lib" / "libexifnorm.so.1"
-ROOM = TOP / "out" / "wheel" / "room"
+MACHINE = os.environ.get("EXIFNORM_MACHINE") or platform.machine()
+IS_FOR_ANOTHER = MACHINE != platform.machine()
+BUILT, TOOLS = (TOP / "out" / MACHINE, f"{MACHINE}-linux-gnu-") if IS_FOR_ANOTHER else (TOP / "out", "")
+LIBRARY = BUILT / "lib" / "libexifnorm.so.1"
+ROOM = BUILT / "wheel" / "room"
 EXTENSION = "_native.abi3.so"
 LIBC = "libc.so.6"
 OLDEST = (2, 5)  # the glibc of manylinux1
@@ -66,8 +72,9 @@ class BuildWithLibrary(build_py):
         target = Path(self.build_lib, "exifnorm", LIBRARY.name)
         shutil.copyfile(LIBRARY, target)
         target.chmod(0o755)
-        subprocess.run(["strip", "--strip-unneeded", target], check=True)
-        subprocess.run([sys.executable, TOP / "packaging" / "extension.py", target.with_name(EXTENSION)], check=True)
+        subprocess.run([f"{TOOLS}strip", "--strip-unneeded", target], check=True)
+        if not IS_FOR_ANOTHER:
+            subprocess.run([sys.executable, TOP / "packaging" / "extension.py", target.with_name(EXTENSION)], check=True)
 
 
 class ForOneMachine(Distribution):
@@ -81,7 +88,8 @@ class TaggedWheel(bdist_wheel):
     """A wheel for one machine and every Python 3."""
 
     def get_tag(self) -> tuple[str, str, str]:
-        machine, folder = super().get_tag()[2], Path(self.get_finalized_command("build_py").build_lib, "exifnorm")
+        machine = f"linux_{MACHINE}" if IS_FOR_ANOTHER else super().get_tag()[2]
+        folder = Path(self.get_finalized_command("build_py").build_lib, "exifnorm")
         return "py3", "none", platform_tag(machine, [glibc_needed(it) for it in (LIBRARY, *folder.glob(EXTENSION))])
 
 

@@ -2,6 +2,7 @@
 
 from __future__ import annotations
 
+import fcntl
 import os
 import re
 import shutil
@@ -13,10 +14,29 @@ from typing import List
 import pytest
 
 from commands import TOP, run
+from crates import Crates
+from prove import open_store
 
 HERE = Path(__file__).resolve().parent
 VERSION = re.findall(r'VERSION: &str = "(.*)";', TOP.joinpath("crates/px_engine/src/version.rt").read_text(encoding="utf-8"))[0]
 WINE = Path("/usr/lib/wine")  # Debian's wine64 is not on the PATH
+
+
+GCC, QEMU = "aarch64-linux-gnu-gcc", "qemu-aarch64"
+ROOT = "/usr/aarch64-linux-gnu"  # where Debian has the C library for aarch64
+
+
+def make(*words: str) -> None:
+    """Builds for other machines what is proved for this one. Tests in several processes build it once."""
+    for tool in (GCC, QEMU):
+        if not shutil.which(tool):
+            pytest.skip(f"{tool} is not installed: `apt-get install $(./test --packages)`")
+    store = open_store(Crates.read(TOP))
+    if not all(map(store.is_current, ("px_c", "px_cli"))):
+        pytest.skip("the sources are not proved: call `make`")
+    with open(TOP / "out" / "machines-lock", "w", encoding="ascii") as lock:
+        fcntl.flock(lock, fcntl.LOCK_EX)
+        run("make", *words)
 
 
 @dataclass
@@ -39,7 +59,7 @@ MACHINES = [
     Machine("clang", ["clang", "-O2"]),
     Machine("address sanitizer", ["clang", "-O1", "-fsanitize=address"]),
     Machine("musl", ["musl-gcc", "-O2", "-static"]),
-    Machine("aarch64", ["aarch64-linux-gnu-gcc", "-O2", "-static"], ["qemu-aarch64"]),
+    Machine("aarch64", [GCC, "-O2", "-static"], [QEMU]),
     Machine("windows", ["x86_64-w64-mingw32-gcc", "-O2"], [str(WINE / "wine64")]),
 ]
 

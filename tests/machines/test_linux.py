@@ -12,29 +12,15 @@ from typing import List
 import cross
 import pytest
 from cases import Case, read_all
-from crates import Crates
 from judging import problems_of_case
-from machines import HERE, VERSION
+from machines import GCC, HERE, QEMU, ROOT, VERSION, make
 from made_cases import cases_of_causes
-from prove import open_store
 
 from commands import TOP, run
 
-pytestmark = pytest.mark.xdist_group("machines")  # they are built once
-GCC, QEMU = "aarch64-linux-gnu-gcc", "qemu-aarch64"
-ROOT = "/usr/aarch64-linux-gnu"  # where Debian has the C library for aarch64
+# they are built once, and the first time proved, which takes minutes
+pytestmark = [pytest.mark.xdist_group("machines"), pytest.mark.timeout(1800)]
 CASES = [*(case for case in read_all() if isinstance(case, Case)), *cases_of_causes()]
-
-
-def make(*words: str) -> None:
-    """Builds for other machines what is proved for this one."""
-    for tool in (GCC, QEMU):
-        if not shutil.which(tool):
-            pytest.skip(f"{tool} is not installed: `apt-get install $(./test --packages)`")
-    store = open_store(Crates.read(TOP))
-    if not all(map(store.is_current, ("px_c", "px_cli"))):
-        pytest.skip("the sources are not proved: call `make`")
-    run("make", *words)
 
 
 @pytest.fixture(scope="module")
@@ -44,15 +30,16 @@ def there() -> Path:
     return TOP / "out/aarch64/lib"
 
 
-@pytest.fixture(scope="module", params=cross.MACHINES)
-def static(request: pytest.FixtureRequest, session_folder: Path) -> Path:
-    """The program for a machine, without any library, as a file that runs here."""
-    make("static")
-    program = TOP / "out" / request.param / "exifnorm"
-    if request.param == "x86_64":
+@pytest.fixture(scope="module", params=["static x86_64", "static aarch64", "aarch64"])
+def other_program(request: pytest.FixtureRequest, session_folder: Path) -> Path:
+    """A program that was not linked by the kit, as a file that runs here. Both for aarch64 have the same object file."""
+    kind, _, machine = request.param.rpartition(" ")
+    make(kind or machine)
+    program = TOP / "out/static" / f"exifnorm-{machine}" if kind else TOP / "out/aarch64/bin/exifnorm"
+    if machine == "x86_64":
         return program
-    script = session_folder / f"exifnorm-{request.param}"
-    script.write_text(f'#!/bin/sh\nexec {QEMU} {program} "$@"\n', encoding="ascii")
+    script = session_folder / f"{kind}{machine}"
+    script.write_text(f'#!/bin/sh\nexec {QEMU} -L {ROOT} {program} "$@"\n', encoding="ascii")
     script.chmod(0o755)
     return script
 
@@ -81,33 +68,41 @@ def test_it_has_the_calls_and_needs_glibc_alone(there: Path) -> None:
     assert sorted(names) == sorted(re.findall(r"\bexifnorm_\w+(?=;)", (TOP / "packaging/exifnorm.map").read_text(encoding="utf-8")))
 
 
-# ---- the program without any library
+# ---- the program for aarch64, and the programs without any library
 
 
-def test_worked_cases(static: Path) -> None:
-    problems = [(case.name, problem) for case in CASES for problem in problems_of_case(static, case)]
+def test_worked_cases(other_program: Path) -> None:
+    chosen = CASES[::10] if other_program.name == "aarch64" else CASES
+    problems = [(case.name, problem) for case in chosen for problem in problems_of_case(other_program, case)]
     assert problems[:5] == []
 
 
-def test_samples(static: Path, program: Path, files: Path) -> None:
+def test_samples(other_program: Path, program: Path, files: Path) -> None:
     """It prints for the sample pictures and for blocks what the built program prints."""
-    names = files.read_text(encoding="ascii").split()[::25]
+    names = files.read_text(encoding="ascii").split()[:: 200 if other_program.name == "aarch64" else 40]
     for command in ("check", "show", "captions"):
         for name in names:
-            ours, theirs = (subprocess.run([it, command, name], stdout=subprocess.PIPE, check=False) for it in (static, program))
+            ours, theirs = (subprocess.run([it, command, name], stdout=subprocess.PIPE, check=False) for it in (other_program, program))
             assert (ours.returncode, ours.stdout) == (theirs.returncode, theirs.stdout), (command, name)
 
 
 @pytest.mark.parametrize("machine", cross.MACHINES)
 def test_no_library_is_in_it(machine: str) -> None:
     make("static")
-    said = run("aarch64-linux-gnu-readelf", "-dlW", TOP / "out" / machine / "exifnorm")
+    said = run("aarch64-linux-gnu-readelf", "-dlW", TOP / "out/static" / f"exifnorm-{machine}")
     assert "INTERP" not in said and "NEEDED" not in said
+
+
+def test_the_program_for_aarch64_is_hardened() -> None:
+    make("aarch64")
+    said = run("aarch64-linux-gnu-readelf", "-hdlW", TOP / "out/aarch64/bin/exifnorm")
+    assert "DYN (Position-Independent" in said and "BIND_NOW" in said and "GNU_RELRO" in said
+    assert re.findall(r"\(NEEDED\).*\[(.*)\]", said) == ["libc.so.6"]
 
 
 def test_it_runs_in_an_empty_root(folder: Path) -> None:
     make("static")
-    shutil.copyfile(TOP / "out/x86_64/exifnorm", folder / "exifnorm")
+    shutil.copyfile(TOP / "out/static/exifnorm-x86_64", folder / "exifnorm")
     (folder / "exifnorm").chmod(0o755)
     (folder / "block").write_bytes(b"\x1c\x02\x78\x00\x04Vase")
     enter = ["chroot"] if os.geteuid() == 0 else ["unshare", "--user", "--map-root-user", "chroot"]

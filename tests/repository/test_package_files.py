@@ -142,14 +142,17 @@ class TestComponents:
             "packages": [
                 {"SPDXID": "SPDXRef-exifnorm", "name": "exifnorm", "versionInfo": "7.8.9", **both[0]},
                 {"SPDXID": "SPDXRef-one-more", "name": "one_more", "versionInfo": "1.2.3", **both[1]},
+                {"SPDXID": "SPDXRef-tool", "name": "tool", "versionInfo": "4", **both[1]},
             ],
             "relationships": [
                 {"spdxElementId": "SPDXRef-DOCUMENT", "relationshipType": "DESCRIBES", "relatedSpdxElement": "SPDXRef-exifnorm"},
                 {"spdxElementId": "SPDXRef-exifnorm", "relationshipType": "STATIC_LINK", "relatedSpdxElement": "SPDXRef-one-more"},
+                {"spdxElementId": "SPDXRef-tool", "relationshipType": "BUILD_TOOL_OF", "relatedSpdxElement": "SPDXRef-exifnorm"},
             ],
         }
         crate = dataclasses.replace(components.crate_of(self.kit, "one"), name="one_more")
-        assert components.document("7.8.9", 86_400, [crate]) == expected
+        linked = [components.package(crate.name, crate.version, crate.licence)]
+        assert components.document("7.8.9", 86_400, linked, [components.package("tool", "4", "MIT")]) == expected
 
 
 @pytest.mark.parametrize("module", [command, components, dist_info, grammar, header, names], ids=lambda it: it.__name__)

@@ -1,5 +1,8 @@
 """`make release` in two folders: the same bytes, and each form installed and used. And what `make install`, `clean` and `help` do."""
 
+import base64
+import gzip
+import json
 import os
 import re
 import shutil
@@ -12,6 +15,8 @@ from pathlib import Path
 
 import pytest
 
+import guard
+import machines
 import module
 import next_steps
 import release
@@ -21,7 +26,8 @@ TOP = Path(__file__).resolve().parents[2]
 
 PYTHON = "/usr/bin/python3"
 SYSTEM_PATH = "/usr/sbin:/usr/bin:/sbin:/bin"
-DEBS = ("exifnorm", "exifnorm-pictures", "libexifnorm-dev", "libexifnorm1", "python3-exifnorm")
+DEBS = ("exifnorm_*_amd64", "exifnorm-pictures_*_all", "libexifnorm-dev_*_amd64", "libexifnorm1_*_amd64", "python3-exifnorm_*_all")
+DEBS_OF_AARCH64 = ("exifnorm_*_arm64", "libexifnorm-dev_*_arm64", "libexifnorm1_*_arm64")
 pytestmark = [pytest.mark.xdist_group("release"), pytest.mark.timeout(1800)]  # the releases are built once
 
 
@@ -52,10 +58,8 @@ def clone(folder):
     for name in listed():
         (folder / name).parent.mkdir(parents=True, exist_ok=True)
         shutil.copy2(TOP / name, folder / name, follow_symlinks=False)
-    (folder / "out/proved").mkdir(parents=True)
-    for pattern in release.KEPT:
-        for it in (TOP / "out/proved").glob(pattern):
-            shutil.copy2(it, folder / "out/proved")
+    machines.make("aarch64", "static")
+    release.copy_proofs(folder / "out")
     kept = module.kept(Crates.read(TOP))
     shutil.copytree(kept, folder / "out/module" / kept.name)
     run("git", "init", "-q", cwd=folder)
@@ -122,16 +126,21 @@ def test_two_runs_in_different_folders_write_the_same_bytes(releases):
 
 
 def test_it_has_each_form_and_the_sums(made):
-    assert sorted(it.name.partition("_")[0] for it in made.glob("*.deb")) == sorted(DEBS)
+    assert {it.name for it in made.glob("*.deb")} == {one(made, f"{pattern}.deb").name for pattern in (*DEBS, *DEBS_OF_AARCH64)}
     for pattern in (
-        "*.whl",
+        "*x86_64.whl",
+        "*aarch64.whl",
         "*-linux-*.tar.gz",
+        "*-static-x86_64.tar.gz",
+        "*-static-aarch64.tar.gz",
         "*.orig.tar.gz",
         "*.dsc",
         "*.debian.tar.*",
         "*.spdx.json",
         "*-c.tar.gz",
+        f"exifnorm-{machines.VERSION}.tar.gz",
         "*.tgz",
+        "*.wasm",
         "*.html",
         "README",
     ):
@@ -143,7 +152,9 @@ def test_it_has_each_form_and_the_sums(made):
 def test_each_file_that_the_readme_names_is_there_and_the_other_way_round(made):
     text = (made / "README").read_text()
     assert "@" not in text
-    named = {it.removeprefix("./") for it in re.findall(r"\S*exifnorm\S*[_-]\d\S*\.(?:deb|whl|tar\.gz|tgz|tar\.xz|dsc|json|html)", text)}
+    named = {
+        it.removeprefix("./") for it in re.findall(r"\S*exifnorm\S*[_-]\d\S*\.(?:deb|whl|tar\.gz|tgz|tar\.xz|dsc|json|html|wasm)", text)
+    }
     assert named == {it.name for it in made.iterdir()} - {"README", "SHA256SUMS"}
 
 
@@ -151,7 +162,8 @@ def test_no_file_that_git_does_not_list_is_in_it(made, tmp_path):
     for it in (one(made, "*.orig.tar.gz"), one(made, "*-linux-*.tar.gz")):
         names = run("tar", "-tf", it)
         assert "stray" not in names and "samples/before" in names, it
-    assert "stray" not in run(PYTHON, "-m", "zipfile", "-l", one(made, "*.whl"))
+    for it in made.glob("*.whl"):
+        assert "stray" not in run(PYTHON, "-m", "zipfile", "-l", it)
 
 
 # ---- each form, installed
@@ -159,7 +171,7 @@ def test_no_file_that_git_does_not_list_is_in_it(made, tmp_path):
 
 def test_the_debian_packages_are_used(made, tmp_path):
     for name in DEBS:
-        run("dpkg-deb", "-x", one(made, f"{name}_*.deb"), tmp_path)
+        run("dpkg-deb", "-x", one(made, f"{name}.deb"), tmp_path)
     libraries = one(tmp_path, "usr/lib/*/libexifnorm.so.1").parent
     uses(
         tmp_path / "usr/bin/exifnorm",
@@ -170,7 +182,7 @@ def test_the_debian_packages_are_used(made, tmp_path):
 
 
 def test_the_packages_ask_for_what_exifnorm_pictures_uses(made):
-    package = one(made, "exifnorm-pictures_*.deb")
+    package = one(made, "exifnorm-pictures_*_all.deb")
     assert "libimage-exiftool-perl" in run("dpkg-deb", "-f", package, "Depends")
     recommended = run("dpkg-deb", "-f", package, "Recommends")
     assert {"exiv2", "python3-rdflib"} <= set(re.findall(r"[\w-]+", recommended)), recommended
@@ -178,7 +190,7 @@ def test_the_packages_ask_for_what_exifnorm_pictures_uses(made):
 
 def test_the_wheel_is_used_in_a_venv(made, tmp_path):
     run(PYTHON, "-m", "venv", "--without-pip", tmp_path / "venv")
-    words = ["--no-index", "--no-deps", "--disable-pip-version-check", one(made, "*.whl")]
+    words = ["--no-index", "--no-deps", "--disable-pip-version-check", one(made, "*x86_64.whl")]
     run(PYTHON, "-m", "pip", "--python", tmp_path / "venv/bin/python", "install", *words, env=environment())
     uses(None, tmp_path / "venv/bin/exifnorm-pictures", TOP)
     said = run(tmp_path / "venv/bin/python", "-c", "import exifnorm; print(exifnorm.version())", env=environment(), cwd=tmp_path)
@@ -197,7 +209,7 @@ def test_pip_compiles_the_source_distribution(made, tmp_path):
 
 
 def test_the_wheel_has_a_description_and_extras(made, tmp_path):
-    run(PYTHON, "-m", "zipfile", "-e", one(made, "*.whl"), tmp_path)
+    run(PYTHON, "-m", "zipfile", "-e", one(made, "*x86_64.whl"), tmp_path)
     code = "import importlib.metadata as m, json; it = m.metadata('exifnorm'); print(it.get_all('Provides-Extra'), it.get_payload()[:10], m.requires('exifnorm'))"
     said = run(PYTHON, "-c", code, env=environment(PYTHONPATH=str(tmp_path)))
     assert (
@@ -219,6 +231,122 @@ def test_the_archive_is_used_where_it_is_unpacked(made, tmp_path):
     assert run("sh", "-c", program, cwd=tree / "examples", env=environment(**places)) == "same\n"
 
 
+# ---- the forms for aarch64, and the programs without libraries
+
+
+def test_the_debian_packages_of_aarch64_are_used(made, tmp_path):
+    for name in DEBS_OF_AARCH64:
+        package = one(made, f"{name}.deb")
+        assert run("dpkg-deb", "-f", package, "Architecture") == "arm64\n"
+        run("lintian", "--allow-root", "--fail-on", "error,warning", "--suppress-tags", "initial-upload-closes-no-bugs", package)
+        run("dpkg-deb", "-x", package, tmp_path)
+    libraries = tmp_path / "usr/lib/aarch64-linux-gnu"
+    qemu = [machines.QEMU, "-L", machines.ROOT, "-E", f"LD_LIBRARY_PATH={libraries}"]
+    assert run(*qemu, tmp_path / "usr/bin/exifnorm", "--version") == f"exifnorm {machines.VERSION}\n"
+    pkg_config = {"PKG_CONFIG_LIBDIR": str(libraries / "pkgconfig"), "PKG_CONFIG_SYSROOT_DIR": str(tmp_path)}
+    flags = run("pkg-config", "--cflags", "--libs", "exifnorm", env=environment(**pkg_config)).split()
+    run(machines.GCC, TOP / "tests/library/examples/compare.c", *flags, "-o", tmp_path / "compare")
+    assert run(*qemu, tmp_path / "compare") == "same\n"
+
+
+@pytest.mark.parametrize("name", ["exifnorm", "libexifnorm1"])
+def test_the_packages_of_aarch64_depend_on_the_glibc_that_they_need(made, tmp_path, name):
+    package = one(made, f"{name}_*_arm64.deb")
+    run("dpkg-deb", "-x", package, tmp_path)
+    files = [it for it in (*tmp_path.glob("usr/bin/exifnorm"), *tmp_path.glob("usr/lib/*/*.so.1.*"))]
+    needed = {(int(a), int(b)) for a, b in re.findall(r"GLIBC_(\d+)\.(\d+)", "".join(run("readelf", "-VW", it) for it in files))}
+    depended = re.fullmatch(r"libc6 \(>= (\d+)\.(\d+)\)\n", run("dpkg-deb", "-f", package, "Depends"))
+    assert needed and max(needed) <= (int(depended[1]), int(depended[2]))
+
+
+def test_the_wheel_of_aarch64(made, tmp_path):
+    """It has the modules of the other wheel, and a library that a program for aarch64 loads. Its tag is that of what the library needs."""
+    packed = one(made, "*_aarch64.whl")
+    names = [
+        {it.split()[0] for it in run(PYTHON, "-m", "zipfile", "-l", file).splitlines()} for file in (packed, one(made, "*_x86_64.whl"))
+    ]
+    assert names[1] - names[0] == {"exifnorm/_native.abi3.so"} and names[0] <= names[1]
+    run(PYTHON, "-m", "zipfile", "-e", packed, tmp_path)
+    library = tmp_path / "exifnorm/libexifnorm.so.1"
+    assert "Machine:                           AArch64" in run("readelf", "-hW", library)
+    needed = {(int(a), int(b)) for a, b in re.findall(r"GLIBC_(\d+)\.(\d+)", run("readelf", "-VW", library))}
+    assert packed.name.endswith("-py3-none-manylinux_%d_%d_aarch64.whl" % max(needed))
+    assert packed.name.partition("-py3")[2] in "-py3" + run("cat", one(tmp_path, "*.dist-info/WHEEL")).replace("\n", ".whl\n")
+    run(machines.GCC, "-I", TOP / "crates/px_c/include", machines.HERE / "load.c", "-o", tmp_path / "load", "-ldl")
+    said = run(machines.QEMU, "-L", machines.ROOT, tmp_path / "load", library)
+    assert said == f"{machines.VERSION}: same\n"
+
+
+@pytest.mark.parametrize("machine", ["x86_64", "aarch64"])
+def test_a_program_without_libraries_answers_in_its_folder_alone(made, tmp_path, machine):
+    """The commands of its README, without any other file of the system; and it can be linked with another C library."""
+    run("tar", "-xf", one(made, f"*-static-{machine}.tar.gz"), "-C", tmp_path)
+    folder = one(tmp_path, "exifnorm-*")
+    commands = re.findall(r"(?m)^  \./(exifnorm .*)$", (folder / "README").read_text(encoding="utf-8"))
+    enter = ["chroot"] if os.geteuid() == 0 else ["unshare", "--user", "--map-root-user", "chroot"]
+    for command, answer in zip(commands, ("same\n", "exif\n", "iim\n", "refused: EmptyDirectory at 442\n")):
+        words, status = command.split(), 2 if answer.startswith("refused") else 0
+        words = [*enter, folder, f"/{words[0]}", *words[1:]] if machine == "x86_64" else [machines.QEMU, *words]
+        assert run(*words, status=status, cwd=folder).startswith(answer), command
+    assert len(commands) == 4
+    compiler = {"x86_64": "cc", "aarch64": machines.GCC}[machine]
+    run("make", f"CC={compiler}", cwd=folder / "relink")
+    again = [folder / "relink/exifnorm"] if machine == "x86_64" else [machines.QEMU, folder / "relink/exifnorm"]
+    assert run(*again, "--version") == f"exifnorm {machines.VERSION}\n"
+    assert "LESSER GENERAL PUBLIC LICENSE" in (folder / "relink/LGPL-2.1").read_text(encoding="utf-8")
+
+
+def test_the_list_of_components_has_what_is_linked_and_what_it_was_made_with(made):
+    found = json.loads(one(made, "*.spdx.json").read_text(encoding="utf-8"))
+    licences = {it["name"]: it["licenseDeclared"] for it in found["packages"]}
+    assert licences["glibc"] == "LGPL-2.1-or-later" and licences["libgcc"] == "GPL-3.0-or-later WITH GCC-exception-3.1"
+    assert licences["binaryen"] == licences["wabt"] == "Apache-2.0" and licences["clap"] == "Apache-2.0 OR MIT"
+    numbers = {it["SPDXID"]: it["name"] for it in found["packages"]}
+    tools = {numbers[it["spdxElementId"]] for it in found["relationships"] if it["relationshipType"] == "BUILD_TOOL_OF"}
+    assert tools == {"binaryen", "wabt"}
+
+
+# ---- what was compiled without proofs is in none
+
+
+def unpacked(file, folder):
+    """A folder with the content of a package or of an archive."""
+    folder.mkdir()
+    if file.suffix == ".deb":
+        run("dpkg-deb", "-x", file, folder)
+    elif file.suffix == ".whl":
+        run(PYTHON, "-m", "zipfile", "-e", file, folder)
+    else:
+        run("tar", "-xf", file, "-C", folder)
+    return folder
+
+
+def code_in(path):
+    """The code in a file: a program, a library, an object, a module of WebAssembly, or the C source of one; empty if it has none."""
+    octets = path.read_bytes()
+    if octets[:4] in (b"\x7fELF", b"\0asm") or octets[:8] == b"!<arch>\n" or path.name == "module.c":
+        return octets
+    if path.name == "wasm.js":
+        return base64.b64decode(re.search(rb'"([A-Za-z0-9+/=]+)"', octets)[1])
+    module_in_page = re.search(rb'id="module">([^<]+)<', octets) if path.suffix == ".html" else None
+    return gzip.decompress(base64.b64decode(module_in_page[1])) if module_in_page else b""
+
+
+def test_nothing_in_it_was_compiled_without_proofs(made, tmp_path):
+    """The version ends with -unproved in such code, wherever it is."""
+    archives = [it for it in made.iterdir() if re.search(r"\.(deb|whl|tgz|tar\.gz)$", it.name)]
+    folders = [unpacked(it, tmp_path / it.name) for it in archives]
+    files = [it for folder in folders for it in folder.rglob("*") if it.is_file() and not it.is_symlink()] + [
+        *made.glob("*.wasm"),
+        *made.glob("*.html"),
+    ]
+    code = {str(it): octets for it in files if (octets := code_in(it))}
+    assert [name for name, octets in code.items() if guard.MARK.encode() in octets] == []
+    with_version = [name for name, octets in code.items() if machines.VERSION.encode() in octets or name.endswith("module.c")]
+    without = {Path(name).name for name in code} - {Path(name).name for name in with_version}
+    assert without <= {"_native.abi3.so"} and len(with_version) >= 18, with_version
+
+
 def test_the_source_package_builds_the_same_packages(made, tmp_path):
     """With the proofs; without them and without the toolchain the build ends, and names what is missing. What the build leaves is ignored
     by git, and `make clean` removes it, but no proof."""
@@ -235,8 +363,9 @@ def test_the_source_package_builds_the_same_packages(made, tmp_path):
     run("git", "add", "-A", cwd=tree)
     before = run("git", "status", "--porcelain", cwd=tree)
     run("dpkg-buildpackage", "-b", "-us", "-uc", cwd=tree, env=path)
-    for it in made.glob("*.deb"):
-        assert (tmp_path / it.name).read_bytes() == it.read_bytes(), it.name
+    for pattern in DEBS:
+        package = one(made, f"{pattern}.deb")
+        assert (tmp_path / package.name).read_bytes() == package.read_bytes(), package.name
     assert run("git", "status", "--porcelain", cwd=tree) == before
     run("make", "clean", cwd=tree, env=path)
     assert [line for line in run("git", "status", "--porcelain", "--ignored", cwd=tree).splitlines() if line.startswith("!!")] == [
@@ -279,11 +408,11 @@ def small(tmp_path, monkeypatch):
     for name, value in (("TOP", top), ("WORK", top / "out/releasing"), ("MADE", top / "out/release"), ("TOOLS", {"git": "git"})):
         monkeypatch.setattr(release, name, value)
 
-    def built(tree, source):
+    def built(tree, *_):
         (tree / "out").mkdir(exist_ok=True)
-        for name in ("a.whl", f"a-{os.uname().machine}.tar.gz"):
+        for name in (f"made_{os.uname().machine}.whl", "made_aarch64.whl", f"made-linux-{os.uname().machine}.tar.gz"):
             (tree / "out" / name).write_text(name)
-        return sorted((tree / "out").glob("a*"))
+        return sorted((tree / "out").glob("made*"))
 
     monkeypatch.setattr(release, "build", built)
     monkeypatch.setattr(release, "copy_module", lambda out: None)
