@@ -3,7 +3,7 @@
 from __future__ import annotations
 
 import operator
-from typing import Any, Dict, Iterator, List, Literal, NamedTuple, NoReturn, Optional, Tuple, Union
+from typing import Any, Dict, Iterable, Iterator, List, Literal, NamedTuple, NoReturn, Optional, Tuple, Union
 
 from ._calls import Block
 from ._errors import HeadRefused, PictureRefused, TooMany
@@ -148,61 +148,48 @@ def jpeg_blocks(picture: Block) -> List[JpegBlock]:
     exif [Field(directory='main', tag=274, type='SHORT', values=(6,))]
     """
     octets = _bytes_of(picture)
-    try:
-        return _blocks(octets)
-    except HeadRefused as why:
-        raise HeadRefused(why.cause, why.place, why.parts, _blocks_before(octets, why)) from None
+    answer = _places(octets)
+    blocks = _blocks(_joined(octets, answer))
+    if len(answer) == 2:
+        return blocks
+    failure: Any = library().jpeg_parts(octets, len(octets))  # which has the parts before the fault
+    raise HeadRefused(CAUSES[answer[1]], answer[2], _parts(failure[3]), blocks)
 
 
-def _blocks_before(octets: bytes, why: HeadRefused) -> List[JpegBlock]:
-    """The blocks that end before the fault of a head: those of a JPEG that ends there."""
-    if not why.parts:
-        return []
-    last = why.parts[-1]
-    blocks = _blocks(octets[: last.start + last.size] + _END)
-    is_open = last.kind == "exif" and why.cause == CAUSES[104] and _may_continue(octets[why.place :])
-    return blocks[:-1] if is_open else blocks
+def whole_blocks(octets: bytes) -> List[Tuple[int, bytes]]:
+    """The blocks of a JPEG in their order, of any kind, each with the number of its kind; of a head with a fault those that end before it.
 
-
-_END = b"\xff\xd9"
-
-
-def _may_continue(rest: bytes) -> bool:
-    """Whether the last bytes of a JPEG that is cut may be the beginning of a segment that continues the Exif before it.
-
-    >>> [_may_continue(it) for it in (b"", b"\\xff\\xe1\\0\\x20Exif\\0\\0", b"\\xff\\xe1\\0\\x20Exif\\0\\0MM\\0*", b"\\xff\\xed", b"\\xff\\0")]
-    [True, True, False, False, False]
+    >>> whole_blocks(bytes.fromhex("ffd8 ffe1000c 457869660000 4d4d002a ffe1000a 457869660000 0008 ffd9"))
+    [(1, b'MM\\x00*\\x00\\x08')]
     """
-    marker = rest.lstrip(b"\xff")
-    if not marker:
-        return True
-    data = marker[3:]
-    return marker[0] == 0xE1 and _EXIF.startswith(data[: len(_EXIF)]) and data[len(_EXIF) :][:4] not in (b"II*\0", b"MM\0*")
+    return list(_joined(octets, _places(octets)))
 
 
-_EXIF = b"Exif\0\0"
-
-
-def _blocks(octets: bytes) -> List[JpegBlock]:
-    blocks: List[JpegBlock] = []
-    for kind, data in _whole_blocks(octets):
-        if kind == "exif":
-            blocks.append(JpegBlock("exif", data))
-        elif kind == "photoshop":
-            rows = photoshop_resources(data)
-            blocks += [JpegBlock("iim", data[start : start + size]) for number, start, size in rows if number == _IPTC and size]
-    return blocks
-
-
-def _whole_blocks(octets: bytes) -> Iterator[Tuple[str, bytes]]:
-    """The blocks of a JPEG in their order, of any kind of part, each as one."""
+def _places(octets: bytes) -> Any:
+    """The rows of the blocks and the joined bytes; after a fault also its status, its cause and its offset, before these."""
     answer: Any = library().jpeg_blocks(octets)
-    if len(answer) == 3:
-        _rows_of_parts(octets, len(octets))  # which raises HeadRefused with the parts before the fault
+    if len(answer) == 5 and answer[0] != Status.REFUSED:
         raise AssertionError(f"libexifnorm answered the status {answer[0]}")
-    rows, joined = answer
+    return answer
+
+
+def _joined(octets: bytes, answer: Any) -> Iterator[Tuple[int, bytes]]:
+    """The blocks at some places, each as one, with the number of its kind."""
+    rows, joined = answer[-2:]
     for kind, is_joined, start, size in PLACE.iter_unpack(rows):
-        yield PART_KINDS[kind], (joined if is_joined else octets)[start : start + size]
+        yield kind, (joined if is_joined else octets)[start : start + size]
+
+
+def _blocks(whole: Iterable[Tuple[int, bytes]]) -> List[JpegBlock]:
+    """The blocks of Exif and of IPTC in some blocks of any kind."""
+    blocks: List[JpegBlock] = []
+    for number, data in whole:
+        if PART_KINDS[number] == "exif":
+            blocks.append(JpegBlock("exif", data))
+        elif PART_KINDS[number] == "photoshop":
+            rows = photoshop_resources(data)
+            blocks += [JpegBlock("iim", data[start : start + size]) for resource, start, size in rows if resource == _IPTC and size]
+    return blocks
 
 
 def _raise_for_pair(failure: PictureFailure) -> NoReturn:

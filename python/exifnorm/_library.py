@@ -13,7 +13,7 @@ returns a `Failure` instead:
 
 The calls for JPEGs take a number too, the most rows that they may return, and return these as the bytes of the library's structs, of which
 `PART` and `RESOURCE` have the form. Their failure also has the rows before a fault; if there are too many rows, it has their number in
-place of the offset. The call for blocks returns rows of the form `PLACE` and the joined bytes. The comparison of two JPEGs returns a
+place of the offset. The call for blocks returns rows of the form `PLACE` and the joined bytes; its failure also has those before a fault. The comparison of two JPEGs returns a
 `PictureFailure` in place of a `Failure`.
 """
 
@@ -55,7 +55,7 @@ Number = Union[int, Failure]
 Pair = Union[int, PictureFailure]
 Text = Union[bytes, Failure]
 Rows = Union[bytes, Tuple[int, int, int, bytes]]
-Places = Union[Tuple[bytes, bytes], Failure]
+Places = Union[Tuple[bytes, bytes], Tuple[int, int, int, bytes, bytes]]
 UnreadPlace = Union[Tuple[()], Tuple[int, int], Failure]
 
 
@@ -238,10 +238,11 @@ class ByCtypes:
             places, out = (PlaceStruct * room)(), ctypes.create_string_buffer(length + 1)
             outputs = places, room, out, length, ctypes.byref(sizes), ctypes.byref(fault)
             status = self._library.exifnorm_jpeg_blocks(picture, len(picture), *outputs)
+            rows, joined = bytes(memoryview(places).cast("B")[: sizes.blocks * PLACE.size]), out.raw[: sizes.joined]
             if status == _DONE:
-                return bytes(memoryview(places).cast("B")[: sizes.blocks * PLACE.size]), out.raw[: sizes.joined]
+                return rows, joined
             if status != _TOO_LITTLE_ROOM or (sizes.blocks <= room and sizes.joined <= length):
-                return status, fault.cause, fault.place
+                return status, fault.cause, fault.place, rows, joined
             sizes.blocks = max(sizes.blocks, 1)
 
     def jpeg_unread(self, picture: bytes) -> UnreadPlace:

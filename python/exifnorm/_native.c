@@ -358,8 +358,11 @@ static PyObject *jpeg_blocks(PyObject *capsule, PyObject *argument)
     if (status == EXIFNORM_DONE) {
         made = Py_BuildValue("(y#y#)", (const char *)blocks, (Py_ssize_t)(sizes.blocks * sizeof *blocks), (const char *)out,
                              (Py_ssize_t)sizes.joined);
+    } else if (status == EXIFNORM_REFUSED) {
+        made = Py_BuildValue("(IIny#y#)", (unsigned int)status, (unsigned int)fault.cause, (Py_ssize_t)fault.place, (const char *)blocks,
+                             (Py_ssize_t)(sizes.blocks * sizeof *blocks), (const char *)out, (Py_ssize_t)sizes.joined);
     } else {
-        made = Py_BuildValue("(IIn)", (unsigned int)status, (unsigned int)fault.cause, (Py_ssize_t)fault.place);
+        made = Py_BuildValue("(IInyy)", (unsigned int)status, 0U, (Py_ssize_t)0, "", "");
     }
 end:
     if (blocks != few) {

@@ -1,5 +1,5 @@
-"""The C calls for JPEGs, exifnorm_jpeg_parts and exifnorm_photoshop_resources: heads of every kind whose parts are known, a hundred thousand
-changed ones beside a walk in Python, and arrays of each length."""
+"""The C calls for JPEGs, exifnorm_jpeg_parts, exifnorm_jpeg_blocks and exifnorm_photoshop_resources: heads of every kind whose parts are known,
+a hundred thousand changed ones beside a walk in Python, and arrays of each length."""
 
 import ctypes
 from random import Random
@@ -13,6 +13,7 @@ DONE, REFUSED, TOO_LITTLE_ROOM = 0, 2, 5
 CAUSES = {101: "JpegNoStart", 102: "JpegNoMarker", 103: "JpegLength", 104: "JpegCut"}
 KINDS = ["", "exif", "photoshop", "xmp", "extended xmp"]
 PART, RESOURCE, FAULT = Struct("IIINN"), Struct("NNN"), Struct("IN")
+PLACE, SIZES = Struct("IINN"), Struct("NN")
 FILLER, ROOM, BEHIND = 0xA5, 4096, 2  # elements of an array, and elements behind those that a call is told of
 SEED, CHANGED = 1, 100_000
 
@@ -64,6 +65,24 @@ class Calls:
     def resources(self, octets, room=ROOM):
         """The status, the resources and their number."""
         return self.made("exifnorm_photoshop_resources", RESOURCE, octets, room)
+
+    def blocks(self, octets, room, length):
+        """The status of one call with so many elements and so many joined bytes, the numbers of both that it returns, the blocks, and the
+        fault. Nothing else of the arrays is changed."""
+        places, out = (ctypes.create_string_buffer(bytes((FILLER,)) * (size + BEHIND)) for size in (room * PLACE.size, length))
+        sizes, fault = ctypes.create_string_buffer(SIZES.size), ctypes.create_string_buffer(FAULT.size)
+        given = octets, self.size_t(len(octets)), places, self.size_t(room), out, self.size_t(length)
+        status = self.library.exifnorm_jpeg_blocks(*given, sizes, fault)
+        count, joined = numbers = SIZES.unpack(sizes.raw)
+        used, more = (0, 0) if status == TOO_LITTLE_ROOM else (count * PLACE.size, joined)
+        rest = places.raw[used : room * PLACE.size + BEHIND] + out.raw[more : length + BEHIND]
+        assert rest == bytes((FILLER,)) * len(rest), "more than the blocks was written"
+        blocks = [
+            (KINDS[kind], (out.raw if it else octets)[start : start + size])
+            for kind, it, start, size in PLACE.iter_unpack(places.raw[:used])
+        ]
+        cause, place = FAULT.unpack(fault.raw)
+        return status, numbers, blocks, (CAUSES[cause], place) if status == REFUSED else None
 
 
 @pytest.fixture(scope="module")
@@ -246,3 +265,38 @@ def test_arrays_of_each_length(calls):
             assert calls.parts(octets, room) == expected, room
     for room in range(10):
         assert calls.resources(them, room)[::2] == (DONE if room >= 7 else TOO_LITTLE_ROOM, 7), room
+
+
+PICTURE = (
+    START + segment(0xE1, EXIF + BIG) + segment(0xED, PHOTOSHOP + b"8B") + segment(0xED, PHOTOSHOP + b"IM") + segment(0xE1, EXIF + LITTLE)
+)
+ON = segment(0xE1, EXIF + b"goes on")
+WHOLE = [("exif", BIG), ("photoshop", b"8BIM"), ("exif", LITTLE)]
+
+
+@pytest.mark.parametrize(
+    "rest, blocks, cause",
+    [
+        (END, WHOLE, None),
+        (ON + END, [*WHOLE[:2], ("exif", LITTLE + b"goes on")], None),
+        (b"x", WHOLE, "JpegNoMarker"),
+        (b"\xff\xe1\0\1", WHOLE, "JpegLength"),
+        (b"\xff\xed", WHOLE, "JpegCut"),
+        (segment(0xE1, EXIF + BIG)[:-1], WHOLE[:2], "JpegCut"),
+        (segment(0xE1, EXIF + BIG + b"more")[:-1], WHOLE, "JpegCut"),
+        (b"", WHOLE[:2], "JpegCut"),
+        (ON[:-1], WHOLE[:2], "JpegCut"),
+        (ON + ON[:9], WHOLE[:2], "JpegCut"),
+        (ON + b"\xff\xff\0", [*WHOLE[:2], ("exif", LITTLE + b"goes on")], "JpegNoMarker"),
+    ],
+)
+def test_blocks_in_arrays_of_each_length(calls, rest, blocks, cause):
+    """Those of a head, or those that end before its fault. If an array is too short, nothing is stored and both numbers are returned."""
+    joined = sum(len(data) for kind, data in blocks if kind == "photoshop" or len(data) > 4)
+    place = len(PICTURE) + (len(ON) if rest.startswith(ON) else 0)
+    for room in range(len(blocks) + 2):
+        for length in range(joined + 2):
+            fits = room >= len(blocks) and length >= joined
+            expected = ((REFUSED if cause else DONE), blocks, cause and (cause, place)) if fits else (TOO_LITTLE_ROOM, [], None)
+            status, numbers, stored, fault = calls.blocks(PICTURE + rest, room, length)
+            assert (status, stored, fault, numbers) == (*expected, (len(blocks), joined)), (room, length)

@@ -234,9 +234,11 @@ struct exifnorm_jpeg_sizes {
  * exifnorm_photoshop_resources finds them. As many bytes as the picture has are always enough for out; mostly none is used.
  *
  *   DONE             blocks begins with the blocks, and out with the joined bytes; sizes has their numbers. The rest of each is unchanged.
- *   REFUSED          fault is set.
+ *   REFUSED          fault is set. blocks begins with the blocks that end before the fault, and out with their joined bytes; sizes has
+ *                    their numbers. If the cause is EXIFNORM_JPEG_HEAD_CUT, a block of Exif that more bytes may continue is none of them;
+ *                    a block of Photoshop's resources is one as far as it goes.
  *   TOO_LITTLE_ROOM  sizes has the numbers that are needed: room is less than sizes.blocks, or out_length less than sizes.joined. blocks
- *                    and out are unchanged.
+ *                    and out are unchanged. The head may have a fault all the same.
  */
 uint32_t exifnorm_jpeg_blocks(const unsigned char *bytes, size_t length,       /* the picture, or its first bytes */
                               struct exifnorm_jpeg_block *blocks, size_t room, /* receives the blocks */

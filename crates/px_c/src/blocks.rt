@@ -1,12 +1,14 @@
 // The blocks of a JPEG picture in the caller's arrays. Nothing is allocated.
-ghost use Rattle.std.specs.Prelude.{◌≡◌, ◌⊎◌, ◌≤◌, ◌++◌, length, map, drop};
-ghost use Rattle.px_jpeg.specs.Head.{HasHead};
-ghost use Rattle.px_c.specs.Blocks.{seen_place, StoresBlocks, LacksRoomForBlocks};
+ghost use Rattle.std.specs.Prelude.{◌≡◌, ◌⊎◌, ◌≤◌, ◌<◌, ◌++◌, length, map, drop};
+ghost use Rattle.px_jpeg.specs.Blocks.{blocks};
+ghost use Rattle.px_jpeg.specs.Front.{HasFront};
+ghost use Rattle.px_pictures.specs.Places.{joined_bytes};
+ghost use Rattle.px_c.specs.Blocks.{seen_place, StoresPlaces};
 ghost use Rattle.px_c.specs.Numbers as status;
 
 use crate::jpeg::piece_kind;
 use crate::statuses::{DONE, TOO_LITTLE_ROOM};
-use px_jpeg::Head;
+use px_jpeg::Front;
 use px_pictures::{BlockPlace, Places, block_count, joined_len, places_of, put_joined};
 
 /// Where a block is.
@@ -61,32 +63,35 @@ fn store_places(found: Places, out: &mut [ExifnormJpegBlock])
     }
 }
 
-// Stores the blocks of a head at the start of `blocks`, and the joined bytes at the start of `out`, if both fit; and how
-// many they are in `sizes`.
+// Stores the blocks of some parts at the start of `stored`, and the joined bytes at the start of `out`, if both fit; and
+// how many they are in `sizes`.
 pub(crate) fn put_blocks(
-    head: &Head,
-    blocks: &mut [ExifnormJpegBlock],
+    front: &Front,
+    stored: &mut [ExifnormJpegBlock],
     out: &mut [u8],
     sizes: &mut ExifnormJpegSizes,
 ) -> u32
-    requires { HasHead head.now.octets head.now.parts }
+    requires { HasFront front.now.octets front.now.parts }
     ensures known { (result ≡ status.done) ⊎ (result ≡ status.too_little_room) }
-    ensures done { result ≡ status.done → StoresBlocks head.now.octets sizes.new blocks.old blocks.new out.old out.new }
-    ensures short { result ≡ status.too_little_room → LacksRoomForBlocks head.now.octets sizes.new blocks.old blocks.new out.old out.new }
+    ensures done { result ≡ status.done
+        → StoresPlaces front.now.octets front.now.parts sizes.new stored.old stored.new out.old out.new }
+    ensures short { result ≡ status.too_little_room → (sizes.new.blocks ≡ length (blocks front.now.octets front.now.parts))
+        × (sizes.new.joined ≡ length (joined_bytes front.now.octets front.now.parts))
+        × ((length stored.old < sizes.new.blocks) ⊎ (length out.old < sizes.new.joined)) × (stored.new ≡ stored.old) × (out.new ≡ out.old) }
 {
-    let count = block_count(head);
-    let joined = joined_len(head);
+    let count = block_count(front);
+    let joined = joined_len(front);
     *sizes = ExifnormJpegSizes {
         blocks: count,
         joined,
     };
-    if count > blocks.len() {
+    if count > stored.len() {
         return TOO_LITTLE_ROOM;
     }
     if joined > out.len() {
         return TOO_LITTLE_ROOM;
     }
-    store_places(places_of(head), blocks);
-    put_joined(head, out);
+    store_places(places_of(front), stored);
+    put_joined(front, out);
     DONE
 }

@@ -18,7 +18,7 @@ ghost use Rattle.px_engine.specs.Hand.{PutsForm, IsUnwritten};
 ghost use Rattle.px_engine.specs.Input.{IsSaid};
 ghost use Rattle.px_engine.specs.Prints.{caption_text, listing};
 ghost use Rattle.px_pictures.specs.declared.faults.Side.TheVariants.{First, Second};
-ghost use Rattle.px_c.specs.Blocks.{StoresBlocks, LacksRoomForBlocks, RefusesHead};
+ghost use Rattle.px_c.specs.Blocks.{StoresBlocks, StoresEnded, LacksRoomForBlocks};
 ghost use Rattle.px_c.specs.Jpeg.{StoresHead, StoresFront, LacksRoom, StoresResources, LacksRoomForResources};
 ghost use Rattle.px_c.specs.Numbers.{cause_name};
 ghost use Rattle.px_c.specs.Outcomes.{Refuses, PutsText, PutsSaid, IsOfKind, AreCompared};
@@ -49,7 +49,7 @@ use over_memory::{
 pub use pictures::ExifnormPictureFault;
 use px_bytes::Memory;
 use px_engine::VERSION;
-use px_jpeg::{find_resources, read_head};
+use px_jpeg::{find_front, find_resources, read_head};
 use statuses::{DONE, NO_MEMORY, REFUSED, SECOND_REFUSED, TOO_LITTLE_ROOM, TOO_LONG};
 use std::alloc::Global;
 pub use unread::ExifnormUnreadPart;
@@ -214,9 +214,11 @@ pub extern "C" fn exifnorm_jpeg_parts(
 /// ranges of the bytes that the call writes to the start of `out`. `sizes` has the number of blocks, and that of these
 /// bytes. The picture may be its first bytes, as far as its head goes. Allocates nothing.
 ///
-/// `REFUSED`: the bytes have no head, and `fault` is the first fault. `TOO_LITTLE_ROOM`: `blocks` has fewer than
-/// `sizes.blocks` elements, or `out` fewer than `sizes.joined` bytes. Only success changes `blocks` and `out`, each only
-/// as far as `sizes` says. Only success and `TOO_LITTLE_ROOM` change `sizes`. Only a refusal changes `fault`.
+/// `REFUSED`: the bytes have no head, and `fault` is the first fault; the blocks that end before it are stored and
+/// counted. If the bytes end before the head does, more of them may continue a block of Exif: that block is left out.
+/// A block of Photoshop's resources is stored as far as it goes, and each resource in it is whole. `TOO_LITTLE_ROOM`:
+/// `blocks` has fewer than `sizes.blocks` elements, or `out` fewer than `sizes.joined` bytes; both are unchanged. `blocks`
+/// and `out` are changed only as far as `sizes` says. Only a refusal changes `fault`.
 #[unsafe(no_mangle)]
 pub extern "C" fn exifnorm_jpeg_blocks(
     bytes: &[u8],
@@ -227,16 +229,16 @@ pub extern "C" fn exifnorm_jpeg_blocks(
 ) -> u32
     ensures known { (result ≡ status.done) ⊎ (result ≡ status.refused) ⊎ (result ≡ status.too_little_room) }
     ensures done { result ≡ status.done → StoresBlocks bytes.now sizes.new blocks.old blocks.new out.old out.new }
-    ensures refused { result ≡ status.refused → RefusesHead bytes.now fault.new }
+    ensures refused { result ≡ status.refused → StoresEnded bytes.now fault.new sizes.new blocks.old blocks.new out.old out.new }
     ensures short { result ≡ status.too_little_room → LacksRoomForBlocks bytes.now sizes.new blocks.old blocks.new out.old out.new }
-    ensures blocks { result ≢ status.done → blocks.new ≡ blocks.old }
-    ensures out { result ≢ status.done → out.new ≡ out.old }
-    ensures sizes { result ≡ status.refused → sizes.new ≡ sizes.old }
     ensures fault { result ≢ status.refused → fault.new ≡ fault.old }
 {
     match read_head(bytes) {
-        Ok(head) => put_blocks(&head, blocks, out, sizes),
+        Ok(head) => put_blocks(&head.front(), blocks, out, sizes),
         Err(why) => {
+            if put_blocks(&find_front(bytes), blocks, out, sizes) == TOO_LITTLE_ROOM {
+                return TOO_LITTLE_ROOM;
+            }
             *fault = ExifnormJpegFault {
                 cause: head_cause(why.cause),
                 place: why.place,

@@ -8,7 +8,7 @@ ghost use Rattle.px_engine.specs.Files.{Said};
 ghost use Rattle.px_engine.specs.Hand.{PutsForm, IsUnwritten};
 ghost use Rattle.px_engine.specs.Input.{IsSaid};
 ghost use Rattle.px_engine.specs.Prints.{caption_text, listing};
-ghost use Rattle.px_pictures.specs.Asking.{AsksToCompare, join_request};
+ghost use Rattle.px_pictures.specs.Asking.{AsksForBoth, join_request};
 ghost use Rattle.px_pictures.specs.declared.faults.Side.TheVariants.{First, Second};
 ghost use Rattle.px_c.specs.Outcomes.{Refuses, PutsSaid, IsOfKind, AreCompared};
 ghost use Rattle.px_c.specs.Pictures.{ArePicturesCompared, LeavesUnread, RefusesPicture};
@@ -233,7 +233,7 @@ pub(crate) fn jpeg_same_in(
     ensures fault { result ≢ status.refused → result ≢ status.second_refused → fault.new ≡ fault.old }
     ensures lacking { result ≡ status.no_memory → memory.new.refusals ≡ memory.old.refusals + 1 }
     ensures memory { result ≢ status.no_memory → memory.new.refusals ≡ memory.old.refusals }
-    ensures asked { AsksToCompare first.now second.now memory.old memory.new }
+    ensures asked { AsksForBoth first.now second.now memory.old memory.new }
 {
     match px_pictures::compare_metadata_in(memory, first, second) {
         Ok(Comparison::Same) => {

@@ -68,7 +68,7 @@ holds_of : (x : List ℕ) → is_part x ≡ true → Holds (marks x) (behind x)
 holds_of x h = part_holds (marks x) (behind x) (is_part_is x (behind x) (marks x) refl refl ∙ h)
 
 -- behind the bytes FF and a code
-behind_open : (x fill : List ℕ) (c : ℕ) (more : List ℕ) → AreFill fill → c ≢ 255 → x ≡ fill ++ 255 ∷ c ∷ more → behind x ≡ c ∷ more
+pub behind_open : (x fill : List ℕ) (c : ℕ) (more : List ℕ) → AreFill fill → c ≢ 255 → x ≡ fill ++ 255 ∷ c ∷ more → behind x ≡ c ∷ more
 behind_open x fill c more f o w =
     ap behind w ∙ ap (λ (n : ℕ). drop n (fill ++ 255 ∷ c ∷ more)) (opened_marks fill c more f o) ∙ opened_behind fill c more f o
 

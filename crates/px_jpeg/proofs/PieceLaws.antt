@@ -1,18 +1,28 @@
 -- Pieces, part by part; and the parts of a head are in the picture.
-use Rattle.std.proofs.Common.{◌≡◌, ◌≤◌, ◌+◌, ℕ, List, [], ◌∷◌, ◌++◌, length, Option, Some, None, sym, ap, ◌∙◌, subst, arith, length-append}
+use Rattle.std.proofs.Common.{◌≡◌, ◌≢◌, ◌==◌, ◌≤◌, ◌+◌, ℕ, List, [], ◌∷◌, ◌++◌, length, Option, Some, None, sym, ap, ◌∙◌, subst, arith, length-append}
 use Rattle.std.specs.List.{AllByRecursion}
 use Rattle.px_jpeg.specs.declared.parts.Part.{Part}
 use Rattle.px_jpeg.specs.declared.pieces.Kind.{Kind}
 use Rattle.px_jpeg.specs.Head.{Spells, HasHead}
 use Rattle.px_jpeg.specs.declared.pieces.Piece.{Piece}
 use Rattle.px_jpeg.specs.declared.contents.HeadPart.{HeadPart}
-use Rattle.px_jpeg.specs.Pieces.{AllInside, kind_of, range, piece_of, piece_in, pieces, head_part, with_pieces}
+use Rattle.px_jpeg.specs.Pieces.{AllInside, is_exif, is_photoshop, is_xmp, is_extended, kind_of, range, piece_of, piece_in, pieces, head_part, with_pieces}
 use Rattle.px_jpeg.specs.Laws.{PiecesFound}
-use Rattle.std.proofs.Common.{is_some, unwrap_or, true, false, refl, suc}
+use Rattle.std.proofs.Common.{is_some, unwrap_or, true, refl, suc}
+use Rattle.std.proofs.lemmas.Bool.{cond-false, and_left, ne_eqb}
 use Rattle.std.specs.Prelude.{filter_map}
 use Rattle.px_jpeg.specs.Reading.{head_of}
-use Rattle.px_jpeg.proofs.HeadLaws.{computed_said}
+use Rattle.px_jpeg.proofs.FirstParts.{some_said}
 use Rattle.px_jpeg.proofs.Walking.{part_end}
+
+-- a segment of another marker than APP1 and APP13
+pub other_marker : (c : ℕ) (x : List ℕ) → c ≢ 225 → c ≢ 237 → kind_of c x ≡ None
+unfolding kind_of is_exif is_photoshop is_xmp is_extended
+other_marker c x h k =
+    cond-false (is_exif c x) _ _ (and_left (c == 225) _ (ne_eqb c 225 h))
+    ∙ cond-false (is_photoshop c x) _ _ (and_left (c == 237) _ (ne_eqb c 237 k))
+    ∙ cond-false (is_xmp c x) _ _ (and_left (c == 225) _ (ne_eqb c 225 h))
+    ∙ cond-false (is_extended c x) _ _ (and_left (c == 225) _ (ne_eqb c 225 h))
 
 pub piece_first : (b : List ℕ) (last : Option Kind) (ps qs : List Part) (q : Part) (y : List ℕ) (k : Kind) → ps ≡ q ∷ qs
     → y ≡ range b q.start q.size → Some k ≡ kind_of q.code y → pieces b last ps ≡ piece_of b q k last ∷ pieces b (Some k) qs
@@ -30,7 +40,7 @@ pub first_inside : (b : List ℕ) (ps qs : List Part) (q : Part) → ps ≡ q �
     (q.start + q.size ≤ length b) × AllInside b qs
 first_inside b ps qs q e h = subst (AllInside b) e h
 
-inside_more : (n m : ℕ) (qs : List Part) → n ≤ m → AllByRecursion (λ q. q.start + q.size ≤ n) qs → AllByRecursion
+pub inside_more : (n m : ℕ) (qs : List Part) → n ≤ m → AllByRecursion (λ q. q.start + q.size ≤ n) qs → AllByRecursion
     (λ q. q.start + q.size ≤ m) qs
 inside_more n m [] l h = tt
 inside_more n m (q ∷ qs) l h = (let k = h.0 in omega arith, inside_more n m qs l h.1)
@@ -49,11 +59,7 @@ head_inside b qs s =
     inside_more (2 + length s.spelled) (length b) qs (omega arith) (spells_inside 2 qs s.spelled s.spells)
 
 pub parts_inside : (b : List ℕ) → is_some (head_of b) ≡ true → AllInside b (unwrap_or (head_of b) [])
-parts_inside b h = of (head_of b) refl h
-  where
-    of : (o : Option (List Part)) → head_of b ≡ o → is_some o ≡ true → AllInside b (unwrap_or o [])
-    of None e k = let clash : false ≡ true = k in absurd (cc)
-    of (Some qs) e k = head_inside b qs (computed_said b qs e)
+parts_inside b h = head_inside b (unwrap_or (head_of b) []) (some_said b h)
 
 -- ---- parts with their pieces
 

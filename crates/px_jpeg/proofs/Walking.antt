@@ -1,18 +1,17 @@
 -- A picture's bytes, one part on.
-use Rattle.std.proofs.Common.{◌≡◌, ◌≤◌, ◌<◌, ◌+◌, ℕ, true, false, inl, inr, Option, Some, None, option_map, unwrap_or, is_some}
+use Rattle.std.proofs.Common.{◌≡◌, ◌≤◌, ◌<◌, ◌+◌, ℕ, true, false, inl, inr, Option, unwrap_or, is_some}
 use Rattle.std.proofs.Common.{List, [], ◌∷◌, ◌++◌, length, drop, refl, sym, ap, ◌∙◌, subst}
 use Rattle.std.proofs.Common.{arith, length-drop, length-append, append_assoc, leb-true, nat_le}
 use Rattle.std.proofs.Common.{◌==◌, ◌&&◌, slice_index}
-use Rattle.std.proofs.lemmas.Bool.{cond-true, cond-false, cases_Bool, and_parts}
+use Rattle.std.proofs.lemmas.Bool.{and_parts}
 use Rattle.std.proofs.lemmas.List.{drop-drop}
 use Rattle.px_jpeg.specs.declared.parts.Part.{Part}
-use Rattle.px_jpeg.specs.declared.faults.Cause.{Cause}
 use Rattle.px_jpeg.specs.Head.{is_last, IsPart, HasHead}
-use Rattle.px_jpeg.specs.Fault.{FaultAt, Behind}
-use Rattle.px_jpeg.specs.Reading.{is_part, part, size, parts_left, starts, head_of}
+use Rattle.px_jpeg.specs.Fault.{Behind}
+use Rattle.px_jpeg.specs.Reading.{is_part, part, size, starts, head_of}
 use Rattle.px_jpeg.proofs.OnePart.{Reads, Begins, part_begins}
-use Rattle.px_jpeg.proofs.ManyParts.{size_ge, left_none, reads_last, reads_more, spells_more, none_more, ends_behind}
-use Rattle.px_jpeg.proofs.HeadLaws.{said_computed, fault_no_part}
+use Rattle.px_jpeg.proofs.ManyParts.{size_ge, spells_more, none_more, ends_behind}
+use Rattle.px_jpeg.proofs.HeadLaws.{said_computed}
 
 -- where a part ends
 pub part_end : (p : ℕ) (q : Part) (a : List ℕ) → IsPart p q a → q.start + q.size ≡ p + length a

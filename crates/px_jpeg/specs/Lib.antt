@@ -7,3 +7,5 @@ pub mod ResourceReading
 pub mod Resources
 pub mod Blocks
 pub mod Extended
+pub mod Front
+pub mod calls

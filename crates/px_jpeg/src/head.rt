@@ -3,10 +3,12 @@ ghost use Rattle.std.specs.Prelude.{◌≡◌, length, MatchResult};
 ghost use Rattle.px_jpeg.specs.Head.{HasHead};
 ghost use Rattle.px_jpeg.specs.Pieces.{AllInside};
 ghost use Rattle.px_jpeg.specs.Fault.{Fault, IsFront};
-ghost use Rattle.px_jpeg.specs.Reading.{starts};
+ghost use Rattle.px_jpeg.specs.Front.{HasFront};
+ghost use Rattle.px_jpeg.specs.Reading.{starts, front};
 
 use crate::bytes::rest;
 use crate::faults::{Cause, HeadFault};
+use crate::fronts::{Front, front_in};
 use crate::parts::{Part, is_last, read_part};
 use std::marker::Model;
 
@@ -30,7 +32,7 @@ impl<'a> Model for Head<'a> {
 }
 
 // Whether some bytes begin with the start mark.
-fn starts(bytes: &[u8]) -> bool
+pub(crate) fn starts(bytes: &[u8]) -> bool
     ensures { result ≡ starts bytes.now }
 {
     bytes.len() >= 2 && bytes[0] == 0xFF && bytes[1] == 0xD8
@@ -70,6 +72,7 @@ pub fn read_head<'a>(bytes: &'a [u8]) -> Result<Head<'a>, HeadFault>
 /// fault, those before it. `read_head` tells which. Allocates nothing.
 pub fn find_parts<'a>(bytes: &'a [u8]) -> Parts<'a>
     ensures front { IsFront bytes.now result }
+    ensures computed { result ≡ front bytes.now }
     ensures inside { AllInside bytes.now result }
 {
     Parts {
@@ -85,6 +88,14 @@ impl<'a> Head<'a> {
         ensures { result.now ≡ self.now.octets }
     {
         self.bytes
+    }
+
+    /// The same parts as a front.
+    pub fn front(&self) -> Front<'a>
+        ensures value { result ≡ self.now }
+        ensures front { HasFront self.now.octets self.now.parts }
+    {
+        front_in(self.bytes, self.bytes)
     }
 
     /// The parts, in order. Each is in the bytes.

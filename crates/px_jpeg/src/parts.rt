@@ -33,7 +33,7 @@ pub(crate) fn is_last(code: u8) -> bool
 }
 
 // The number of bytes FF at the start.
-fn marks(octets: &[u8]) -> usize
+pub(crate) fn marks(octets: &[u8]) -> usize
     ensures value { result ≡ marks octets.now }
     ensures within { result ≤ length octets.now }
 {

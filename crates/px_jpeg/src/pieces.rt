@@ -4,9 +4,14 @@ ghost use Rattle.px_jpeg.specs.Pieces.{is_exif, is_photoshop, is_xmp, is_extende
 ghost use Rattle.px_jpeg.specs.Pieces.{mark_len, piece_of, pieces, AllInside};
 
 use crate::bytes::range;
-use crate::head::{Head, Parts};
+use crate::head::Parts;
 use crate::parts::Part;
 use std::marker::Model;
+
+// The markers of the segments that contain something.
+pub(crate) const APP1: u8 = 0xE1;
+
+const APP13: u8 = 0xED;
 
 /// What a segment contains.
 #[derive(Clone, Copy, Debug, PartialEq, Eq)]
@@ -38,11 +43,11 @@ pub struct Piece {
 
 // Whether a segment with this marker and these data contains Exif.
 #[tactic(auto, unfolding(crate::specs::Pieces::is_exif))]
-fn is_exif(code: u8, octets: &[u8]) -> bool
+pub(crate) fn is_exif(code: u8, octets: &[u8]) -> bool
     ensures value { result ≡ is_exif code octets.now }
     ensures few { result ≡ true → 6 ≤ length octets.now }
 {
-    code == 0xE1 && octets.starts_with(b"Exif\0\0")
+    code == APP1 && octets.starts_with(b"Exif\0\0")
 }
 
 // Whether it contains Photoshop's image resources.
@@ -51,7 +56,7 @@ fn is_photoshop(code: u8, octets: &[u8]) -> bool
     ensures value { result ≡ is_photoshop code octets.now }
     ensures few { result ≡ true → 14 ≤ length octets.now }
 {
-    code == 0xED && octets.starts_with(b"Photoshop 3.0\0")
+    code == APP13 && octets.starts_with(b"Photoshop 3.0\0")
 }
 
 // Whether it contains a packet of XMP.
@@ -60,7 +65,7 @@ fn is_xmp(code: u8, octets: &[u8]) -> bool
     ensures value { result ≡ is_xmp code octets.now }
     ensures few { result ≡ true → 29 ≤ length octets.now }
 {
-    code == 0xE1 && octets.starts_with(b"http://ns.adobe.com/xap/1.0/\0")
+    code == APP1 && octets.starts_with(b"http://ns.adobe.com/xap/1.0/\0")
 }
 
 // Whether it contains a piece of extended XMP.
@@ -69,12 +74,12 @@ fn is_extended(code: u8, octets: &[u8]) -> bool
     ensures value { result ≡ is_extended code octets.now }
     ensures few { result ≡ true → 35 ≤ length octets.now }
 {
-    code == 0xE1 && octets.starts_with(b"http://ns.adobe.com/xmp/extension/\0")
+    code == APP1 && octets.starts_with(b"http://ns.adobe.com/xmp/extension/\0")
 }
 
-// What a segment with this marker and these data contains.
+// What a segment of APP1 or APP13 with this marker and these data contains.
 #[tactic(auto, unfolding(crate::specs::Pieces::kind_of))]
-pub(crate) fn kind_of(code: u8, octets: &[u8]) -> Option<Kind>
+fn kind_in(code: u8, octets: &[u8]) -> Option<Kind>
     ensures value { result ≡ kind_of code octets.now }
     ensures few { IfSome result (λ kind. mark_len kind ≤ length octets.now) }
 {
@@ -93,9 +98,21 @@ pub(crate) fn kind_of(code: u8, octets: &[u8]) -> Option<Kind>
     None
 }
 
+// What a segment with this marker and these data contains. Most have another marker.
+#[inline(always)]
+pub(crate) fn kind_of(code: u8, octets: &[u8]) -> Option<Kind>
+    ensures value { result ≡ kind_of code octets.now }
+    ensures few { IfSome result (λ kind. mark_len kind ≤ length octets.now) }
+{
+    if code == APP1 || code == APP13 {
+        return kind_in(code, octets);
+    }
+    None
+}
+
 // Whether some bytes begin with a header of TIFF.
 #[tactic(auto, unfolding(crate::specs::Pieces::is_header))]
-fn is_header(octets: &[u8]) -> bool
+pub(crate) fn is_header(octets: &[u8]) -> bool
     ensures { result ≡ is_header octets.now }
 {
     octets.starts_with(b"II*\0") || octets.starts_with(b"MM\0*")
@@ -167,7 +184,7 @@ fn next_piece<'a>(bytes: &[u8], parts: &mut Parts<'a>, last: Option<Kind>) -> Op
     }
 }
 
-/// The pieces of a head that are left, in order: the result of `Head::pieces`. Contracts see their list. It
+/// The pieces that are left, in order: the result of `Front::pieces`. Contracts see their list. It
 /// allocates nothing.
 #[derive(Drop)]
 pub struct Pieces<'a> {
@@ -209,15 +226,14 @@ impl<'a> Iterator for Pieces<'a> {
     }
 }
 
-impl<'a> Head<'a> {
-    /// The pieces of Exif, of Photoshop's image resources, of XMP and of extended XMP, in order.
-    pub fn pieces(&self) -> Pieces<'a>
-        ensures { result ≡ pieces self.now.octets None self.now.parts }
-    {
-        Pieces {
-            bytes: self.bytes(),
-            parts: self.parts(),
-            last: None,
-        }
+// The pieces of some parts, in order.
+pub(crate) fn pieces_in<'a>(bytes: &'a [u8], parts: Parts<'a>) -> Pieces<'a>
+    requires { AllInside bytes.now parts }
+    ensures { result ≡ pieces bytes.now None parts.entry }
+{
+    Pieces {
+        bytes,
+        parts,
+        last: None,
     }
 }

@@ -1,4 +1,4 @@
-// px_jpeg: what the C library doesn't call: the pieces of a head, and where a piece of extended XMP belongs.
+// px_jpeg: what the C library doesn't call: the parts of a head, its pieces, and where a piece of extended XMP belongs.
 use crate::pictures::{APP1, APP13, CAPTION, EXIF, RESOURCE, picture};
 use px_jpeg::{Extended, Kind, Part, Piece, read_extended, read_head};
 use std::test::Fail;
@@ -34,7 +34,7 @@ fn the_pieces_of_a_head_are_returned(rt: HostRuntime) -> Result<(), Fail> {
         piece(Kind::Photoshop, false, 94, 20),
         piece(Kind::Xmp, true, 147, 4),
     ];
-    let mut pieces = head.pieces();
+    let mut pieces = head.front().pieces();
     for piece in &expected {
         assert_eq!(rt; pieces.next(), Some(*piece));
     }

@@ -9,7 +9,8 @@ use Rattle.px_jpeg.specs.declared.Part.{Part}
 use Rattle.px_jpeg.specs.declared.Kind.{Kind}
 use Rattle.px_jpeg.specs.declared.Kind.TheVariants.{Exif, Photoshop, Xmp, ExtendedXmp}
 use Rattle.px_jpeg.specs.declared.Piece.{Piece}
-use Rattle.px_jpeg.specs.Head.{Spells, HasHead}
+use Rattle.px_jpeg.specs.Front.{HasFront}
+use Rattle.px_jpeg.specs.Head.{Spells}
 use Rattle.px_jpeg.specs.Pieces.{range, kind_of, piece_in, pieces}
 use Rattle.px_jpeg.specs.Blocks.{Block, piece_octets, joined, exif_in, exif_blocks, iptc_blocks, blocks}
 use Rattle.px_jpeg.specs.ResourceReading.{is_resource, resource, step, resources_of, resources_from}
@@ -17,7 +18,7 @@ use Rattle.px_pictures.specs.Metadata.{Blocks, HasBlocks, has_octets}
 use Rattle.px_pictures.specs.calls.Judging.{IsFew}
 use Rattle.px_pictures.specs.calls.Runs.{iptc_at, records_in}
 use Rattle.px_pictures.proofs.Cutting.{joined_begins, joined_continues, sizes_of}
-use Rattle.px_pictures.proofs.Inside.{head_inside, head_within}
+use Rattle.px_pictures.proofs.Inside.{head_front, front_inside, front_within}
 use Rattle.px_pictures.proofs.Records.{records_all}
 
 -- ---- lists
@@ -79,8 +80,10 @@ parts_fewer p (q ∷ qs) x (a, b, w, inr i, s) =
       length-append i.fill (255 ∷ q.code ∷ i.high ∷ i.low ∷ i.octets),
     )
 
-pub blocks_few : (b : List ℕ) (parts : List Part) → HasHead b parts → length (blocks b parts) ≤ length b
-blocks_few b parts h =
+pub blocks_few : (b : List ℕ) (parts : List Part) → HasFront b parts → length (blocks b parts) ≤ length b
+blocks_few b parts (inl e) =
+    omega (arith, joined_fewer b (pieces b None parts), pieces_fewer b None parts, ap (λ (ps : List Part). length ps) e)
+blocks_few b parts (inr h) =
     omega (
       arith,
       joined_fewer b (pieces b None parts),
@@ -90,7 +93,7 @@ blocks_few b parts h =
       length-append h.spelled h.rest,
     )
 
-exif_few : (b : List ℕ) (parts : List Part) → HasHead b parts → length (exif_blocks b parts) ≤ length b
+exif_few : (b : List ℕ) (parts : List Part) → HasFront b parts → length (exif_blocks b parts) ≤ length b
 exif_few b parts h =
     omega (arith, mapped exif_in (blocks b parts), blocks_few b parts h)
 
@@ -154,19 +157,19 @@ joined_octets b (p ∷ ps) = elim (cases_Bool p.begins) [
       )
 ]
 
-iptc_few : (b : List ℕ) (parts : List Part) → HasHead b parts → length (filter has_octets (iptc_blocks b parts)) ≤ length b
+iptc_few : (b : List ℕ) (parts : List Part) → HasFront b parts → length (filter has_octets (iptc_blocks b parts)) ≤ length b
 iptc_few b parts h =
     omega (
       arith,
       ap length (records_all (blocks b parts)),
       all_fewer (blocks b parts),
       joined_octets b (pieces b None parts),
-      sizes_of b parts (head_inside b parts h),
-      head_within b parts h,
+      sizes_of b parts (front_inside b parts h),
+      front_within b parts h,
     )
 
 pub has_few : (b : List ℕ) (x : Blocks) → HasBlocks b x → length b < 2 ^ 63 → IsFew x
 has_few b x h l = (
-  omega (arith, exif_few b h.parts h.head, ap (λ (y : Blocks). length y.exif) h.blocks),
-  omega (arith, iptc_few b h.parts h.head, ap (λ (y : Blocks). length y.iptc) h.blocks),
+  omega (arith, exif_few b h.parts (head_front b h.parts h.head), ap (λ (y : Blocks). length y.exif) h.blocks),
+  omega (arith, iptc_few b h.parts (head_front b h.parts h.head), ap (λ (y : Blocks). length y.iptc) h.blocks),
 )

@@ -14,7 +14,7 @@ use Rattle.px_jpeg.specs.Blocks.{Block, piece_octets, joined}
 use Rattle.px_pictures.specs.Metadata.{sizes, next_begins, joined_pieces}
 use Rattle.px_pictures.specs.calls.Runs.{AreSized, CanCut, joined_octets, run_size, run_rest}
 
--- ---- the pieces of a head
+-- ---- the pieces of some parts
 
 ranged : (b : List ℕ) (start size mark : ℕ) → start + size ≤ length b → length (range b (start + mark) (size - mark)) ≡ size - mark
 ranged b start size mark h = omega (arith, length-take (size - mark) (drop (start + mark) b), length-drop (start + mark) b)
@@ -53,9 +53,9 @@ first_begins b (q ∷ qs) = of (kind_of q.code (range b q.start q.size)) (first_
     of None more = more
     of (Some k) more = kind_begins k (range b (q.start + mark_len k) (q.size - mark_len k))
 
-pub head_cuts : (b x : List ℕ) (qs : List Part) (ps : List Piece) → AllInside b qs → x ≡ joined_octets b (pieces b None qs)
+pub front_cuts : (b x : List ℕ) (qs : List Part) (ps : List Piece) → AllInside b qs → x ≡ joined_octets b (pieces b None qs)
     → ps ≡ pieces b None qs → CanCut b x ps
-head_cuts b x qs ps h j e = subst (CanCut b x) (sym e) (first_begins b qs, sized b None qs h, j)
+front_cuts b x qs ps h j e = subst (CanCut b x) (sym e) (first_begins b qs, sized b None qs h, j)
 
 -- ---- pieces that continue a block
 

@@ -1,10 +1,11 @@
--- The parts of a head are in the picture, and its pieces have no more bytes than the picture.
-use Rattle.std.proofs.Common.{◌≡◌, ◌≤◌, ◌+◌, ◌&&◌, ℕ, inl, inr, Option, Some, None, List, [], ◌∷◌, ◌++◌, length, ap, arith, length-append}
+-- A picture's first parts are in the picture, and their pieces have no more bytes than the picture.
+use Rattle.std.proofs.Common.{◌≡◌, ◌≤◌, ◌+◌, ◌&&◌, ℕ, inl, inr, Option, Some, None, List, [], ◌∷◌, ◌++◌, length, sym, ap, subst, arith, length-append}
 use Rattle.std.specs.List.{AllByRecursion}
 use Rattle.std.proofs.lemmas.Bool.{cond-true, cond-false, cases_Bool}
 use Rattle.px_jpeg.specs.declared.Part.{Part}
 use Rattle.px_jpeg.specs.declared.Kind.{Kind}
 use Rattle.px_jpeg.specs.declared.Piece.{Piece}
+use Rattle.px_jpeg.specs.Front.{HasFront}
 use Rattle.px_jpeg.specs.Head.{IsPart, Spells, HasHead}
 use Rattle.px_jpeg.specs.Pieces.{AllInside, range, kind_of, piece_in, pieces}
 use Rattle.px_pictures.specs.Metadata.{sizes, next_begins, joined_pieces, joined_size}
@@ -33,8 +34,12 @@ spells_inside p (q ∷ qs) x (a, b, w, i, s) =
           (spells_inside (p + length a) qs b s),
     )
 
-pub head_inside : (b : List ℕ) (qs : List Part) → HasHead b qs → AllInside b qs
-head_inside b qs s =
+pub head_front : (b : List ℕ) (qs : List Part) → HasHead b qs → HasFront b qs
+head_front b qs s = inr (record { spelled = s.spelled; rest = s.rest; whole = s.whole; spells = s.spells })
+
+pub front_inside : (b : List ℕ) (qs : List Part) → HasFront b qs → AllInside b qs
+front_inside b qs (inl e) = subst (AllInside b) (sym e) tt
+front_inside b qs (inr s) =
     inside_more (2 + length s.spelled) (length b) qs (omega (arith, ap length s.whole, length-append s.spelled s.rest))
     (spells_inside 2 qs s.spelled s.spells)
 
@@ -60,10 +65,11 @@ joined_fewer (p ∷ ps) = elim (cases_Bool (p.begins && next_begins ps)) [
 ]
 
 -- the pieces have no more bytes than the picture
-pub head_within : (b : List ℕ) (qs : List Part) → HasHead b qs → sizes (pieces b None qs) ≤ length b
-head_within b qs s =
+pub front_within : (b : List ℕ) (qs : List Part) → HasFront b qs → sizes (pieces b None qs) ≤ length b
+front_within b qs (inl e) = omega (arith, ap (λ (ps : List Part). sizes (pieces b None ps)) e)
+front_within b qs (inr s) =
     omega (arith, pieces_within b None 2 qs s.spelled s.spells, ap length s.whole, length-append s.spelled s.rest)
 
 -- no more than these are joined
-pub joined_within : (b : List ℕ) (qs : List Part) → HasHead b qs → joined_size b qs ≤ length b
-joined_within b qs s = omega (arith, joined_fewer (pieces b None qs), head_within b qs s)
+pub joined_within : (b : List ℕ) (qs : List Part) → HasFront b qs → joined_size b qs ≤ length b
+joined_within b qs s = omega (arith, joined_fewer (pieces b None qs), front_within b qs s)

@@ -3,24 +3,24 @@ use Rattle.std.proofs.Common.{◌≡◌, ◌≤◌, ◌<◌, ◌+◌, ◌^◌, �
 use Rattle.std.proofs.Common.{take, drop, map, refl, sym, ap, ap₂, ◌∙◌, arith, append_assoc, length-append, length-drop, length-take}
 use Rattle.std.specs.Prelude.{flat_map}
 use Rattle.std.proofs.lemmas.Bool.{cond-true, cond-false, cases_Bool}
-use Rattle.std.proofs.lemmas.List.{length-map, drop-drop, take-append-drop}
+use Rattle.std.proofs.lemmas.List.{length-map, drop-drop, take-append-drop, nil_from_length}
 use Rattle.std.proofs.lemmas.Slice.{take-put_mid, drop-put_mid}
 use borrow.Rule.Slice.PartMut.{put_mid}
 use Rattle.std.proofs.Math.Seq.{drop-append_seam}
 use Rattle.px_jpeg.specs.declared.Part.{Part}
 use Rattle.px_jpeg.specs.declared.Piece.{Piece}
-use Rattle.px_jpeg.specs.Head.{HasHead}
+use Rattle.px_jpeg.specs.Front.{HasFront}
 use Rattle.px_jpeg.specs.Pieces.{range, pieces}
 use Rattle.px_jpeg.specs.Blocks.{Block, piece_octets, joined, blocks}
 use Rattle.px_pictures.specs.declared.places.BlockPlace.{BlockPlace}
-use Rattle.px_pictures.specs.Metadata.{sizes, next_begins, joined_pieces}
+use Rattle.px_pictures.specs.Metadata.{sizes, next_begins, joined_pieces, joined_size}
 use Rattle.px_pictures.specs.Places.{block_at, ArePlaces}
 use Rattle.px_pictures.specs.calls.Places.{whole_place, joined_place, places_from}
 use Rattle.px_pictures.specs.calls.Runs.{AreSized, joined_octets, run_size, run_rest}
 use Rattle.px_pictures.proofs.CountLaws.{blocks_few}
 use Rattle.px_pictures.proofs.Cutting.{run_ends, run_goes, joined_continues, joined_whole, joined_first, joined_later, run_follows, pieces_sized}
 use Rattle.px_pictures.proofs.Cutting.{whole_next, joined_next, first_begins}
-use Rattle.px_pictures.proofs.Inside.{head_inside, joined_within}
+use Rattle.px_pictures.proofs.Inside.{front_inside, joined_within}
 
 -- ---- the next place
 
@@ -147,21 +147,21 @@ places_are b all at (p ∷ ps) s e = elim (cases_Bool p.begins) [
       ∙ sym (ap (λ (j : List ℕ × List Block). j.1) (joined_continues b p ps f))
 ]
 
--- what holds of the places of a head
-pub record Heads (b : List ℕ) (parts : List Part) (ps : List Piece) : Type 0 where
+-- what holds of the places of some parts
+pub record Placed (b : List ℕ) (parts : List Part) (ps : List Piece) : Type 0 where
   pub places : ArePlaces b parts (places_from 0 ps)
   pub begins : next_begins ps ≡ true
   pub sizes : 0 + sizes (joined_pieces ps) < 2 ^ 63
   pub few : length (places_from 0 ps) < 2 ^ 63
 
-head_places : (b : List ℕ) (parts : List Part) → HasHead b parts → ArePlaces b parts (places_from 0 (pieces b None parts))
-head_places b parts h =
-    places_are b (joined_octets b (pieces b None parts)) 0 (pieces b None parts) (pieces_sized b parts (head_inside b parts h)) refl
+front_places : (b : List ℕ) (parts : List Part) → HasFront b parts → ArePlaces b parts (places_from 0 (pieces b None parts))
+front_places b parts h =
+    places_are b (joined_octets b (pieces b None parts)) 0 (pieces b None parts) (pieces_sized b parts (front_inside b parts h)) refl
 
-pub head_placed : (b : List ℕ) (parts : List Part) (ps : List Piece) → HasHead b parts → length b < 2 ^ 63 → ps ≡ pieces b None parts
-    → Heads b parts ps
-head_placed b parts ps h l e =
-    let places = head_places b parts h in
+pub front_placed : (b : List ℕ) (parts : List Part) (ps : List Piece) → HasFront b parts → length b < 2 ^ 63
+    → ps ≡ pieces b None parts → Placed b parts ps
+front_placed b parts ps h l e =
+    let places = front_places b parts h in
     rw e record {
       places = places;
       begins = first_begins b parts;
@@ -247,6 +247,11 @@ octets_within b (p ∷ ps) =
       length-append (piece_octets b p) (flat_map (piece_octets b) ps),
     )
 
-pub joined_few : (b : List ℕ) (parts : List Part) → HasHead b parts → length b < 2 ^ 63
+-- nothing is joined
+pub none_joined : (b : List ℕ) (parts : List Part) → joined_size b parts ≡ 0 → joined_octets b (pieces b None parts) ≡ []
+none_joined b parts e =
+    nil_from_length (joined_octets b (pieces b None parts)) (omega (arith, e, octets_within b (joined_pieces (pieces b None parts))))
+
+pub joined_few : (b : List ℕ) (parts : List Part) → HasFront b parts → length b < 2 ^ 63
     → length (joined_octets b (pieces b None parts)) < 2 ^ 63
 joined_few b parts h l = omega (arith, l, octets_within b (joined_pieces (pieces b None parts)), joined_within b parts h)

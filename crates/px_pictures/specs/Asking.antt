@@ -33,9 +33,3 @@ abbrev pub AsksForBoth : List ℕ → List ℕ → Taken → Taken → Type 0
 AsksForBoth f g old new = (most other : ℕ) → ((x : Blocks) → HasBlocks f x → blocks_request x ≤ most)
     → ((y : Blocks) → HasBlocks g y → blocks_request y ≤ other)
     → AsksAtMost (join_request (length f) + join_request (length g) + most + other) old new
-
--- to compare two pictures and then to find what isn't read, for which their pieces are joined once more
-abbrev pub AsksToCompare : List ℕ → List ℕ → Taken → Taken → Type 0
-AsksToCompare f g old new = (most other : ℕ) → ((x : Blocks) → HasBlocks f x → blocks_request x ≤ most)
-    → ((y : Blocks) → HasBlocks g y → blocks_request y ≤ other)
-    → AsksAtMost (2 * join_request (length f) + 2 * join_request (length g) + most + other) old new

@@ -7,7 +7,7 @@ use Rattle.px_iim.specs.Group.{Record}
 use Rattle.px_iim.specs.Record.{SaysIim}
 use Rattle.px_jpeg.specs.declared.Part.{Part}
 use Rattle.px_jpeg.specs.declared.Piece.{Piece}
-use Rattle.px_jpeg.specs.Head.{HasHead}
+use Rattle.px_jpeg.specs.Head.{HasHead, Picture}
 use Rattle.px_jpeg.specs.Pieces.{pieces}
 use Rattle.px_jpeg.specs.Blocks.{exif_blocks, iptc_blocks}
 use Rattle.px_meaning.specs.Tree.{Meaning}
@@ -25,6 +25,9 @@ has_octets x = nat_lt 0 (length x)
 -- the Exif of APP1, and the IPTC of Photoshop's resource 0x0404. Resource 0x0422, in which Photoshop may repeat the Exif, is not read.
 abbrev pub blocks_in : List ℕ → List Part → Blocks
 blocks_in b parts = record { exif = exif_blocks b parts; iptc = filter has_octets (iptc_blocks b parts) }
+
+abbrev pub blocks_of : Picture → Blocks
+blocks_of p = blocks_in p.octets p.parts
 
 -- how many bytes some pieces have
 abbrev pub sizes : List Piece → ℕ

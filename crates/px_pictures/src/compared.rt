@@ -11,6 +11,7 @@ ghost use Rattle.px_tree.specs.Asking.{exif_request};
 ghost use Rattle.px_pictures.specs.declared.faults.Fault.TheVariants as fault;
 ghost use Rattle.px_pictures.specs.Asking.{exif_requests, iptc_requests};
 ghost use Rattle.px_pictures.specs.Faults.{AllExif, AllIptc, AllRead, LacksFound};
+ghost use Rattle.px_pictures.specs.Metadata.{blocks_of};
 ghost use Rattle.px_pictures.specs.calls.Judging.{MeanSame};
 
 use crate::blocks::{ExifBlocks, IptcBlocks};
@@ -174,14 +175,14 @@ pub(crate) fn same_blocks(
     first: &Metadata,
     second: &Metadata,
 ) -> Result<bool, Fault>
-    requires first { AllRead first.now }
-    requires second { AllRead second.now }
-    ensures same { IfOk result (λ same. IsTrue same
-        ↔ (MeanSame SaysExif first.now.exif second.now.exif × MeanSame SaysIim first.now.iptc second.now.iptc)) }
+    requires first { AllRead (blocks_of first.now) }
+    requires second { AllRead (blocks_of second.now) }
+    ensures same { let x = blocks_of first.now in let y = blocks_of second.now in IfOk result (λ same. IsTrue same
+        ↔ (MeanSame SaysExif x.exif y.exif × MeanSame SaysIim x.iptc y.iptc)) }
     ensures fault { IfErr result (λ e. e ≡ fault.OutOfMemory) }
     ensures memory { LacksFound result memory.old memory.new }
-    ensures asked { AsksAtMost (exif_requests first.now.exif + exif_requests second.now.exif
-        + (iptc_requests first.now.iptc + iptc_requests second.now.iptc)) memory.old memory.new }
+    ensures asked { let x = blocks_of first.now in let y = blocks_of second.now in AsksAtMost (exif_requests x.exif + exif_requests y.exif
+        + (iptc_requests x.iptc + iptc_requests y.iptc)) memory.old memory.new }
 {
     if !same_exif_blocks(memory, first.exif(), second.exif())? {
         return Ok(false);

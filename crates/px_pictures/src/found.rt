@@ -2,7 +2,7 @@
 ghost use Rattle.std.specs.Prelude.{◌≡◌, length, IfOk, IfErr};
 ghost use Rattle.px_bytes.specs.Lacking.{AsksAtMost};
 ghost use Rattle.px_pictures.specs.Asking.{join_request, AsksToJoin};
-ghost use Rattle.px_pictures.specs.Metadata.{HasBlocks};
+ghost use Rattle.px_pictures.specs.Metadata.{HasBlocks, blocks_of};
 ghost use Rattle.px_pictures.specs.Faults.{IsHeadFault, LacksFound};
 
 use crate::blocks::{ExifBlocks, IptcBlocks};
@@ -10,30 +10,30 @@ use crate::faults::Fault;
 use crate::joining::{join_in, joined_size};
 use crate::runs::runs_of;
 use px_bytes::Memory;
-use px_jpeg::{Head, find_resources, read_head};
+use px_jpeg::{Front, find_resources, read_head};
 use std::marker::Model;
 
 /// The blocks of a picture. A block of one piece is a range of the picture; of all others it owns the bytes. Contracts
-/// see the lists of them.
+/// see the picture and the parts of its head, of which `blocks_of` are the lists of blocks.
 #[derive(Drop)]
 pub struct Metadata<'a> {
-    head: Head<'a>,
+    pub(crate) front: Front<'a>,
     // The bytes of the blocks that have more than one piece, one after another.
-    octets: Vec<u8>,
+    pub(crate) octets: Vec<u8>,
 }
 
 impl<'a> Model for Metadata<'a> {
     ghost use Rattle.std.specs.Prelude.{◌≡◌, None};
-    ghost use Rattle.px_jpeg.specs.Pieces.{AllInside, pieces};
-    ghost use Rattle.px_pictures.specs.Metadata.{Blocks, blocks_in};
+    ghost use Rattle.px_jpeg.specs.Head.{Picture, HasHead};
+    ghost use Rattle.px_jpeg.specs.Pieces.{pieces};
     ghost use Rattle.px_pictures.specs.calls.Runs.{joined_octets};
 
-    ghost Value = { Blocks };
+    ghost Value = { Picture };
 
-    ghost view = { λ m. blocks_in m.head.octets m.head.parts };
+    ghost view = { λ m. m.front };
 
-    ghost invariant = { λ m. AllInside m.head.octets m.head.parts
-        × (m.octets.items ≡ joined_octets m.head.octets (pieces m.head.octets None m.head.parts)) };
+    ghost invariant = { λ m. HasHead m.front.octets m.front.parts
+        × (m.octets.items ≡ joined_octets m.front.octets (pieces m.front.octets None m.front.parts)) };
 }
 
 /// The blocks of the picture that begins with these bytes. They may be a whole file or only its first bytes: what
@@ -43,22 +43,22 @@ impl<'a> Model for Metadata<'a> {
 /// `Head`: the bytes have no head, and this is the first fault. `TooLong`: the blocks that have more than one piece
 /// have more than 16 times `LIMIT` bytes in all. `OutOfMemory`: an allocation failed.
 pub fn metadata_of_in<'a>(memory: &mut Memory, bytes: &'a [u8]) -> Result<Metadata<'a>, Fault>
-    ensures found { IfOk result (HasBlocks bytes.now) }
+    ensures found { IfOk result (λ m. (m.octets ≡ bytes.now) × HasBlocks bytes.now (blocks_of m)) }
     ensures fault { IfErr result (IsHeadFault bytes.now memory.new.refusals) }
     ensures memory { LacksFound result memory.old memory.new }
     ensures asked { AsksAtMost (join_request (length bytes.now)) memory.old memory.new }
     ensures joined { AsksToJoin bytes.now memory.old memory.new }
 {
     px_jpeg::laws::one_head();
-    let head = match read_head(bytes) {
-        Ok(head) => head,
+    let front = match read_head(bytes) {
+        Ok(head) => head.front(),
         Err(fault) => return Err(Fault::Head(fault)),
     };
-    let Some(size) = joined_size(&head) else {
+    let Some(size) = joined_size(&front) else {
         return Err(Fault::TooLong);
     };
-    match join_in(memory, &head, size) {
-        Ok(octets) => Ok(Metadata { head, octets }),
+    match join_in(memory, &front, size) {
+        Ok(octets) => Ok(Metadata { front, octets }),
         Err(_) => Err(Fault::OutOfMemory),
     }
 }
@@ -66,22 +66,22 @@ pub fn metadata_of_in<'a>(memory: &mut Memory, bytes: &'a [u8]) -> Result<Metada
 impl<'a> Metadata<'a> {
     /// The Exif blocks, in order.
     pub fn exif(&self) -> ExifBlocks<'_, 'a>
-        ensures { result ≡ self.now.exif }
+        ensures { result ≡ (blocks_of self.now).exif }
     {
         ExifBlocks {
-            runs: runs_of(self.octets.as_slice(), &self.head),
+            runs: runs_of(self.octets.as_slice(), &self.front),
         }
     }
 
     /// The IPTC blocks, in order.
     pub fn iptc(&self) -> IptcBlocks<'_, 'a>
-        ensures { result ≡ self.now.iptc }
+        ensures { result ≡ (blocks_of self.now).iptc }
     {
         let octets = self.octets.as_slice().split_at(0).0;
         IptcBlocks {
             octets,
             resources: find_resources(octets),
-            runs: runs_of(self.octets.as_slice(), &self.head),
+            runs: runs_of(self.octets.as_slice(), &self.front),
         }
     }
 }

@@ -8,7 +8,7 @@ ghost use Rattle.px_pictures.specs.calls.Runs.{joined_octets};
 use crate::left::{Left, pieces_left};
 use crate::ranges::range;
 use px_bytes::{LIMIT, Memory, Refused};
-use px_jpeg::{Head, Piece};
+use px_jpeg::{Front, Piece};
 
 // The greatest number of bytes that are joined.
 const MOST_JOINED: usize = 16 * LIMIT as usize;
@@ -29,11 +29,11 @@ pub(crate) fn next_joined(left: &mut Left) -> Option<Piece>
 }
 
 // The number of bytes that are joined, or `None` if it is greater than `MOST_JOINED`.
-pub(crate) fn joined_size(head: &Head) -> Option<usize>
-    ensures { let all = joined_size head.now.octets head.now.parts in
+pub(crate) fn joined_size(front: &Front) -> Option<usize>
+    ensures { let all = joined_size front.now.octets front.now.parts in
         MatchOption result (most_joined < all) (λ n. (n ≡ all) × (all ≤ most_joined)) }
 {
-    let mut left = pieces_left(head);
+    let mut left = pieces_left(front);
     let mut size = 0;
     loop {
         let Some(piece) = next_joined(&mut left) else {
@@ -47,18 +47,21 @@ pub(crate) fn joined_size(head: &Head) -> Option<usize>
 }
 
 // The bytes of the pieces of the blocks that have more than one, one after another.
-pub(crate) fn join_in(memory: &mut Memory, head: &Head, size: usize) -> Result<Vec<u8>, Refused>
-    requires all { size ≡ joined_size head.now.octets head.now.parts }
+pub(crate) fn join_in(memory: &mut Memory, front: &Front, size: usize) -> Result<Vec<u8>, Refused>
+    requires all { size ≡ joined_size front.now.octets front.now.parts }
     requires fits { size ≤ most_joined }
     ensures joined { IfOk result (λ v. v.items
-        ≡ joined_octets head.now.octets (pieces head.now.octets None head.now.parts)) }
+        ≡ joined_octets front.now.octets (pieces front.now.octets None front.now.parts)) }
     ensures memory { Lacks result memory.old memory.new }
     ensures asked { AsksAtMost size memory.old memory.new }
 {
-    let bytes = head.bytes();
+    let bytes = front.bytes();
     let mut octets = memory.list();
+    if size == 0 {
+        return Ok(octets);
+    }
     memory.reserve_exact(&mut octets, size)?;
-    let mut left = pieces_left(head);
+    let mut left = pieces_left(front);
     loop {
         let Some(piece) = next_joined(&mut left) else {
             return Ok(octets);

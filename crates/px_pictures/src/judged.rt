@@ -8,6 +8,7 @@ ghost use Rattle.px_tree.specs.Asking.{exif_request};
 ghost use Rattle.px_tree.specs.Refused.{IsRefused};
 ghost use Rattle.px_pictures.specs.Asking.{exif_requests};
 ghost use Rattle.px_pictures.specs.Faults.{AllExif, AllIptc, AllRead, IsBlockFault, LacksFound};
+ghost use Rattle.px_pictures.specs.Metadata.{blocks_of};
 ghost use Rattle.px_pictures.specs.calls.Judging.{fault_of, ExifFails, IptcFails, AreFew, IsFew};
 
 use crate::blocks::{ExifBlocks, IptcBlocks};
@@ -88,11 +89,11 @@ fn judge_iptc_blocks(blocks: IptcBlocks) -> Result<(), Fault>
 
 // Judges the blocks of a picture: the Exif blocks, and then the IPTC blocks.
 pub(crate) fn judge_all(memory: &mut Memory, found: &Metadata) -> Result<(), Fault>
-    requires { IsFew found.now }
-    ensures said { IfOk result (λ _. AllRead found.now) }
-    ensures fault { IfErr result (IsBlockFault found.now memory.new.refusals) }
+    requires { IsFew (blocks_of found.now) }
+    ensures said { IfOk result (λ _. AllRead (blocks_of found.now)) }
+    ensures fault { IfErr result (IsBlockFault (blocks_of found.now) memory.new.refusals) }
     ensures memory { LacksFound result memory.old memory.new }
-    ensures asked { AsksAtMost (exif_requests found.now.exif) memory.old memory.new }
+    ensures asked { AsksAtMost (exif_requests (blocks_of found.now).exif) memory.old memory.new }
 {
     judge_exif_blocks(memory, found.exif())?;
     judge_iptc_blocks(found.iptc())

@@ -1,12 +1,12 @@
-// The pieces of a head that are left.
+// The pieces of a picture's first parts that are left.
 ghost use Rattle.std.specs.Prelude.{◌≡◌, ◌∷◌, [], None, MatchOption};
 ghost use Rattle.px_jpeg.specs.Pieces.{pieces};
 ghost use Rattle.px_pictures.specs.Metadata.{next_begins};
 
-use px_jpeg::{Head, Piece, Pieces};
+use px_jpeg::{Front, Piece, Pieces};
 use std::marker::Model;
 
-// The pieces of a head that are left. Contracts see their list.
+// The pieces that are left. Contracts see their list.
 #[derive(Drop)]
 pub(crate) struct Left<'a> {
     next: Option<Piece>,
@@ -23,11 +23,11 @@ impl<'a> Model for Left<'a> {
     ghost view = { λ s. with_next s.next s.others };
 }
 
-// The pieces of a head.
-pub(crate) fn pieces_left<'a>(head: &Head<'a>) -> Left<'a>
-    ensures { result ≡ pieces head.now.octets None head.now.parts }
+// The pieces of some parts.
+pub(crate) fn pieces_left<'a>(front: &Front<'a>) -> Left<'a>
+    ensures { result ≡ pieces front.now.octets None front.now.parts }
 {
-    let mut others = head.pieces();
+    let mut others = front.pieces();
     let next = others.next();
     Left { next, others }
 }

@@ -1,7 +1,7 @@
-// Where the blocks of a head are.
+// Where the blocks of a picture's first parts are.
 ghost use Rattle.std.specs.Prelude.{◌≡◌, ◌≤◌, ◌<◌, ◌+◌, ◌^◌, ◌++◌, ◌∷◌, [], None, length, drop, MatchOption};
 ghost use Rattle.px_jpeg.specs.Blocks.{blocks};
-ghost use Rattle.px_jpeg.specs.Head.{HasHead};
+ghost use Rattle.px_jpeg.specs.Front.{HasFront};
 ghost use Rattle.px_jpeg.specs.Pieces.{pieces};
 ghost use Rattle.px_pictures.specs.Metadata.{joined_pieces};
 ghost use Rattle.px_pictures.specs.Places.{joined_bytes, ArePlaces};
@@ -12,7 +12,7 @@ use crate::joining::next_joined;
 use crate::left::{Left, pieces_left};
 use crate::ranges::range;
 use crate::runs::rest_of_run;
-use px_jpeg::{Head, Kind};
+use px_jpeg::{Front, Kind};
 use std::marker::Model;
 
 /// Where the bytes of a block are: a range of the picture if it has one piece, and otherwise of the joined bytes.
@@ -51,16 +51,16 @@ impl<'a> Model for Places<'a> {
         × (length (places_from s.at s.left) < 2 ^ 63) };
 }
 
-/// The places of the blocks of a head, of any kind, in order: of Exif, of Photoshop's resources, of XMP and of
-/// extended XMP. It allocates nothing.
-pub fn places_of<'a>(head: &Head<'a>) -> Places<'a>
-    requires { HasHead head.now.octets head.now.parts }
-    ensures { ArePlaces head.now.octets head.now.parts result }
+/// The places of the blocks of a picture's first parts, of any kind, in order: of Exif, of Photoshop's resources, of
+/// XMP and of extended XMP. It allocates nothing.
+pub fn places_of<'a>(front: &Front<'a>) -> Places<'a>
+    requires { HasFront front.now.octets front.now.parts }
+    ensures { ArePlaces front.now.octets front.now.parts result }
 {
     // Its length bounds the number of blocks.
-    let _bytes = head.bytes();
+    let _bytes = front.bytes();
     Places {
-        left: pieces_left(head),
+        left: pieces_left(front),
         at: 0,
     }
 }
@@ -72,12 +72,12 @@ fn count_places(places: Places) -> usize
     places.count()
 }
 
-/// The number of blocks of a head, of any kind. It allocates nothing.
-pub fn block_count(head: &Head) -> usize
-    requires { HasHead head.now.octets head.now.parts }
-    ensures { result ≡ length (blocks head.now.octets head.now.parts) }
+/// The number of blocks of a picture's first parts, of any kind. It allocates nothing.
+pub fn block_count(front: &Front) -> usize
+    requires { HasFront front.now.octets front.now.parts }
+    ensures { result ≡ length (blocks front.now.octets front.now.parts) }
 {
-    count_places(places_of(head))
+    count_places(places_of(front))
 }
 
 impl<'a> Iterator for Places<'a> {
@@ -116,12 +116,12 @@ impl<'a> Iterator for Places<'a> {
 }
 
 /// The number of joined bytes: those of the blocks that have more than one piece. It allocates nothing.
-pub fn joined_len(head: &Head) -> usize
-    requires { HasHead head.now.octets head.now.parts }
-    ensures { result ≡ length (joined_bytes head.now.octets head.now.parts) }
+pub fn joined_len(front: &Front) -> usize
+    requires { HasFront front.now.octets front.now.parts }
+    ensures { result ≡ length (joined_bytes front.now.octets front.now.parts) }
 {
-    let bytes = head.bytes();
-    let mut left = pieces_left(head);
+    let bytes = front.bytes();
+    let mut left = pieces_left(front);
     let mut len = 0;
     loop {
         let Some(piece) = next_joined(&mut left) else {
@@ -133,12 +133,12 @@ pub fn joined_len(head: &Head) -> usize
 
 /// Writes the joined bytes to the start of `out`, which has space for them: the bytes of the blocks that have more
 /// than one piece, one after another. It allocates nothing.
-pub fn put_joined(head: &Head, out: &mut [u8])
-    requires { length (joined_bytes head.now.octets head.now.parts) ≤ length out.old }
-    ensures { let all = joined_bytes head.now.octets head.now.parts in out.new ≡ all ++ drop (length all) out.old }
+pub fn put_joined(front: &Front, out: &mut [u8])
+    requires { length (joined_bytes front.now.octets front.now.parts) ≤ length out.old }
+    ensures { let all = joined_bytes front.now.octets front.now.parts in out.new ≡ all ++ drop (length all) out.old }
 {
-    let bytes = head.bytes();
-    let mut left = pieces_left(head);
+    let bytes = front.bytes();
+    let mut left = pieces_left(front);
     let mut at = 0;
     loop {
         let Some(piece) = next_joined(&mut left) else {

@@ -1,4 +1,4 @@
-// The blocks of a head, one after another, of any kind.
+// The blocks of a picture's first parts, one after another, of any kind.
 ghost use Rattle.std.specs.Prelude.{◌≡◌, ◌<◌, ◌^◌, ◌∷◌, [], None, MatchOption};
 ghost use Rattle.px_jpeg.specs.Blocks.{blocks};
 ghost use Rattle.px_jpeg.specs.Pieces.{pieces, AllInside};
@@ -6,7 +6,7 @@ ghost use Rattle.px_pictures.specs.calls.Runs.{joined_octets, run_size, run_rest
 
 use crate::left::{Left, pieces_left};
 use crate::ranges::range;
-use px_jpeg::{Head, Kind};
+use px_jpeg::{Front, Kind};
 use std::marker::Model;
 
 // A block.
@@ -56,16 +56,16 @@ impl<'b, 'a> Model for Runs<'b, 'a> {
     ghost invariant = { λ s. CanCut s.picture.now s.octets.now s.left };
 }
 
-// The blocks of a head. `octets` are the bytes of those that have more than one piece, one after another.
-pub(crate) fn runs_of<'b, 'a>(octets: &'b [u8], head: &'b Head<'a>) -> Runs<'b, 'a>
-    requires inside { AllInside head.now.octets head.now.parts }
-    requires joined { octets.now ≡ joined_octets head.now.octets (pieces head.now.octets None head.now.parts) }
-    ensures { result ≡ blocks head.now.octets head.now.parts }
+// The blocks of some parts. `octets` are the bytes of those that have more than one piece, one after another.
+pub(crate) fn runs_of<'b, 'a>(octets: &'b [u8], front: &'b Front<'a>) -> Runs<'b, 'a>
+    requires inside { AllInside front.now.octets front.now.parts }
+    requires joined { octets.now ≡ joined_octets front.now.octets (pieces front.now.octets None front.now.parts) }
+    ensures { result ≡ blocks front.now.octets front.now.parts }
 {
     Runs {
-        picture: head.bytes(),
+        picture: front.bytes(),
         octets,
-        left: pieces_left(head),
+        left: pieces_left(front),
     }
 }
 

@@ -3,7 +3,7 @@ ghost use Rattle.std.specs.Prelude.{◌≡◌, ◌+◌, ℕ, length, IfOk, IfErr
 ghost use Rattle.px_bytes.specs.Lacking.{AsksAtMost};
 ghost use Rattle.px_pictures.specs.Asking.{join_request, exif_requests, blocks_request, AsksForBoth};
 ghost use Rattle.px_pictures.specs.Faults.{AllRead, IsHeadFault, IsBlockFault, IsPictureFault, LacksPicture};
-ghost use Rattle.px_pictures.specs.Metadata.{HasBlocks};
+ghost use Rattle.px_pictures.specs.Metadata.{HasBlocks, blocks_of};
 ghost use Rattle.px_pictures.specs.Same.{SaysSameMetadata};
 ghost use Rattle.px_pictures.specs.calls.Judging.{IsFew, SaysSameBlocks, SaysSameSecond, BlocksFail, SecondFails, AsksForSecond};
 
@@ -15,9 +15,13 @@ use px_bytes::Memory;
 use std::alloc::Global;
 
 // The blocks of one of two pictures.
-fn found<'a>(memory: &mut Memory, bytes: &'a [u8], side: Side) -> Result<Metadata<'a>, PictureFault>
-    ensures found { IfOk result (HasBlocks bytes.now) }
-    ensures few { IfOk result IsFew }
+pub(crate) fn found<'a>(
+    memory: &mut Memory,
+    bytes: &'a [u8],
+    side: Side,
+) -> Result<Metadata<'a>, PictureFault>
+    ensures found { IfOk result (λ m. (m.octets ≡ bytes.now) × HasBlocks bytes.now (blocks_of m)) }
+    ensures few { IfOk result (λ m. IsFew (blocks_of m)) }
     ensures fault { IfErr result (λ e. (e.side ≡ side) × IsHeadFault bytes.now memory.new.refusals e.fault) }
     ensures memory { LacksPicture result memory.old memory.new }
     ensures asked { AsksAtMost (join_request (length bytes.now)) memory.old memory.new }
@@ -30,11 +34,11 @@ fn found<'a>(memory: &mut Memory, bytes: &'a [u8], side: Side) -> Result<Metadat
 
 // Judges the blocks of one of two pictures.
 fn judge(memory: &mut Memory, found: &Metadata, side: Side) -> Result<(), PictureFault>
-    requires { IsFew found.now }
-    ensures said { IfOk result (λ _. AllRead found.now) }
-    ensures fault { IfErr result (λ e. (e.side ≡ side) × IsBlockFault found.now memory.new.refusals e.fault) }
+    requires { IsFew (blocks_of found.now) }
+    ensures said { IfOk result (λ _. AllRead (blocks_of found.now)) }
+    ensures fault { IfErr result (λ e. (e.side ≡ side) × IsBlockFault (blocks_of found.now) memory.new.refusals e.fault) }
     ensures memory { LacksPicture result memory.old memory.new }
-    ensures asked { AsksAtMost (exif_requests found.now.exif) memory.old memory.new }
+    ensures asked { AsksAtMost (exif_requests (blocks_of found.now).exif) memory.old memory.new }
 {
     match judge_all(memory, found) {
         Ok(()) => Ok(()),
@@ -43,17 +47,17 @@ fn judge(memory: &mut Memory, found: &Metadata, side: Side) -> Result<(), Pictur
 }
 
 // Judges the blocks of two pictures and returns whether they mean the same.
-fn same_found(
+pub(crate) fn same_found(
     memory: &mut Memory,
     first: &Metadata,
     second: &Metadata,
 ) -> Result<bool, PictureFault>
-    requires first { IsFew first.now }
-    requires second { IsFew second.now }
-    ensures same { IfOk result (SaysSameBlocks first.now second.now) }
-    ensures fault { IfErr result (λ e. BlocksFail e.side first.now second.now memory.new.refusals e.fault) }
+    requires first { IsFew (blocks_of first.now) }
+    requires second { IsFew (blocks_of second.now) }
+    ensures same { IfOk result (SaysSameBlocks (blocks_of first.now) (blocks_of second.now)) }
+    ensures fault { IfErr result (λ e. BlocksFail e.side (blocks_of first.now) (blocks_of second.now) memory.new.refusals e.fault) }
     ensures memory { LacksPicture result memory.old memory.new }
-    ensures asked { AsksAtMost (blocks_request first.now + blocks_request second.now) memory.old memory.new }
+    ensures asked { AsksAtMost (blocks_request (blocks_of first.now) + blocks_request (blocks_of second.now)) memory.old memory.new }
 {
     judge(memory, first, Side::First)?;
     judge(memory, second, Side::Second)?;
@@ -68,11 +72,11 @@ fn same_found(
 
 // Finds and judges the blocks of the second picture too, and returns whether they mean the same.
 fn same_second(memory: &mut Memory, first: &Metadata, second: &[u8]) -> Result<bool, PictureFault>
-    requires { IsFew first.now }
-    ensures same { IfOk result (SaysSameSecond first.now second.now) }
-    ensures fault { IfErr result (λ e. SecondFails e.side first.now second.now memory.new.refusals e.fault) }
+    requires { IsFew (blocks_of first.now) }
+    ensures same { IfOk result (SaysSameSecond (blocks_of first.now) second.now) }
+    ensures fault { IfErr result (λ e. SecondFails e.side (blocks_of first.now) second.now memory.new.refusals e.fault) }
     ensures memory { LacksPicture result memory.old memory.new }
-    ensures asked { AsksForSecond (blocks_request first.now) second.now memory.old memory.new }
+    ensures asked { AsksForSecond (blocks_request (blocks_of first.now)) second.now memory.old memory.new }
 {
     let other = found(memory, second, Side::Second)?;
     let same = same_found(memory, first, &other);

@@ -1,21 +1,19 @@
 // What a picture contains beside its blocks that other programs read as metadata, or may.
 ghost use Rattle.std.specs.Prelude.{◌≡◌, ◌<◌, ◌≤◌, if◌then◌else◌, length, true, None, IfSome, IfOk, IfErr};
 ghost use Rattle.px_bytes.specs.Lacking.{AsksAtMost};
-ghost use Rattle.px_jpeg.specs.Head.{HasHead};
 ghost use Rattle.px_jpeg.specs.Pieces.{range, with_pieces};
 ghost use Rattle.px_pictures.specs.Asking.{join_request};
 ghost use Rattle.px_pictures.specs.Faults.{IsHeadFault, LacksFound};
-ghost use Rattle.px_pictures.specs.Places.{joined_bytes};
 ghost use Rattle.px_pictures.specs.Unread.{is_letter, names_exif, seems_exif, may_tell, unread_segment, are_zeros};
 ghost use Rattle.px_pictures.specs.Unread.{is_adobe, is_doubtful, unread_rest, unread_resources};
 ghost use Rattle.px_pictures.specs.Unread.{IsUnread, unread_in_block, unread_in_blocks};
 
 use crate::faults::Fault;
-use crate::joining::{join_in, joined_size};
+use crate::found::{Metadata, metadata_of_in};
 use crate::places::{BlockPlace, Places, places_of};
 use crate::ranges::range;
 use px_bytes::Memory;
-use px_jpeg::{Head, Kind, Resource, find_resources, read_head, with_pieces};
+use px_jpeg::{Front, Kind, Resource, find_resources, with_pieces};
 
 // The number of the image resource with IPTC's DataSets, and that of the one with Exif.
 const IPTC: usize = 0x0404;
@@ -73,11 +71,11 @@ fn may_tell(code: u8, octets: &[u8]) -> bool
 }
 
 // The offset of the data of the first segment without a piece of a block that may have metadata.
-fn unread_segment(head: &Head) -> Option<usize>
-    ensures { result ≡ unread_segment head.now.octets (with_pieces head.now.octets None head.now.parts) }
+fn unread_segment(front: &Front) -> Option<usize>
+    ensures { result ≡ unread_segment front.now.octets (with_pieces front.now.octets None front.now.parts) }
 {
-    let bytes = head.bytes();
-    let mut left = with_pieces(bytes, head.parts());
+    let bytes = front.bytes();
+    let mut left = with_pieces(bytes, front.parts());
     loop {
         let Some(found) = left.next() else {
             return None;
@@ -189,20 +187,20 @@ fn unread_in_blocks(picture: &[u8], all: &[u8], places: Places) -> Option<Unread
     }
 }
 
-// The first place of a head that isn't read.
-fn unread_of(head: &Head, all: &[u8]) -> Option<Unread>
-    requires head { HasHead head.now.octets head.now.parts }
-    requires joined { all.now ≡ joined_bytes head.now.octets head.now.parts }
-    ensures { IsUnread head.now.octets result }
-{
-    let places = places_of(head);
-    if let Some(start) = unread_segment(head) {
-        return Some(Unread {
-            joined: false,
-            start,
-        });
+impl<'a> Metadata<'a> {
+    /// The first place in the picture that isn't read, as `unread_in` returns it. It allocates nothing.
+    pub fn unread(&self) -> Option<Unread>
+        ensures { IsUnread self.now.octets result }
+    {
+        let places = places_of(&self.front);
+        if let Some(start) = unread_segment(&self.front) {
+            return Some(Unread {
+                joined: false,
+                start,
+            });
+        }
+        unread_in_blocks(self.front.bytes(), self.octets.as_slice(), places)
     }
-    unread_in_blocks(head.bytes(), all, places)
 }
 
 /// The first place in a picture at which something is that other programs read as metadata, or may, and that
@@ -217,15 +215,8 @@ pub fn unread_in(memory: &mut Memory, bytes: &[u8]) -> Result<Option<Unread>, Fa
     ensures memory { LacksFound result memory.old memory.new }
     ensures asked { AsksAtMost (join_request (length bytes.now)) memory.old memory.new }
 {
-    let head = match read_head(bytes) {
-        Ok(head) => head,
-        Err(fault) => return Err(Fault::Head(fault)),
-    };
-    let Some(size) = joined_size(&head) else {
-        return Err(Fault::TooLong);
-    };
-    match join_in(memory, &head, size) {
-        Ok(all) => Ok(unread_of(&head, &all)),
-        Err(_) => Err(Fault::OutOfMemory),
-    }
+    let found = metadata_of_in(memory, bytes)?;
+    let place = found.unread();
+    drop(found);
+    Ok(place)
 }

@@ -1,20 +1,24 @@
 -- What judging and comparing the blocks of pictures returns.
-use Rattle.std.specs.Prelude.{◌≤◌, ◌<◌, ◌+◌, ◌^◌, ◌↔◌, ◌⊎◌, ℕ, Bool, IsTrue, List, length}
+use Rattle.std.specs.Prelude.{◌≡◌, ◌≤◌, ◌<◌, ◌+◌, ◌^◌, ◌↔◌, ◌⊎◌, ℕ, Bool, true, false, IsTrue, Some, None, List, length}
 use Rattle.px_bytes.specs.Lacking.{Taken, AsksAtMost}
 use Rattle.px_iim.specs.Record.{SaysIim}
+use Rattle.px_jpeg.specs.Head.{Picture}
 use Rattle.px_meaning.specs.Says.{SaysExif}
 use Rattle.px_bytes.specs.declared.Refusal.{Refusal}
 use Rattle.px_bytes.specs.declared.Refusal.TheVariants as refusal
 use Rattle.px_tree.specs.Refused.{IsFaulty as IsFaultyExif}
 use Rattle.px_pictures.specs.declared.faults.BlockKind.{BlockKind}
 use Rattle.px_pictures.specs.declared.faults.BlockKind.TheVariants as kind
+use Rattle.px_pictures.specs.declared.faults.Comparison.{Comparison}
+use Rattle.px_pictures.specs.declared.faults.Comparison.TheVariants.{Same, Different, NotRead}
 use Rattle.px_pictures.specs.declared.faults.Fault.{Fault}
 use Rattle.px_pictures.specs.declared.faults.Fault.TheVariants.{Head, TooLong, Block, OutOfMemory}
 use Rattle.px_pictures.specs.declared.faults.Side.{Side}
 use Rattle.px_pictures.specs.declared.faults.Side.TheVariants.{First, Second}
 use Rattle.px_pictures.specs.Asking.{join_request, blocks_request}
-use Rattle.px_pictures.specs.Metadata.{Blocks, HasBlocks, SayAll}
+use Rattle.px_pictures.specs.Metadata.{Blocks, blocks_of, HasBlocks, SayAll}
 use Rattle.px_pictures.specs.Faults.{AllExif, AllIptc, AllRead, FaultAt, IsFaultyIptc, IsHeadFault, IsBlockFault}
+use Rattle.px_pictures.specs.Unread.{IsUnread}
 
 abbrev pub fault_of : BlockKind → ℕ → Refusal → Fault
 fault_of k n (refusal.Content cause place) = Block k n cause place
@@ -54,6 +58,17 @@ SaysSameBlocks x y same =
 
 abbrev pub SaysSameSecond : Blocks → List ℕ → Bool → Type 0
 SaysSameSecond x g same = (y : Blocks) × HasBlocks g y × SaysSameBlocks x y same
+
+-- the answer for two pictures, of which all blocks have meanings
+abbrev pub IsAnswer : Picture → Picture → Comparison → Type 0
+IsAnswer p q Different = SaysSameBlocks (blocks_of p) (blocks_of q) false
+IsAnswer p q Same = SaysSameBlocks (blocks_of p) (blocks_of q) true × IsUnread p.octets None × IsUnread q.octets None
+IsAnswer p q (NotRead First u) = SaysSameBlocks (blocks_of p) (blocks_of q) true × IsUnread p.octets (Some u)
+IsAnswer p q (NotRead Second u) =
+    SaysSameBlocks (blocks_of p) (blocks_of q) true × IsUnread p.octets None × IsUnread q.octets (Some u)
+
+abbrev pub AnswersSecond : Picture → List ℕ → Comparison → Type 0
+AnswersSecond p g c = (q : Picture) × (q.octets ≡ g) × HasBlocks g (blocks_of q) × IsAnswer p q c
 
 -- a block of the first or of the second is faulty
 abbrev pub BlocksFail : Side → Blocks → Blocks → ℕ → Fault → Type 0

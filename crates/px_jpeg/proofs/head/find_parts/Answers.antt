@@ -2,7 +2,7 @@ use Rattle.std.proofs.Common.{Bool, not, sym, subst}
 use Rattle.px_jpeg.specs.Fault.{IsFront}
 use Rattle.px_jpeg.specs.Pieces.{AllInside}
 use Rattle.px_jpeg.specs.Reading.{left_of}
-use Rattle.px_jpeg.proofs.Fronts.{head_front, fault_front, front_inside}
+use Rattle.px_jpeg.proofs.FirstParts.{head_front, fault_front, front_inside}
 use Rattle.px_jpeg.proofs.head.find_parts.Goals as goal
 
 pub returns-clause-front : goal.returns-clause-front

@@ -1,12 +1,7 @@
-use Rattle.std.proofs.Common.{arith}
+use Rattle.px_pictures.proofs.SameLaws.{answers}
 use Rattle.px_pictures.proofs.comparison.compare_metadata_in.Goals as goal
 
-pub returns-in_err-same_metadata_in-clause-asked : goal.returns-in_err-same_metadata_in-clause-asked
-returns-in_err-same_metadata_in-clause-asked c = λ most other f g. omega (arith, c.same_metadata_in.ensures.asked most other f g)
-
-pub returns-then-branch-clause-asked : goal.returns-then-branch-clause-asked
-returns-then-branch-clause-asked c = λ most other f g.
-    omega (arith, c.same_metadata_in.ensures.asked most other f g, c.same_or_not_read.ensures.asked)
-
-pub returns-clause-asked : goal.returns-clause-asked
-returns-clause-asked c = λ most other f g. omega (arith, c.same_metadata_in.ensures.asked most other f g)
+pub returns-clause-answer : goal.returns-clause-answer
+returns-clause-answer c =
+    answers c.compare_second-answer.result c.args.first.now c.args.second.now c.in_ok-one.one c.one_meaning.ensures
+    c.in_ok-one.ensures.found.0 c.in_ok-one.ensures.found.1 c.compare_second-answer.ensures.answer

@@ -4,4 +4,4 @@ use Rattle.px_pictures.proofs.places.block_count.Goals as goal
 
 pub returns : goal.returns
 returns c =
-    c.count_places.ensures ∙ count_placed c.args.head.now.octets c.args.head.now.parts c.places_of.result c.places_of.ensures
+    c.count_places.ensures ∙ count_placed c.args.front.now.octets c.args.front.now.parts c.places_of.result c.places_of.ensures

@@ -8,7 +8,7 @@ pub overflow_add-len : goal.overflow_add-len
 overflow_add-len c =
     let b = c.bytes-bytes.result.now in
     let l : length b < 2 ^ 63 = search rules in
-    let few = joined_few c.args.head.now.octets c.args.head.now.parts c.requires
+    let few = joined_few c.args.front.now.octets c.args.front.now.parts c.requires
     (omega (arith, l, ap (λ (x : List ℕ). length x) c.bytes-bytes.ensures)) in
     omega (
       arith,

@@ -1,5 +1,5 @@
 use Rattle.std.proofs.Common.{inl, arith}
-use Rattle.px_jpeg.proofs.Fronts.{left_few}
+use Rattle.px_jpeg.proofs.FirstParts.{left_few}
 use Rattle.px_jpeg.proofs.head.Parts.len.Goals as goal
 
 pub count-requires-clause-fits : goal.count-requires-clause-fits

@@ -6,7 +6,7 @@ use Rattle.px_jpeg.specs.Head.{is_last}
 use Rattle.px_jpeg.specs.Reading.{front_left, is_part, part, left_of}
 use Rattle.px_jpeg.proofs.HeadLaws.{fault_no_part}
 use Rattle.px_jpeg.proofs.Walking.{part_inside}
-use Rattle.px_jpeg.proofs.Fronts.{front_none, last_front, more_front}
+use Rattle.px_jpeg.proofs.FirstParts.{front_none, last_front, more_front}
 use Rattle.px_jpeg.proofs.head.PartsIterator.next.Goals as goal
 
 pub returns-in_default-clause-steps : goal.returns-in_default-clause-steps

@@ -7,7 +7,7 @@ use Rattle.std.specs.List.{AllByRecursion}
 use Rattle.px_jpeg.specs.declared.parts.Part.{Part}
 use Rattle.px_jpeg.specs.declared.faults.Cause.{Cause}
 use Rattle.px_jpeg.specs.declared.faults.Cause.TheVariants.{NoStart, NoMarker, LengthForm, HeadCut}
-use Rattle.px_jpeg.specs.Head.{is_last, IsPart, Spells, NoneLast, Ends, HasHead}
+use Rattle.px_jpeg.specs.Head.{is_last, Spells, NoneLast, Ends, HasHead}
 use Rattle.px_jpeg.specs.Fault.{FaultAt, Behind, Fault, FaultAfter}
 use Rattle.px_jpeg.specs.Pieces.{AllInside}
 use Rattle.px_jpeg.specs.Reading.{is_part, part, size, starts, head_of, front_of, front_left, left_of, front}
@@ -45,6 +45,10 @@ unfolding front_left front_of
 front_none p [] e = refl
 front_none p (o ∷ x) e = cond-false (is_part (o ∷ x)) _ _ e
 
+pub front_nil : (p : ℕ) → front_left p [] ≡ []
+unfolding front_left front_of
+front_nil p = refl
+
 nil_no_part : is_part [] ≡ true → ⊥
 unfolding is_part
 nil_no_part e = let clash : false ≡ true = e in cc
@@ -78,7 +82,7 @@ module _ (p : ℕ) (q : Part) (n : ℕ) (x : List ℕ) (r : Reads p q n x) where
 
 -- ---- from the grammar
 
-front_spelled : (qs : List Part) (p : ℕ) (x rest : List ℕ) → Spells p qs x → NoneLast qs
+pub front_spelled : (qs : List Part) (p : ℕ) (x rest : List ℕ) → Spells p qs x → NoneLast qs
     → front_left p (x ++ rest) ≡ qs ++ front_left (p + length x) rest
 front_spelled [] p x rest s h =
     let n : p + length x ≡ p = let e = ap length s in omega arith in
@@ -90,7 +94,7 @@ front_spelled (q ∷ qs) p x rest (a, b, w, i, s) h =
     ∙ ap (λ (ps : List Part). q ∷ ps) (front_spelled qs (p + length a) b rest s h.1)
     ∙ ap (λ (k : ℕ). (q ∷ qs) ++ front_left k rest) n
 
-front_ends : (qs : List Part) (p : ℕ) (x rest : List ℕ) → Spells p qs x → Ends qs → front_left p (x ++ rest) ≡ qs
+pub front_ends : (qs : List Part) (p : ℕ) (x rest : List ℕ) → Spells p qs x → Ends qs → front_left p (x ++ rest) ≡ qs
 front_ends [] p x rest s h = absurd h
 front_ends (q ∷ []) p x rest (a, b, w, i, s) h =
     front_is_last p q (length a) (x ++ rest) (first_reads p q x a b rest w i) h
@@ -99,7 +103,7 @@ front_ends (q ∷ r ∷ qs) p x rest (a, b, w, i, s) h =
     ∙ ap (λ (y : List ℕ). q ∷ front_left (p + length a) y) (first_left p q x a b rest w i)
     ∙ ap (λ (ps : List Part). q ∷ ps) (front_ends (r ∷ qs) (p + length a) b rest s h.1)
 
-front_after : (x : List ℕ) → front (255 ∷ 216 ∷ x) ≡ front_left 2 x
+pub front_after : (x : List ℕ) → front (255 ∷ 216 ∷ x) ≡ front_left 2 x
 front_after x = cond-false (not (starts (255 ∷ 216 ∷ x))) [] (front_left 2 x) (ap not (start_holds x))
 
 pub head_front : (b : List ℕ) (qs : List Part) → HasHead b qs → front b ≡ qs
@@ -140,18 +144,21 @@ module _ (b : List ℕ) (at : ℕ) (y : List ℕ) (q : Part) (e : y ≡ drop at 
 head_starts : (b : List ℕ) (qs : List Part) → HasHead b qs → starts b ≡ true
 head_starts b qs s = ap starts s.whole ∙ start_holds (s.spelled ++ s.rest)
 
+pub some_said : (b : List ℕ) → is_some (head_of b) ≡ true → HasHead b (unwrap_or (head_of b) [])
+some_said b h = of (head_of b) refl h
+  where
+    of : (o : Option (List Part)) → head_of b ≡ o → is_some o ≡ true → HasHead b (unwrap_or o [])
+    of None e k = let clash : false ≡ true = k in absurd (cc)
+    of (Some qs) e k = computed_said b qs e
+
 pub whole_front : (b : List ℕ) → is_some (head_of b) ≡ true
     → (2 ≤ length b) × (front_left 2 (drop 2 b) ≡ unwrap_or (head_of b) [])
-whole_front b h = of (head_of b) refl h
-  where
-    of : (o : Option (List Part)) → head_of b ≡ o → is_some o ≡ true
-        → (2 ≤ length b) × (front_left 2 (drop 2 b) ≡ unwrap_or o [])
-    of None e k = let clash : false ≡ true = k in absurd (cc)
-    of (Some qs) e k =
-        let s = computed_said b qs e in (
-          start_long b (head_starts b qs s),
-          sym (cond-false (not (starts b)) [] (front_left 2 (drop 2 b)) (ap not (head_starts b qs s))) ∙ head_front b qs s,
-        )
+whole_front b h =
+    let s = some_said b h in
+    let t = head_starts b (unwrap_or (head_of b) []) s in (
+      start_long b t,
+      sym (cond-false (not (starts b)) [] (front_left 2 (drop 2 b)) (ap not t)) ∙ head_front b (unwrap_or (head_of b) []) s,
+    )
 
 -- ---- the parts are in the bytes
 
