@@ -250,6 +250,10 @@ class Counted:
         self.calls.append(("parts", len(octets)))
         return self.right.jpeg_parts(octets, most)
 
+    def jpeg_blocks(self, octets):
+        self.calls.append(("blocks", len(octets)))
+        return self.right.jpeg_blocks(octets)
+
     def photoshop_resources(self, octets, most):
         self.calls.append(("resources", len(octets)))
         return self.right.photoshop_resources(octets, most)
@@ -272,7 +276,7 @@ def counted(monkeypatch):
 
 def test_cost_of_a_small_picture(counted, folder):
     calls, reads = counted
-    for octets, number in ((jpeg(app1(A), app13(resource(0x0404, K)), app1_xmp(T)), 2), (jpeg(app1(A)), 1), (SMALL_JPEG, 1)):
+    for octets, number in ((jpeg(app1(A), app13(resource(0x0404, K)), app1_xmp(T)), 3), (jpeg(app1(A)), 2), (SMALL_JPEG, 1)):
         del calls[:], reads[:]
         (folder / "a.jpg").write_bytes(octets)
         assert extraction.blocks_of_file(os.fsencode(folder / "a.jpg")).problem is None
@@ -297,7 +301,7 @@ def test_cost_of_further_pictures(counted):
     octets = mpf(app1(A), jpeg(app1(B)), jpeg(app1(B)), jpeg(app1(B)))
     stream = Counting(octets)
     assert len(jpeg_.read(stream).found) == 4
-    assert len(calls) == 4 and stream.octets < 5 * len(octets)
+    assert len(calls) == 2 * 4 and stream.octets < 5 * len(octets)
 
 
 # ---- a library that fails
@@ -315,14 +319,14 @@ class Failing(Counted):
         return outcome
 
 
-@pytest.mark.parametrize("call", ["jpeg_parts", "photoshop_resources"])
+@pytest.mark.parametrize("call, more", [("jpeg_parts", ()), ("photoshop_resources", ()), ("jpeg_blocks", (b"",))])
 @pytest.mark.parametrize(
     "outcome", [(7, 0, 0, b""), (2, 7, 0, b""), (5, 0, 0, b"")], ids=["an unknown status", "an unknown cause", "no room"]
 )
-def test_a_fault_of_the_library_is_none_of_the_picture(monkeypatch, folder, call, outcome):
+def test_a_fault_of_the_library_is_none_of_the_picture(monkeypatch, folder, call, more, outcome):
     path = os.fsencode(folder / "a.jpg")
     (folder / "a.jpg").write_bytes(jpeg(app1(A), app13(resource(0x0404, K))))
-    library = Failing(call, outcome)
+    library = Failing(call, outcome + more)
     monkeypatch.setattr(_jpeg, "library", lambda: library)
     found = looking.look(FoundFile(path, os.fsencode(folder), None), How(), Session())
     assert (found.problem, found.blocks) == ("InternalError", ())

@@ -25,7 +25,7 @@ from .jpeg_segments import (
     PHOTOSHOP_PIECE,
     SOS,
     XMP_PACKET,
-    XMP_PIECE,
+    blocks_of,
     is_not_compared,
     read_head,
 )
@@ -75,8 +75,8 @@ class _Head:
         self.has_scan = False
         self.indexes: List[Tuple[int, bytes]] = []  # MPF indexes, each with the offset of its header
         self.index_is_wrong = False
-        self._exif: List[Tuple[str, List[bytes]]] = []  # the position of each block, and its pieces
-        self._runs: List[Tuple[str, List[bytes]]] = []  # Photoshop resources, the same way
+        self._exif: List[Tuple[str, bytes]] = []  # the position of each block, and its bytes
+        self._runs: List[Tuple[str, bytes]] = []  # Photoshop resources, the same way
         self._pieces = Pieces()
         self._octets, self._start = b"", 0  # what was read of the file, and where that begins
 
@@ -84,9 +84,12 @@ class _Head:
         """Reads the picture that begins at `start`. Raises `Broken` once the blocks before the fault are added."""
         head = read_head(stream, start, budget)
         self._octets, self._start = head.octets, start
+        blocks = iter(blocks_of(head))
         for marker, kind, begins, at, size in head.parts:
-            if kind or APP0 <= marker <= APP15:
-                self._segment(marker, kind, begins, at, head.octets[at : at + size])
+            if begins:
+                self._block(kind, start + at - 4, next(blocks))
+            elif not kind and APP0 <= marker <= APP15:
+                self._segment(marker, start + at - 4, head.octets[at : at + size])
         self._put_together()
         self.end = head.end
         if head.fault:
@@ -97,19 +100,20 @@ class _Head:
         """Whether the bytes that were read show that the picture has one plain scan, and ends at `end`."""
         return self.has_scan and is_scan(self._octets, self.end - self._start, end - self._start)
 
-    def _segment(self, marker: int, kind: int, begins: int, at: int, data: bytes) -> None:
-        """Adds what a segment has. Of a known kind these are the data behind its mark."""
-        start = self._start + at - 4
+    def _block(self, kind: int, at: int, data: bytes) -> None:
+        """Adds a block. Its first segment begins as many bytes before `at` as the mark of its kind has."""
         if kind == EXIF_PIECE:
-            _add_piece(self._exif, begins, f"APP1 segment at {start - len(_SIX)}", data)
+            self._exif.append((f"APP1 segment at {at - len(_SIX)}", data))
         elif kind == PHOTOSHOP_PIECE:
-            _add_piece(self._runs, begins, f"APP13 segment at {start - len(photoshop.HEAD)}", data)
+            self._runs.append((f"APP13 segment at {at - len(photoshop.HEAD)}", data))
         elif kind == XMP_PACKET:
-            self.blocks.add(XMP, data, f"APP1 segment at {start - len(_XMP)}", self.part)
-        elif kind == XMP_PIECE:
-            if not self._pieces.add(data, f"APP1 segment at {start - len(EXTENDED)}"):
-                self._leave("piece of extended XMP that does not fit the others", EXTENDED + data)
-        elif marker == APP1:
+            self.blocks.add(XMP, data, f"APP1 segment at {at - len(_XMP)}", self.part)
+        elif not self._pieces.add(data, f"APP1 segment at {at - len(EXTENDED)}"):
+            self._leave("piece of extended XMP that does not fit the others", EXTENDED + data)
+
+    def _segment(self, marker: int, start: int, data: bytes) -> None:
+        """Adds what a segment of no known kind has."""
+        if marker == APP1:
             self._app1(f"APP1 segment at {start}", data)
         elif marker == APP13:
             self._app13(f"APP13 segment at {start}", data)
@@ -122,14 +126,14 @@ class _Head:
     def _app1(self, place: str, data: bytes) -> None:
         """A lenient form: Exif by a mark that is written in another way."""
         if like := _EXIF_LIKE.match(data):
-            self._exif.append((place, [data[like.end() :]]))
+            self._exif.append((place, data[like.end() :]))
         else:
             self._leave("APP1 segment of an unknown kind", data)
 
     def _app13(self, place: str, data: bytes) -> None:
         """A lenient form: resources after the mark of an older Photoshop."""
         if data.startswith(photoshop.OLD_HEAD):
-            self._runs.append((place, [data[photoshop.OLD_HEAD_LENGTH :]]))
+            self._runs.append((place, data[photoshop.OLD_HEAD_LENGTH :]))
         elif not is_not_compared(APP13, data):
             self._leave("APP13 segment of an unknown kind", data)
 
@@ -144,17 +148,9 @@ class _Head:
 
     def _put_together(self) -> None:
         for place, data in self._exif:
-            self.blocks.add(EXIF, b"".join(data), place, self.part)
-        photoshop.add_resources(self.blocks, [(place, b"".join(data)) for place, data in self._runs], self.part)
+            self.blocks.add(EXIF, data, place, self.part)
+        photoshop.add_resources(self.blocks, self._runs, self.part)
         self._pieces.put_together(self.blocks, self.part)
-
-
-def _add_piece(blocks: List[Tuple[str, List[bytes]]], begins: int, place: str, data: bytes) -> None:
-    """Adds a piece to the block that it continues, or a block that begins with it."""
-    if begins:
-        blocks.append((place, [data]))
-    else:
-        blocks[-1][1].append(data)
 
 
 def _further(stream: Stream, head: _Head, end: int) -> List[int]:

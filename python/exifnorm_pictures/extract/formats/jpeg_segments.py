@@ -1,16 +1,18 @@
-"""The head of a JPEG picture, which is all before its first scan (ITU T.81, Annex B; CIPA DC-008 4.7), as `exifnorm.jpeg_parts` reads it."""
+"""The head of a JPEG picture, which is all before its first scan (ITU T.81, Annex B; CIPA DC-008 4.7): its parts, as `exifnorm.jpeg_parts`
+reads them, and its blocks, as the library joins them."""
 
 from __future__ import annotations
 
 from typing import List, NamedTuple, Tuple
 
 import exifnorm
-from exifnorm._jpeg import PART_KINDS, PartRow, part_rows
+from exifnorm._jpeg import PART_KINDS, PartRow, part_rows, whole_blocks
 
 from ...model.budgets import SEGMENTS, SEGMENT_BYTES, Budget
 from .streams import HEAD, Stream
 
 SOI, EOI, SOS = 0xD8, 0xD9, 0xDA
+END_MARK = bytes((0xFF, EOI))
 APP0, APP1, APP2, APP3, APP13, APP15 = 0xE0, 0xE1, 0xE2, 0xE3, 0xED, 0xEF
 
 # The segments of applications that contain no Exif, IPTC or XMP, and are neither compared nor named: the marker, how the segment begins,
@@ -68,6 +70,22 @@ def read_head(stream: Stream, start: int, budget: Budget) -> Head:
         return Head(octets, parts, start + end)
     marker = start + max(len(octets) - len(octets[place:].lstrip(b"\xff")) - 1, place)  # after bytes FF that fill
     return Head(octets, parts, start + end, f"{_FAULTS[cause]} at {marker}")
+
+
+def blocks_of(head: Head) -> List[bytes]:
+    """The blocks that begin in the parts of a head, in their order. A lenient form: a file that has a fault, or that ends after a whole segment,
+    is read as if it had the end mark there. So a block of Exif that might go on counts as far as it goes; such a file is never wholly read.
+
+    >>> from io import BytesIO
+    >>> pictures = [bytes.fromhex("ffd8 ffe1000c 457869660000 4d4d002a" + rest) for rest in ("", "ff", "ffed", "ffd9")]
+    >>> [len(blocks_of(read_head(BytesIO(picture), 0, Budget()))) for picture in pictures]
+    [1, 1, 1, 1]
+    """
+    if not any(begins for _, _, begins, _, _ in head.parts):
+        return []
+    last, *_, start, size = head.parts[-1]
+    octets = head.octets if last in (SOS, EOI) else head.octets[: start + size] + END_MARK
+    return [data for _, data in whole_blocks(octets)]
 
 
 _FAULTS = {"JpegCut": "the file ends inside the segment", "JpegNoMarker": "no marker", "JpegLength": "no segment", "JpegNoStart": "no JPEG"}
