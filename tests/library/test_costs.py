@@ -291,20 +291,20 @@ def test_instructions_for_each_byte_of_a_form(costs, meaning, most):
 # Parts of a head, and Photoshop's resources, each with the instructions for one of them at most: an eighth more than now. A call goes over
 # the parts three times, and looks at no more of the data than at the mark and at a header of TIFF.
 PARTS = {
-    "markers that stand alone": ("jpeg_parts", b"\xff\xd0", 257),
+    "markers that stand alone": ("jpeg_parts", b"\xff\xd0", 219),
     "fill bytes": ("jpeg_parts", b"\xff" * 1000 + b"\xff\xd0", 20_400),
-    "comments": ("jpeg_parts", segment(0xFE, b"comment"), 300),
-    "long comments": ("jpeg_parts", segment(0xFE, bytes(10_000)), 300),
-    "pieces of Exif": ("jpeg_parts", segment(0xE1, b"Exif\0\0MM\0*" + bytes(100)), 318),
-    "extended XMP": ("jpeg_parts", segment(0xE1, b"http://ns.adobe.com/xmp/extension/\0" + bytes(100)), 384),
+    "comments": ("jpeg_parts", segment(0xFE, b"comment"), 262),
+    "long comments": ("jpeg_parts", segment(0xFE, bytes(10_000)), 262),
+    "pieces of Exif": ("jpeg_parts", segment(0xE1, b"Exif\0\0MM\0*" + bytes(100)), 305),
+    "extended XMP": ("jpeg_parts", segment(0xE1, b"http://ns.adobe.com/xmp/extension/\0" + bytes(100)), 383),
     "resources": ("photoshop_resources", b"8BIM\4\4\0\0\0\0\0\x02ab", 139),
-    "comments in two pictures": ("jpeg_same", segment(0xFE, b"comment"), 2_761),
+    "comments in two pictures": ("jpeg_same", segment(0xFE, b"comment"), 1_473),
     "resources in two pictures": (
         "jpeg_same",
         segment(0xED, b"Photoshop 3.0\0" + b"8BIM\4\x22\0\0\0\0\0\x02ab") + segment(0xFE, b""),
-        5_370,
+        3_980,
     ),
-    "XMP in two pictures": ("jpeg_same", segment(0xE1, b"http://ns.adobe.com/xap/1.0/\0" + bytes(100)), 4_480),
+    "XMP in two pictures": ("jpeg_same", segment(0xE1, b"http://ns.adobe.com/xap/1.0/\0" + bytes(100)), 3_356),
     "long resources": ("photoshop_resources", b"MeSa\4\4\0\0\0\0\x10\0" + bytes(4096), 184),
 }
 
