@@ -72,7 +72,8 @@ class Field:
     - FLOAT and DOUBLE: float
     - UNDEFINED, the MakerNote and the thumbnail: bytes
     - several elements, or a list of XMP: a tuple of these
-    - a structure of XMP: None; `exact` has it
+    - a structure of XMP: a dict of its fields, by names such as "stRef:documentID"; None for one of more than 400 characters, of which
+      `exact` has the beginning
     """
 
     __slots__ = ("_field", "_block")

@@ -65,8 +65,41 @@ def test_values_of_xmp():
     texts = "<dc:subject><rdf:Bag><rdf:li>b</rdf:li><rdf:li>a</rdf:li></rdf:Bag></dc:subject><dc:source>c</dc:source>"
     titles = "<dc:title><rdf:Alt><rdf:li xml:lang='de'>Krug</rdf:li><rdf:li xml:lang='x-default'>Vase</rdf:li></rdf:Alt></dc:title>"
     found = pictures.read_bytes(jpeg(app1_xmp(xmp(structure + texts + titles))))
-    assert [found.get(it) for it in ("XMP-dc:subject", "source", "title", "XMP-xmpMM:DerivedFrom")] == [("b", "a"), "c", "Vase", None]
+    assert [found.get(it) for it in ("XMP-dc:subject", "source", "title", "XMP-xmpMM:DerivedFrom")] == [
+        ("b", "a"),
+        "c",
+        "Vase",
+        {"dc:source": "a"},
+    ]
     assert found.find("XMP-xmpMM:DerivedFrom")[0].exact == '{dc:source="a"}'
+
+
+def without_groups(value):
+    """A value of exifnorm as ExifTool has it with -struct: lists, and names without a prefix in small letters."""
+    if isinstance(value, dict):
+        return {name.partition(":")[2].casefold(): without_groups(it) for name, it in value.items()}
+    return [without_groups(it) for it in value] if isinstance(value, tuple) else value
+
+
+@needs("exiftool")
+def test_structures_are_those_of_exiftool(tmp_path):
+    """A structure, a list of them, structures in one another, and a text of a structure in two languages."""
+    (tmp_path / "a.jpg").write_bytes(jpeg())
+    words = [
+        "-XMP-xmpMM:DerivedFrom={DocumentID=xmp.did:1,InstanceID=xmp.iid:2}",
+        "-XMP-xmpMM:History=[{Action=created,SoftwareAgent=A},{Action=saved,Changed=/}]",
+        "-XMP-iptcExt:LocationCreated={City=Bern,LocationName=Kirche}",
+        "-XMP-iptcExt:LocationCreated-de={LocationName=Kirche auf dem Berg}",
+        "-XMP-mwg-rs:RegionInfo={AppliedToDimensions={W=3,H=2,Unit=pixel},RegionList=[{Name=Anna,Type=Face}]}",
+    ]
+    subprocess.run(["exiftool", "-q", "-config", "", "-overwrite_original", *words, tmp_path / "a.jpg"], check=True)
+    ask = ["exiftool", "-q", "-config", "", "-json", "-struct", "-n", "-XMP:all", tmp_path / "a.jpg"]
+    (theirs,) = json.loads(subprocess.run(ask, stdout=subprocess.PIPE, check=True).stdout)
+    ours = pictures.read(tmp_path / "a.jpg")
+    for name, word in (*zip(*[("DerivedFrom", "History", "LocationCreated")] * 2), ("Regions", "RegionInfo")):
+        (key,) = (it for it in ours.names if it.endswith(f":{name}"))
+        expected = json.loads(json.dumps(theirs[word]), object_hook=lambda it: {one.casefold(): value for one, value in it.items()})
+        assert str(without_groups(ours[key])).replace("'", "") == str(expected).replace("'", ""), name
 
 
 @needs("exiftool")

@@ -6,13 +6,13 @@ import math
 import struct
 from datetime import date, datetime, time
 from fractions import Fraction
-from typing import Any, List, Optional, Sequence, Tuple, Union
+from typing import Any, Dict, List, Optional, Sequence, Tuple, Union
 
-from ..model.xmp_values import Array, Literal, Long, Uri, XmpValue
+from ..model.xmp_values import Array, Literal, Long, Structure, Uri, XmpValue
 from .listing import Field, is_comment, is_wide_text, kept_value, marked_text
 from .plain_texts import comment, is_utf8, xmp_texts
 
-Value = Union[str, int, float, Fraction, datetime, date, time, bytes, None, Tuple[Any, ...]]
+Value = Union[str, int, float, Fraction, datetime, date, time, bytes, None, Tuple[Any, ...], Dict[str, Any]]
 
 _DATES = {("main", "0132"), ("exif", "9003"), ("exif", "9004")}
 _VERSIONS = {("exif", "9000"), ("exif", "a000"), ("interop", "0002")}  # UNDEFINED, and digits by the standard
@@ -162,11 +162,20 @@ def _of_xmp(values: Sequence[XmpValue]) -> Value:
 
 
 def _one_of_xmp(value: XmpValue) -> Value:
-    """A text; of alternatives the default one; of a list a tuple; None for a structure."""
+    """A text; of alternatives the default one; of a list a tuple; of a structure its fields by their names; None for one that isn't kept.
+
+    >>> _one_of_xmp(Structure((("stEvt:action", Literal("saved")), ("stEvt:changed", Literal("/")))))
+    {'stEvt:action': 'saved', 'stEvt:changed': '/'}
+    """
     if isinstance(value, Literal):
         return value.text
     if isinstance(value, Uri):
         return value.uri
+    if isinstance(value, Structure):
+        by_name: Dict[str, List[XmpValue]] = {}
+        for name, member in value.members:
+            by_name.setdefault(name, []).append(member)
+        return {name: _of_xmp(values) for name, values in by_name.items()}
     if not isinstance(value, Array):
         return None
     members = value.members
