@@ -3,11 +3,30 @@
 The bytes are made here by the formats' rules, so what differs is known without a reader of ours.
 """
 
+import json
 import struct
 
 import pytest
 from made_blocks import ASCII, LONG, MAKE, UNDEFINED, block, entry, segment, table
-from made_files import app1, app1_xmp, app13, exif, extension, iim, jpeg, mpf, page, png, chunk, resource, tiff, title, webp, xmp
+from made_files import (
+    app1,
+    app1_xmp,
+    app13,
+    exif,
+    extension,
+    iim,
+    jpeg,
+    mpf,
+    page,
+    png,
+    chunk,
+    resource,
+    tiff,
+    title,
+    webp,
+    with_record,
+    xmp,
+)
 from pairs import DIFFERENT, SAME, UNDECIDED, Pair, of_pairs
 
 # Parts of a file
@@ -189,3 +208,16 @@ def test_files_without_a_reader(name, one, other, compared):
     status, objects = compared(one, other, name)
     assert status == DIFFERENT, objects
     assert "bytes" in objects[0]["result"]
+
+
+def test_a_block_in_the_place_of_the_other_kind(called):
+    """It is refused with the library's cause for such a picture, although it is a block."""
+    import exifnorm
+
+    places = {"iptc": jpeg(with_record(exif(b"Abc"))), "exif": jpeg(app1(iim(b"one")))}
+    for kind, picture in places.items():
+        with pytest.raises(exifnorm.PictureRefused) as refused:
+            exifnorm.jpeg_same(picture, picture)
+        block = json.loads(called("show", "a.jpg", "--json", a=picture)[1])["blocks"][0]
+        assert (block["kind"], block["cause"], block["offset"]) == (kind, refused.value.cause, refused.value.place)
+        assert block["fields"] == []

@@ -35,6 +35,8 @@ def judge(kind: str, block: bytes, packs: bool = False, at: FoundBlock = _BY_ITS
         return Block(kind, *at[2:5], Status.TOO_LONG, None, "NormalTooLong", None, len(block), octets)
     except MemoryError:
         return Block(kind, *at[2:5], Status.FAILED, None, "OutOfMemory", None, len(block), octets)
+    if (form[:1] == _DATASET) != (kind == IPTC):  # a block of the other kind is none here, as for the library's calls for pictures
+        return Block(kind, *at[2:5], Status.REFUSED, None, "NoMarker" if kind == IPTC else "UnknownKind", 0, len(block), octets)
     digest = octets if form == block else hashlib.sha256(form).hexdigest()
     return _with_fields(Block(kind, *at[2:5], Status.ACCEPTED, digest, None, None, len(block), octets), Fields(form), packs)
 
@@ -66,6 +68,7 @@ def _says_nothing(block: FoundBlock) -> bool:
     return block.kind == EXIF and len(data) <= 64 and data[:10] in _NOTHING and not any(data[10:])
 
 
+_DATASET = b"\x1c"  # with which each DataSet begins
 _INFLATES = 1032  # bytes that a byte of zlib can become
 _NOTHING = (b"II*\0\x08\0\0\0\0\0", b"MM\0*\0\0\0\x08\0\0")  # a header, and a directory without entries
 
