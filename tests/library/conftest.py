@@ -28,6 +28,13 @@ def archive(library):
     return library / "libexifnorm.a"
 
 
+@pytest.fixture(scope="session")
+def version(pytestconfig):
+    """The version that the library prints."""
+    build = pytestconfig.getoption("--build")
+    return f"{exifnorm.__version__} ({build})" if build else exifnorm.__version__
+
+
 # ---- the two ways in which the package calls the library
 
 

@@ -85,7 +85,7 @@ static void try_no_bytes(const unsigned char *none, unsigned char *out) {
     REQUIRE(exifnorm_cause_name(EXIFNORM_CAUSE_LOOP, (char *)out, 0, &written) == EXIFNORM_TOO_LITTLE_ROOM);
     REQUIRE(written == sizeof "Loop");
     REQUIRE(exifnorm_version((char *)out, 0, &written) == EXIFNORM_TOO_LITTLE_ROOM);
-    REQUIRE(written == sizeof EXIFNORM_VERSION);
+    REQUIRE(written >= sizeof EXIFNORM_VERSION); /* a build may name itself after the number */
 }
 
 /* A picture of no bytes. */

@@ -55,7 +55,7 @@ def packages(folder, way, extension, shared):
 @pytest.mark.parametrize("beside", ["", "another", "broken"])
 @pytest.mark.parametrize("by_system", [False, True])
 @pytest.mark.parametrize("variable", [None, "", "built"])
-def test_places_of_the_library(packages, watched_library, shared, beside, by_system, variable):
+def test_places_of_the_library(packages, watched_library, shared, version, beside, by_system, variable):
     """The variable's file alone if it is set; otherwise the one beside the package, and then the system's."""
     files = {"": None, "another": watched_library, "broken": __file__}
     environment = {"VERSION": "9.9.9"}  # which the other library prints
@@ -65,11 +65,11 @@ def test_places_of_the_library(packages, watched_library, shared, beside, by_sys
         environment["EXIFNORM_LIBRARY"] = variable and shared
     found = packages.printed(packages.copy("copy", files[beside]), PRINT_VERSION, **environment)
     if variable == "built":
-        assert found == exifnorm.__version__
+        assert found == version
     elif beside == "another":
         assert found == "9.9.9"
     elif by_system:
-        assert found == exifnorm.__version__
+        assert found == version
     else:
         assert found.startswith("missing: the library libexifnorm.so.1 can't be loaded")
         for place in (
@@ -89,10 +89,10 @@ def test_the_extension_module_is_used_where_it_is(packages, shared):
     assert packages.printed(packages.copy("copy"), code, EXIFNORM_LIBRARY=shared) == expected[packages.way]
 
 
-def test_an_extension_module_for_another_kind_of_python(packages, shared):
+def test_an_extension_module_for_another_kind_of_python(packages, shared, version):
     copy = packages.copy("copy")
     (copy / "exifnorm" / "_native.abi3.so").write_bytes(b"no library")
-    assert packages.printed(copy, PRINT_VERSION, EXIFNORM_LIBRARY=shared) == exifnorm.__version__
+    assert packages.printed(copy, PRINT_VERSION, EXIFNORM_LIBRARY=shared) == version
 
 
 @pytest.mark.parametrize(
@@ -110,7 +110,7 @@ def test_a_variable_that_names_no_library(packages, shared, file, reason):
     assert found.startswith("missing: ") and f"tried: {file} (" in found and reason in found
 
 
-def test_a_variable_that_is_corrected(packages, shared):
+def test_a_variable_that_is_corrected(packages, version):
     """A failed search is no last one, and an import needs no library."""
     code = """
 import exifnorm, os
@@ -121,7 +121,7 @@ except exifnorm.LibraryMissing:
     print("missing, then", exifnorm.version())
 """
     copy = packages.copy("copy")
-    assert packages.printed(copy, code, EXIFNORM_LIBRARY="/no/such/library") == f"missing, then {exifnorm.__version__}"
+    assert packages.printed(copy, code, EXIFNORM_LIBRARY="/no/such/library") == f"missing, then {version}"
 
 
 @pytest.mark.parametrize(

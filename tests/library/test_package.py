@@ -377,8 +377,8 @@ def test_public_names_are_exported():
     assert public == {*exifnorm.__all__}
 
 
-def test_version():
-    assert exifnorm.version() == exifnorm.__version__
+def test_version(version):
+    assert exifnorm.version() == version
 
 
 # ---- what the calls cost
