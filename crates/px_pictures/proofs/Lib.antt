@@ -7,3 +7,4 @@ pub mod CountLaws
 pub mod PlaceLaws
 pub mod SameLaws
 pub mod MetadataLaws
+pub mod OneFaultLaws

@@ -19,7 +19,7 @@ use Rattle.px_pictures.specs.Laws.{OneMetadata, FaultsTell}
 use Rattle.px_pictures.specs.Metadata.{Blocks, HasBlocks, SayAll, SaysMetadata, blocks_in, joined_size}
 use Rattle.px_pictures.proofs.PairLaws.{say_one}
 
-one_blocks : OneHead → (b : List ℕ) (x y : Blocks) → HasBlocks b x → HasBlocks b y → x ≡ y
+pub one_blocks : OneHead → (b : List ℕ) (x y : Blocks) → HasBlocks b x → HasBlocks b y → x ≡ y
 one_blocks one b x y h k = h.blocks ∙ ap (blocks_in b) (one b h.parts k.parts h.head k.head) ∙ sym k.blocks
 
 pub one_metadata : OneHead → OneMeaning → OneMetadata
@@ -41,14 +41,14 @@ module _ (M : Type 0) (Says : List ℕ → M → Type 0) where
   middle_said (b ∷ before) block after [] s = absurd s
   middle_said (b ∷ before) block after (m ∷ ms) s = middle_said before block after ms s.1
 
-  fault_unsaid : (AllSaid : List (List ℕ) → Type 0) (IsBad : List ℕ → Cause → ℕ → Type 0)
+  pub fault_unsaid : (AllSaid : List (List ℕ) → Type 0) (IsBad : List ℕ → Cause → ℕ → Type 0)
       → ((b : List ℕ) (c : Cause) (p : ℕ) (m : M) → IsBad b c p → Says b m → ⊥) → (bs : List (List ℕ)) (n : ℕ) (c : Cause) (p : ℕ)
       → (ms : List M) → FaultAt AllSaid IsBad bs n c p → SayAll Says bs ms → ⊥
   fault_unsaid AllSaid IsBad unsaid bs n c p ms h s =
       let said = middle_said h.before h.block h.after ms (subst (λ (xs : List (List ℕ)). SayAll Says xs ms) h.whole s) in
       unsaid h.block c p said.0 h.faulty said.1
 
-head_unsaid : OneHead → HeadFaultsTell → (b : List ℕ) (refused : ℕ) (e : Fault) (x : Blocks) → e ≢ OutOfMemory → IsHeadFault b refused e
+pub head_unsaid : OneHead → HeadFaultsTell → (b : List ℕ) (refused : ℕ) (e : Fault) (x : Blocks) → e ≢ OutOfMemory → IsHeadFault b refused e
     → HasBlocks b x → ⊥
 head_unsaid one tell b refused (Head e) x differ h k = tell.0 b e.cause e.place k.parts h k.head
 head_unsaid one tell b refused TooLong x differ (parts, head, long) k =
@@ -57,7 +57,7 @@ head_unsaid one tell b refused TooLong x differ (parts, head, long) k =
 head_unsaid one tell b refused OutOfMemory x differ h k = differ refl
 head_unsaid one tell b refused (Block n m c p) x differ h k = h
 
-block_unsaid : (x : Blocks) (refused : ℕ) (e : Fault) (exif : List Meaning) (iptc : List Record) → e ≢ OutOfMemory
+pub block_unsaid : (x : Blocks) (refused : ℕ) (e : Fault) (exif : List Meaning) (iptc : List Record) → e ≢ OutOfMemory
     → IsBlockFault x refused e → SayAll SaysExif x.exif exif → SayAll SaysIim x.iptc iptc → ⊥
 block_unsaid x refused (Block kind.Exif n c p) exif iptc differ h s t =
     fault_unsaid Meaning SaysExif AllExif IsFaulty (λ b d q m f u. f.unsaid m u) x.exif n c p exif h s

@@ -16,3 +16,8 @@ OneMetadata = (b : List ℕ) (exif others : List Meaning) (iptc records : List R
 abbrev pub FaultsTell : Type 0
 FaultsTell = (f g : List ℕ) (refused : ℕ) (e : PictureFault) (exif others : List Meaning) (iptc records : List Record)
     → e.fault ≢ OutOfMemory → IsPictureFault f g refused e → SaysMetadata f exif iptc → SaysMetadata g others records → ⊥
+
+-- Two pictures have at most one first fault, besides that an allocation failed.
+abbrev pub OneFault : Type 0
+OneFault = (f g : List ℕ) (refused lacking : ℕ) (d e : PictureFault) → d.fault ≢ OutOfMemory → e.fault ≢ OutOfMemory
+    → IsPictureFault f g refused d → IsPictureFault f g lacking e → d ≡ e

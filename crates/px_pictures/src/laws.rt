@@ -1,5 +1,5 @@
 //! The laws of pictures: what follows from the definitions. Each is the contract of a function that does nothing.
-ghost use Rattle.px_pictures.specs.Laws.{OneMetadata, FaultsTell};
+ghost use Rattle.px_pictures.specs.Laws.{OneMetadata, FaultsTell, OneFault};
 
 /// The blocks of a picture have at most one list of meanings, and one of records. So whether two pictures are the
 /// same doesn't depend on how they are read.
@@ -13,6 +13,14 @@ pub fn one_metadata()
 /// If two pictures have a fault, not all of their blocks have meanings.
 pub fn faults_tell()
     ensures { FaultsTell }
+{
+    px_jpeg::laws::one_head();
+    px_jpeg::laws::faults_tell();
+}
+
+/// Two pictures have at most one first fault: which one is reported doesn't depend on how they are read.
+pub fn one_fault()
+    ensures { OneFault }
 {
     px_jpeg::laws::one_head();
     px_jpeg::laws::faults_tell();
