@@ -23,9 +23,9 @@ from .files.session import Session
 from .judge.judge import judge_all
 from .judge.reading import Reading
 from .model.budgets import Budget, TooMuch
-from .model.found import NAMES, Blocks
+from .model.found import EXIF, NAMES, Blocks
 from .model.problems import Problem
-from .model.records import WORDS, Block as Judged, Picture as Record, Stamp, is_marked_as
+from .model.records import Block as Judged, Picture as Record, Stamp, is_marked_as
 from .model.results import Result
 from .model.texts import described
 
@@ -197,7 +197,7 @@ class Block:
     @property
     def kind(self) -> str:
         """The kind: "exif", "iptc" or "xmp"."""
-        return WORDS[self._judged.kind]
+        return self._judged.kind
 
     @property
     def name(self) -> str:
@@ -608,6 +608,6 @@ def compare(before: Union[Picture, Source], after: Union[Picture, Source], *, as
 
 
 def _difference(change: differing.Difference) -> Difference:
-    block = change.block or NAMES[{"iptc": "iim", "xmp": "xmp"}.get(change.where, "exif")]
+    block = change.block or NAMES.get(change.where, NAMES[EXIF])
     before, after = (tuple(Field(one, block) for one in side) or None for side in (change.before, change.after))
     return Difference(change.name, before, after, change.is_equal_number, change.note)

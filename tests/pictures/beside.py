@@ -13,7 +13,7 @@ from studio import run
 from exifnorm_pictures.extract import readers
 from exifnorm_pictures.model.found import Broken, LeftToOthers
 
-_KINDS = {"EXIF": "exif", "IPTC": "iim", "XMP": "xmp"}
+_KINDS = {"EXIF": "exif", "IPTC": "iptc", "XMP": "xmp"}
 
 
 def blocks_of_exiftool(folder):

@@ -141,7 +141,7 @@ def test_what_index_writes_is_read(monkeypatch):
     """Many blocks that are short as they are packed, and long as they are: some are left out, and none is refused when it is read."""
     blocks = Blocks()
     for number in range(6):
-        blocks.add("iim", b"".join(b"\x1c\2\x19\0\x04%04d" % (number if it == 0 else it) for it in range(300)), f"page {number}")
+        blocks.add("iptc", b"".join(b"\x1c\2\x19\0\x04%04d" % (number if it == 0 else it) for it in range(300)), f"page {number}")
     judged = judge.judge_all(blocks, packs=True)
     one = packing.length(judged[0].fields)
     assert len(judged[0].fields) * 4 < one

@@ -93,7 +93,7 @@ class Explanations(unittest.TestCase):
     def test_an_accepted_block(self):
         found = explain.explain(IPTC, b"\x1c\x02\x19\0\x03one")
         self.assertEqual(
-            (found.lines(), found.members()), (["iim: ok iim"], {"kind": "iim", "status": "accepted", "cause": None, "place": None})
+            (found.lines(), found.members()), (["iptc: ok iptc"], {"kind": "iptc", "status": "accepted", "cause": None, "place": None})
         )
 
     def test_a_packet(self):

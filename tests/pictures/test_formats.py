@@ -42,7 +42,7 @@ class Found(unittest.TestCase):
                 [
                     ("exif", "Exif", A),
                     ("exif", "second Exif", B + b"more"),
-                    ("iim", "IPTC", K),
+                    ("iptc", "IPTC", K),
                     ("xmp", "XMP", T),
                     ("xmp", "extended XMP", T),
                 ]
@@ -65,7 +65,7 @@ class Found(unittest.TestCase):
             found = named(found_in(jpeg(app1(A), between, app1(b"more"))))
             self.assertEqual(found, [("exif", "Exif", A), ("exif", "second Exif", b"more")], between)
             found = named(found_in(jpeg(app13(resource(0x404, K)), between, app13(resource(0x404, L)))))
-            self.assertEqual(found, [("iim", "IPTC", K), ("iim", "second IPTC", L)], between)
+            self.assertEqual(found, [("iptc", "IPTC", K), ("iptc", "second IPTC", L)], between)
 
     def test_a_picture_without_a_scan(self):
         head = b"\xff\xd8" + app1(A)
@@ -118,7 +118,7 @@ class Found(unittest.TestCase):
         """Any marker may have FF in front, as often as a writer likes (ITU T.81, B.1.1.2)."""
         for fill in (b"\xff", b"\xff\xff", b"\xff" * 7):
             found = found_in(jpeg(fill + app1(A), fill + app13(resource(0x404, K))))
-            self.assertEqual(named(found), [("exif", "Exif", A), ("iim", "IPTC", K)], fill)
+            self.assertEqual(named(found), [("exif", "Exif", A), ("iptc", "IPTC", K)], fill)
 
     def test_resources(self):
         """A name has a length and is padded, and so is the data; Photoshop 2.5 had other words in front."""
@@ -131,13 +131,13 @@ class Found(unittest.TestCase):
         self.assertEqual(len(odd) % 2, 1)
         for name in (b"", b"a", b"of", b"odd", b"even"):
             found = found_in(jpeg(app13(with_name(name, odd), with_name(b"", L))))
-            self.assertEqual((named(found), found.not_read), ([("iim", "IPTC", odd), ("iim", "second IPTC", L)], []), name)
+            self.assertEqual((named(found), found.not_read), ([("iptc", "IPTC", odd), ("iptc", "second IPTC", L)], []), name)
         old = found_in(jpeg(segment(0xED, b"Adobe_Photoshop2.5:" + bytes(8) + resource(0x404, K))))
-        self.assertEqual((named(old), old.not_read), ([("iim", "IPTC", K)], []))
+        self.assertEqual((named(old), old.not_read), ([("iptc", "IPTC", K)], []))
         for signature in (b"PHUT", b"AgHg", b"DCSR", b"MeSa"):
-            self.assertEqual(named(found_in(jpeg(app13(resource(0x404, K, signature))))), [("iim", "IPTC", K)], signature)
+            self.assertEqual(named(found_in(jpeg(app13(resource(0x404, K, signature))))), [("iptc", "IPTC", K)], signature)
         more = found_in(jpeg(app13(resource(0x423, A), resource(0x404, K))))
-        self.assertEqual(named(more), [("iim", "IPTC", K)])
+        self.assertEqual(named(more), [("iptc", "IPTC", K)])
         self.assertEqual([it.what for it in more.not_read], ["Photoshop resource 0423 in the APP13 segment at 2"])
 
     def test_extended_xmp_that_is_not_whole(self):
@@ -240,8 +240,8 @@ class BesideOthers(WithPictures):
                 path = self.real(name)
                 found = found_in(read(path))
                 self.assertEqual(found.not_read, [])
-                for tag, kind in (("-EXIF:Exif", "exif"), ("-IPTC:IPTC", "iim"), ("-XMP:XMP", "xmp")):
-                    if kind == "iim" and name == "a.webp":
+                for tag, kind in (("-EXIF:Exif", "exif"), ("-IPTC:IPTC", "iptc"), ("-XMP:XMP", "xmp")):
+                    if kind == "iptc" and name == "a.webp":
                         continue
                     blocks = found.of_kind(kind)
                     self.assertEqual([it.data for it in blocks], [self.block(tag, path)], kind)

@@ -17,15 +17,15 @@ from exifnorm_pictures.model import budgets
 A, K, L, T, U = exif(b"Abc"), iim(b"one"), iim(b"k" * 600), title("one"), title("two")
 X, I = gif_xmp(T), application(b"MGKIPTC0000", K)
 R = application(b"MGK8BIM0000", resource(0x0404, K) + resource(0x0422, A) + resource(0x0424, T))
-BOTH = [("iim", "IPTC", K), ("xmp", "XMP", T)]
+BOTH = [("iptc", "IPTC", K), ("xmp", "XMP", T)]
 COMMENT, CONTROL, TEXT = b"\x21\xfe" + blocks_of_data(b"comment"), b"\x21\xf9\x04\0\0\0\0\0", b"\x21\x01" + blocks_of_data(bytes(12))
 LOOP = application(b"NETSCAPE2.0", b"\1\0\0")
 
 READ = {
     "XMP": (gif(X), BOTH[1:]),
     "both": (gif(I, X), BOTH),
-    "IPTC in many blocks": (gif(application(b"MGKIPTC0000", L)), [("iim", "IPTC", L)]),
-    "IPTC in short blocks": (gif(application(b"MGKIPTC0000", L, 7)), [("iim", "IPTC", L)]),
+    "IPTC in many blocks": (gif(application(b"MGKIPTC0000", L)), [("iptc", "IPTC", L)]),
+    "IPTC in short blocks": (gif(application(b"MGKIPTC0000", L, 7)), [("iptc", "IPTC", L)]),
     "resources": (gif(R), [("exif", "Exif", A), *BOTH]),
     "twice": (gif(X, gif_xmp(U)), [*BOTH[1:], ("xmp", "second XMP", U)]),
     "XMP in blocks": (gif(application(b"XMP DataXMP", T)), BOTH[1:]),

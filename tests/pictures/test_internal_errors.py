@@ -183,7 +183,7 @@ def test_fields_of_a_picture_have_a_limit(monkeypatch):
     """Pages may share one long text, which a catalogue would keep for each."""
     blocks = Blocks()
     for number in range(5):
-        blocks.add("iim", b"\x1c\2\x78\0\x64" + bytes(range(32, 132)), f"page {number}")
+        blocks.add("iptc", b"\x1c\2\x78\0\x64" + bytes(range(32, 132)), f"page {number}")
     (one,) = {it.fields for it in judge.judge_all(blocks, packs=True)}
     monkeypatch.setattr(judge, "KEPT_BYTES", 2 * packing.length(one))
     kept = [packing.unpacked(it.fields) for it in judge.judge_all(blocks, packs=True)]

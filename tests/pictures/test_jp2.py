@@ -23,7 +23,7 @@ IPTC, PHOTOSHOP = "33c7a4d2b81d4723a0baf1a3e097ad38", "2c4c0100850440b9a03e56214
 GEOTIFF = "b14bf8bd083d4b43a5ae8cd7d5a6ce03"
 SETTING = "47c92cccd1a14581b90438bb5467713b"
 E, I, X = uuid(JPG_TIFF_EXIF, A), uuid(IPTC, K), uuid(XMP_UUID.hex(), T)
-ALL = [("exif", "Exif", A), ("iim", "IPTC", K), ("xmp", "XMP", T)]
+ALL = [("exif", "Exif", A), ("iptc", "IPTC", K), ("xmp", "XMP", T)]
 GEO = tiff(page((0x87AF, 3, 1)))
 
 READ = {

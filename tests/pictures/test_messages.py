@@ -446,7 +446,7 @@ class OfPictures(unittest.TestCase):
 
     def test_each_result(self):
         digest, octets = "d" * 64, "0" * 64
-        good = Block("iim", "IPTC", "somewhere", "own", "accepted", digest, None, None, 7, octets)
+        good = Block("iptc", "IPTC", "somewhere", "own", "accepted", digest, None, None, 7, octets)
         refused = Block("exif", "second Exif", "somewhere", "own", "refused", None, "Overlap", 34, 100, octets)
         at_0, packet = refused._replace(name="Exif", place=0), Block(
             "xmp", "XMP", "somewhere", "own", "unreadable", None, "NoRDF", None, 9, octets

@@ -35,8 +35,8 @@ class Answers(unittest.TestCase):
             seen(found),
             [
                 ("exif", "Exif", b"MM", "PSD file", "exiftool"),
-                ("iim", "IPTC", b"abc", "PSD file", "exiftool"),
-                ("iim", "second IPTC", b"def", "PSD file", "exiftool"),
+                ("iptc", "IPTC", b"abc", "PSD file", "exiftool"),
+                ("iptc", "second IPTC", b"def", "PSD file", "exiftool"),
                 ("xmp", "XMP", b"<x>", "PSD file", "exiftool"),
             ],
         )
@@ -150,7 +150,7 @@ class Files(WithPictures):
 
         def added(ask):
             blocks = Blocks(type="JPEG")
-            blocks.add("iim", b"known", "APP13 segment at 2")
+            blocks.add("iptc", b"known", "APP13 segment at 2")
             with mock.patch.object(exiftool, "ask", ask):
                 exiftool.add_trailers(Session(), blocks, b"a.jpg")
             return blocks
@@ -161,8 +161,8 @@ class Files(WithPictures):
         self.assertEqual(
             seen(blocks),
             [
-                ("iim", "IPTC", b"known", "APP13 segment at 2", "own"),
-                ("iim", "IPTC of trailer", b"new", "trailer", "exiftool"),
+                ("iptc", "IPTC", b"known", "APP13 segment at 2", "own"),
+                ("iptc", "IPTC of trailer", b"new", "trailer", "exiftool"),
                 ("xmp", "XMP of trailer", b"<x>", "trailer", "exiftool"),
             ],
         )

@@ -76,7 +76,7 @@ class Whole(unittest.TestCase):
             causes=Counter({"Overlap": 61, "NoRDF": 2, "DataSetCut": 1}),
             refused={
                 "Overlap": [contents.Refused(b"/p/a&b.jpg", "exif", "second Exif", "Overlap", 34)],
-                "DataSetCut": [contents.Refused(b"/p/c/d.jpg", "iim", "IPTC", "DataSetCut", 0)],
+                "DataSetCut": [contents.Refused(b"/p/c/d.jpg", "iptc", "IPTC", "DataSetCut", 0)],
                 "NoRDF": [
                     contents.Refused(b"/p/e\xff.jpg", "xmp", "XMP", "NoRDF", None),
                     contents.Refused(b"/q/f.jpg", "xmp", "XMP", "NoRDF", None),

@@ -168,7 +168,7 @@ class Results(unittest.TestCase):
     """Results of comparisons, in words."""
 
     def test_sentences(self):
-        exif, iptc, xmp_ = "exif", "iim", "xmp"
+        exif, iptc, xmp_ = "exif", "iptc", "xmp"
         for found, parts, text in (
             ([(exif, "same", True), (iptc, "same", False), (xmp_, "same", False)], (), "Exif, IPTC and XMP are the same"),
             ([(exif, "same", True), (iptc, "different", False), (xmp_, "same", False)], (), "Exif and XMP are the same, IPTC is different"),
@@ -194,10 +194,10 @@ class Results(unittest.TestCase):
         same, other, refused, unreadable = (
             Verdict("exif", "same"),
             Verdict("exif", "different"),
-            Verdict("iim", "refused"),
+            Verdict("iptc", "refused"),
             Verdict("xmp", "unreadable"),
         )
-        refused_same, unreadable_same = Verdict("iim", "refused", True), Verdict("xmp", "unreadable", True)
+        refused_same, unreadable_same = Verdict("iptc", "refused", True), Verdict("xmp", "unreadable", True)
         for found, parts, word in (
             ([same], (), "same"),
             ([], (), "same"),

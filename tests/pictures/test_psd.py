@@ -22,7 +22,7 @@ from exifnorm_pictures.model import budgets
 A, B, K, L, T, U = exif(b"Abc"), exif(b"Xyz"), iim(b"one"), iim(b"four"), title("one"), title("two")
 E, I, X = resource(0x0422, A), resource(0x0404, K), resource(0x0424, T)
 OTHER = resource(0x040C, b"thumbnail")
-ALL = [("exif", "Exif", A), ("iim", "IPTC", K), ("xmp", "XMP", T)]
+ALL = [("exif", "Exif", A), ("iptc", "IPTC", K), ("xmp", "XMP", T)]
 ROWS = [b"a" * number for number in range(9)]  # of three channels
 FOTOSTATION = bytes.fromhex("000100000010a1b2c3d4")[-10:]
 
@@ -34,8 +34,8 @@ READ = {
     "Exif before the block": (psd(resource(0x0422, b"Exif\0\0" + A)), ALL[:1]),
     "names": (psd(named(E, b"x"), named(OTHER, b"xy"), named(I, b"x" * 255), named(X, b"")), ALL),
     "other signatures": (psd(resource(0x0422, A, b"PHUT"), resource(0x0404, K, b"AgHg"), resource(0x0424, T, b"MeSa")), ALL),
-    "an odd length": (psd(resource(0x0404, L), E), [("exif", "Exif", A), ("iim", "IPTC", L)]),
-    "twice": (psd(I, resource(0x0404, L), E), [("exif", "Exif", A), ("iim", "IPTC", K), ("iim", "second IPTC", L)]),
+    "an odd length": (psd(resource(0x0404, L), E), [("exif", "Exif", A), ("iptc", "IPTC", L)]),
+    "twice": (psd(I, resource(0x0404, L), E), [("exif", "Exif", A), ("iptc", "IPTC", K), ("iptc", "second IPTC", L)]),
     "colours": (psd(E, I, X, colours=bytes(range(256)) * 3), ALL),
     "rows": (psd(E, I, X, compression=1, rows=ROWS), ALL),
     "rows of a PSB": (psd(E, I, X, version=2, compression=1, rows=ROWS), ALL),

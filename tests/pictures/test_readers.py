@@ -76,10 +76,10 @@ class Readers(unittest.TestCase):
                 ("xmp", "second XMP", f"APP1 segment at {at[5]}", U),
                 ("exif", "Exif", "APP1 segment at 2", A + b"goes on"),
                 ("exif", "second Exif", f"APP1 segment at {at[6]}", B),
-                ("iim", "IPTC", f"Photoshop resource 0404 in the APP13 segment at {at[11]}", K),
+                ("iptc", "IPTC", f"Photoshop resource 0404 in the APP13 segment at {at[11]}", K),
                 ("exif", "third Exif", f"Photoshop resource 0422 in the APP13 segment at {at[11]}", A),
                 ("xmp", "third XMP", f"Photoshop resource 0424 in the APP13 segment at {at[11]}", T),
-                ("iim", "second IPTC", f"Photoshop resource 0404 in the APP13 segment at {at[13]}", L),
+                ("iptc", "second IPTC", f"Photoshop resource 0404 in the APP13 segment at {at[13]}", L),
                 ("xmp", "extended XMP", f"APP1 segment at {at[3]}", b"extended"),
             ],
             [
@@ -107,7 +107,7 @@ class Readers(unittest.TestCase):
             what = "bytes behind the Photoshop resources in the APP13 segment at 2"
             self.seen(
                 jpeg(app13(one + rest)),
-                [("iim", "IPTC", "Photoshop resource 0404 in the APP13 segment at 2", K)],
+                [("iptc", "IPTC", "Photoshop resource 0404 in the APP13 segment at 2", K)],
                 [(what, unread)] if unread else [],
             )
 
@@ -303,9 +303,9 @@ class Readers(unittest.TestCase):
                 ("xmp", "fourth XMP", f"zTXt chunk at {at[8]}", T),
                 ("exif", "fourth Exif", f"zTXt chunk at {at[9]}", A),
                 ("exif", "fifth Exif", f"zTXt chunk at {at[10]}", A),
-                ("iim", "IPTC", f"zTXt chunk at {at[11]}", K),
-                ("iim", "second IPTC", f"Photoshop resource 0404 in the zTXt chunk at {at[12]}", L),
-                ("iim", "third IPTC", f"Photoshop resource 0404 in the zTXt chunk at {at[13]}", K),
+                ("iptc", "IPTC", f"zTXt chunk at {at[11]}", K),
+                ("iptc", "second IPTC", f"Photoshop resource 0404 in the zTXt chunk at {at[12]}", L),
+                ("iptc", "third IPTC", f"Photoshop resource 0404 in the zTXt chunk at {at[13]}", K),
                 ("xmp", "fifth XMP", f"zTXt chunk at {at[14]}", U),
             ],
             [
@@ -341,7 +341,7 @@ class Readers(unittest.TestCase):
             self.seen(png(chunk(b"zTXt", head + text)), [], [(f"text chunk that cannot be read ({why})", head + text)])
         self.seen(
             png(chunk(b"zTXt", head + b"\0" + zlib.compress(b"  \niptc\n0000000003 1c\n02 19"))),
-            [("iim", "IPTC", "zTXt chunk at 33", b"\x1c\2\x19")],
+            [("iptc", "IPTC", "zTXt chunk at 33", b"\x1c\2\x19")],
         )
 
     def test_broken_pngs(self):
@@ -417,8 +417,8 @@ class Readers(unittest.TestCase):
             [(it.kind, it.name, it.where, it.data) for it in found.found],
             [
                 ("xmp", "XMP", "tag 02bc of page 1", T),
-                ("iim", "IPTC", "tag 83bb of page 1", K),
-                ("iim", "second IPTC", "Photoshop resource 0404 in the tag 8649 of page 1", L),
+                ("iptc", "IPTC", "tag 83bb of page 1", K),
+                ("iptc", "second IPTC", "Photoshop resource 0404 in the tag 8649 of page 1", L),
                 ("exif", "Exif", f"{places[0]}, without StripByteCounts, StripOffsets, SubIFDs", kept),
                 ("exif", "Exif of SubIFD 1 of page 1", f"{places[1]}, without SubIFDs", [0x10F]),
                 ("exif", "Exif of SubIFD 1 of SubIFD 1 of page 1", places[2], [0x110]),
@@ -513,7 +513,7 @@ class Readers(unittest.TestCase):
             [("exif", "Exif", "EXIF chunk at 12", long), ("xmp", "XMP", f"XMP chunk at {20 + len(long)}", many)],
         )
         found = found_in(tiff([(0x02BC, 1, many), (0x83BB, 7, K), (0x010F, ASCII, b"x" * 1_000_000)]))
-        self.assertEqual([(it.kind, len(it.data)) for it in found.found], [("xmp", len(many)), ("iim", len(K)), ("exif", 26 + 1_000_000)])
+        self.assertEqual([(it.kind, len(it.data)) for it in found.found], [("xmp", len(many)), ("iptc", len(K)), ("exif", 26 + 1_000_000)])
 
     def test_where_a_tiff_ends(self):
         """After its last directory, value or strip, wherever that is: what follows is a trailer."""
@@ -578,6 +578,6 @@ class Readers(unittest.TestCase):
         words = ["first", "second", "third", "fourth", "fifth", "sixth", "seventh", "eighth", "ninth", "10th", "11th"]
         self.assertEqual([ordinal(it) for it in range(1, 12)], words)
         some = Blocks()
-        for kind, part in (("xmp", ""), ("xmp", "page 2"), ("xmp", "page 2"), ("iim", "")):
+        for kind, part in (("xmp", ""), ("xmp", "page 2"), ("xmp", "page 2"), ("iptc", "")):
             some.add(kind, b"", "", part)
         self.assertEqual([it.name for it in some.found], ["XMP", "XMP of page 2", "second XMP of page 2", "IPTC"])

@@ -14,7 +14,6 @@ from ..fields.left_out import lines, members_of
 from ..fields.listing import MAKER_NOTE, Field
 from ..fields.plain_names import exact_key, group_name
 from ..fields.typed import together
-from ..model.records import WORDS
 from ..model.results import Result
 from ..model.steps import Step
 from ..model.texts import Members, path_members
@@ -68,7 +67,7 @@ def _members(comparison: Compared) -> Members:
     members: Members = {**path_members(comparison.name), "result": comparison.result, "note": comparison.note or None}
     members["coded_picture"] = comparison.picture
     members["moved_to"] = None if comparison.moved_to is None else path_members(comparison.moved_to)
-    members["kinds"] = {WORDS[one.kind]: one.result for one in comparison.verdicts}
+    members["kinds"] = {one.kind: one.result for one in comparison.verdicts}
     members["maker_note"] = None
     if comparison.maker_note is not None:
         values = [{"name": one.name, "before": one.before, "after": one.after} for one in comparison.maker_note]

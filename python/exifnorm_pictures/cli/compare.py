@@ -16,7 +16,7 @@ from ..fields.choosing import Choice
 from ..fields.left_out import lines, members_of
 from ..fields.typed import together
 from ..model.problems import NO_BYTES
-from ..model.records import WORDS, Picture
+from ..model.records import Picture
 from ..model.results import Result
 from ..model.texts import Members, escaped, shown_path
 from ..scan.batches import How
@@ -181,7 +181,7 @@ def _members(comparison: ComparedPair, rows: Sequence[FieldRow], names: Sequence
         pictures.append({**picture_object(name, picture.problem, picture.detail), **about})
     whole: Members = {"pictures": pictures, "result": comparison.result, "identical_files": comparison.is_identical}
     whole["coded_picture"] = Coded.SAME if comparison.is_identical else comparison.found.picture
-    kinds = {WORDS[it.kind]: it.result for it in comparison.found.verdicts}
+    kinds = {it.kind: it.result for it in comparison.found.verdicts}
     return {
         **whole,
         "note": comparison.found.note or None,

@@ -9,7 +9,7 @@ from typing import Callable, Iterator, List, Tuple
 from ..extract.named import blocks_of_named
 from ..judge.reading import Reading
 from ..model.found import FoundBlock, each_kind
-from ..model.records import WORDS, Block
+from ..model.records import Block
 from ..model.texts import Members, escaped, path_members, shown_path
 from .exit_codes import SUCCESS, UNKNOWN
 from .names import each_name, is_list
@@ -73,8 +73,3 @@ def _of_folder(command: str, name: bytes) -> str:
 
 def _refused(block: Block) -> Described:
     return [f"{block.name}: {block.line}"], block_members(block)
-
-
-def with_kind(members: Members) -> Members:
-    """The members with the kind's word as people know it."""
-    return {**members, "kind": WORDS.get(members["kind"], members["kind"])} if "kind" in members else members

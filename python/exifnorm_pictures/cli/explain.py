@@ -17,7 +17,7 @@ from ..model.records import Block
 from ..model.texts import Members
 from ..model.sides import Status
 from ..refusals import explain, mend
-from .each_block import Described, each_block, with_kind
+from .each_block import Described, each_block
 from .output import block_members
 
 
@@ -32,7 +32,7 @@ def run(arguments: argparse.Namespace) -> int:
         mended = None if arguments.block else tried(name)
         explained = explain.explain_packet(block) if block.kind == XMP else explain.explain(block.kind, at.data)
         explained.is_without_remedy = mended is not None and mended.remedy == mend.Remedy.NONE
-        members = {**with_kind(explained.members()), "repair": [one._asdict() for one in block.steps], "mend": _members(mended)}
+        members = {**explained.members(), "repair": [one._asdict() for one in block.steps], "mend": _members(mended)}
         return [line, *explained.lines()[1:], *_repair(block), *_lines(mended)], members
 
     return each_block(arguments, lambda: describe, refused_too=True)

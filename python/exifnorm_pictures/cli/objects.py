@@ -5,7 +5,7 @@ from __future__ import annotations
 import json
 from typing import List, Optional
 
-from ..model.records import WORDS, Block, Picture
+from ..model.records import Block, Picture
 from ..model.texts import Members, path_members
 
 # The version of a command's objects. It grows if a key is renamed or removed, or gets another meaning; a new key alone doesn't count.
@@ -44,7 +44,7 @@ def picture_object(path: bytes, problem: Optional[str], detail: str) -> Members:
 def block_object(block: Block) -> Members:
     """A block."""
     return {
-        "kind": WORDS[block.kind],
+        "kind": block.kind,
         "name": block.name,
         "status": block.status,
         "digest": block.digest,

@@ -10,7 +10,7 @@ from typing import TYPE_CHECKING, List, Optional, Sequence
 
 from ..model.found import damage
 from ..model.problems import Problem
-from ..model.records import WORDS, Block, Picture
+from ..model.records import Block, Picture
 from ..model.steps import loses, words
 from ..model.texts import Members, safe, shown_path
 from .columns import NARROWEST, folded
@@ -93,7 +93,7 @@ def kind_of_part(what: str) -> str:
 def block_members(block: Block) -> Members:
     """A block as a JSON object."""
     known = {
-        "kind": WORDS[block.kind],
+        "kind": block.kind,
         "name": block.name,
         "status": block.status,
         "digest": block.digest,

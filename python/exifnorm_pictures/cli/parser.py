@@ -7,8 +7,8 @@ import itertools
 import sys
 from typing import IO, Callable, Dict, NoReturn, Optional, Sequence, Tuple
 
+from ..model.found import KINDS
 from ..model.budgets import PROGRAM_SECONDS
-from ..model.records import KIND_OF
 from ..model.texts import safe
 from .exit_codes import USAGE
 
@@ -254,7 +254,7 @@ def _same_arguments(parser: argparse.ArgumentParser) -> None:
     _example(parser, "same --catalogue archive.catalogue --csv > same.csv")
     parser.add_argument("--catalogue", required=True, type=_name, metavar="FILE")
     words = "the blocks that must mean the same (all); pixels: the coded picture must be the same, by the digests of index --pixels"
-    parser.add_argument("--kind", choices=("all", *KIND_OF, PIXELS), default="all", help=words)
+    parser.add_argument("--kind", choices=("all", *KINDS, PIXELS), default="all", help=words)
     parser.add_argument("--least-fields", type=_positive, default=0, metavar="N", help="leave out groups of pictures with fewer fields")
     parser.add_argument("--no-look", action="store_true", help="don't look at the files, as for a catalogue from elsewhere")
     _choice_arguments(parser)

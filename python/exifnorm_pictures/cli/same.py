@@ -19,7 +19,8 @@ from ..fields.left_out import BY_LISTING, members_of, of_labels
 from ..files import signals
 from ..model.results import Result
 from ..model.errors import WrongUse
-from ..model.records import KINDS, KIND_OF, WORDS, Picture
+from ..model.found import KINDS
+from ..model.records import Picture
 from ..model.texts import Members, path_members, shown_path
 from .choice import choice_of, listings_of, note_absent, refuse_unknown
 from .exit_codes import UNKNOWN, status_of_results
@@ -65,7 +66,7 @@ class _Listed:
 
 def run(arguments: argparse.Namespace) -> int:
     """Lists the groups of pictures that mean the same."""
-    kinds = KINDS if arguments.kind in ("all", PIXELS) else (KIND_OF[arguments.kind],)
+    kinds = KINDS if arguments.kind in ("all", PIXELS) else (arguments.kind,)
     chosen = chosen_paths(arguments)
     with contextlib.ExitStack() as open_:
         catalogue = open_.enter_context(Catalogue(arguments.catalogue))
@@ -233,7 +234,7 @@ def _print_group(number: int, group: Group, keeps: Keeps) -> None:
         "count": group.count,
         "description": sentence_of(group),
         "basis": group.basis,
-        "digests": {WORDS[kind]: digest for kind, digest in group.digests.items()},
+        "digests": group.digests,
         "same_bytes": group.same_bytes,
         "wholly_read": group.is_wholly_read,
         "links": [{**path_members(one.path), "of": path_members(one.of), "how": one.how} for one in group.files.links],

@@ -11,8 +11,8 @@ from ..fields.choosing import Choice
 from ..fields.listing import MAKER_NOTE, Field, exact
 from ..fields.packing import unpacked
 from ..model import steps
-from ..model.found import EXIF, NAMES
-from ..model.records import KINDS, PICTURES, WORDS, has, kind_of
+from ..model.found import EXIF, KINDS, NAMES
+from ..model.records import PICTURES, has, kind_of
 from ..model.sides import Status, joined
 from .differing import equal_form
 
@@ -63,10 +63,10 @@ _JOINED = "main.pictures LEFT JOIN temp.remaining USING (id)"
 def _columns(choice: Choice) -> str:
     """The columns of a picture, with the digests of the fields that count."""
     has_blocks = "remaining.id IS NOT NULL"
-    columns = {it: f"CASE WHEN {has_blocks} THEN remaining.{it} ELSE pictures.{it} END" for it in WORDS.values()}
+    columns = {it: f"CASE WHEN {has_blocks} THEN remaining.{it} ELSE pictures.{it} END" for it in KINDS}
     columns["exif_repaired"] = f"CASE WHEN {has_blocks} THEN repaired ELSE exif_repaired END"
     columns["other_exif"] = f"CASE WHEN {has_blocks} AND other_exif != '' THEN remaining.other ELSE other_exif END"
-    columns.update({f"{it}_octets": f"CASE WHEN remaining.{it} = '' THEN '' ELSE {it}_octets END" for it in WORDS.values()})
+    columns.update({f"{it}_octets": f"CASE WHEN remaining.{it} = '' THEN '' ELSE {it}_octets END" for it in KINDS})
     if choice.leaves_out_maker_notes:
         columns.update(maker_notes="''", not_read="other_not_read")
     return ", ".join(f"{columns.get(it, f'pictures.{it}')} AS {it}" for it in PICTURES.names)

@@ -6,9 +6,9 @@ import os
 from dataclasses import dataclass, field
 from typing import Dict, Iterator, List, NamedTuple, Optional, Tuple
 
-from ..model.found import EXIF
+from ..model.found import EXIF, KINDS
 from ..model.problems import Problem
-from ..model.records import KINDS, Picture
+from ..model.records import Picture
 from ..model.results import Result
 from ..model.words import Word
 

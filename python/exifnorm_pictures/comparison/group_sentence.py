@@ -4,8 +4,8 @@ from __future__ import annotations
 
 from typing import Dict, List, Sequence
 
-from ..model.found import EXIF, NAMES, XMP
-from ..model.records import KINDS, Picture
+from ..model.found import EXIF, KINDS, NAMES, XMP
+from ..model.records import Picture
 from ..model.results import Result
 from ..model.verdicts import clause, with_verb, none_of
 from .group import Basis, Group

@@ -15,9 +15,9 @@ from ..fields.choosing import EVERYTHING, Choice, UnknownField
 from ..fields.packing import unpacked
 from ..files.session import Session
 from ..model import steps
-from ..model.found import EXIF, NAMES, each_kind
+from ..model.found import EXIF, KINDS, NAMES, each_kind
 from ..model.problems import NOT_THERE
-from ..model.records import KINDS, WORDS, Picture, picture_of_row
+from ..model.records import Picture, picture_of_row
 from ..model.results import Result
 from .group import Basis, Group, Shared
 from .group_files import files_of
@@ -37,7 +37,7 @@ class _Query(NamedTuple):
 
 
 def _queries(kinds: Sequence[str], only: Optional[str]) -> Iterator[_Query]:
-    columns = [WORDS[it] for it in kinds]
+    columns = list(kinds)
     chosen = f" AND path IN {only}" if only else ""
     there = "(" + " OR ".join(f"{it}_octets != ''" for it in columns) + ")"
     base = f"problem IS NULL AND not_read IS NOT NULL AND {there}"
@@ -252,7 +252,7 @@ def totals(catalogue: Catalogue, kinds: Sequence[str] = KINDS, only: Optional[st
 
 def left_out(catalogue: Catalogue, kinds: Sequence[str] = KINDS, only: Optional[str] = None) -> int:
     """How many pictures with a block can't be in a group by their meaning, because a block is refused or a part was neither read nor compared."""
-    columns = [WORDS[it] for it in kinds]
+    columns = list(kinds)
     where = f"problem IS NULL AND (not_read IS NULL OR {' OR '.join(f'{it} IS NULL' for it in columns)})"
     where += f" AND path IN {only}" if only else ""
     rows: List[Tuple[int, ...]] = list(catalogue.rows(f"SELECT count(*) FROM pictures WHERE {where}"))

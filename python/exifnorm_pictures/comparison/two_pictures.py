@@ -15,9 +15,9 @@ from ..fields.plain_names import group_name
 from ..fields.plain_values import POSITION_TAGS, plain, position
 from ..files.session import Session
 from ..judge.sides import Fresh
-from ..model.found import EXIF, IPTC, NAMES
+from ..model.found import EXIF, IPTC, KINDS, NAMES
 from ..model.problems import Problem
-from ..model.records import KINDS, Picture, Stamp
+from ..model.records import Picture, Stamp
 from ..model.results import Result
 from ..scan.batches import How
 from ..scan.looking import look

@@ -21,7 +21,7 @@ from ..fields.typed import typed
 from ..files.session import Session
 from ..model import steps
 from ..model.budgets import CACHED
-from ..model.records import WORDS, Block, Picture
+from ..model.records import Block, Picture
 from ..model.texts import shown_path
 from ..scan.progress import Progress
 from .tables import Row, Tables
@@ -112,7 +112,7 @@ def _time(nanoseconds: Optional[int]) -> Optional[str]:
 
 def _block_row(picture: Picture, number: int, block: Block) -> Row:
     repair = steps.words(block.steps) or None
-    about = (WORDS[block.kind], block.name, block.source, block.extractor, block.status, block.cause, block.place, block.length)
+    about = (block.kind, block.name, block.source, block.extractor, block.status, block.cause, block.place, block.length)
     return (picture.id, number, *about, repair, block.digest, int(block.note is not None))
 
 

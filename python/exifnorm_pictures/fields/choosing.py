@@ -66,7 +66,7 @@ def kinds_of(pattern: str) -> FrozenSet[str]:
     """The kinds of blocks that can have a field of a pattern.
 
     >>> sorted(kinds_of("GPS:*")), sorted(kinds_of("2:25")), sorted(kinds_of("dc:title")), len(kinds_of("Artist"))
-    (['exif'], ['iim'], ['xmp'], 3)
+    (['exif'], ['iptc'], ['xmp'], 3)
     """
     group, colon, _ = pattern.casefold().partition(":")
     if group in EXIF_GROUPS:

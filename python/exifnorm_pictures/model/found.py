@@ -11,7 +11,7 @@ from .budgets import BLOCKS, NOT_READ, Budget
 
 COMPRESSED = b"brob"  # how a block begins that is compressed by Brotli, as a box of JPEG XL: no block of a kind begins like this
 FEW = 8  # blocks or parts of a usual picture at most; more are counted, which takes time
-EXIF, IPTC, XMP = "exif", "iim", "xmp"
+EXIF, IPTC, XMP = KINDS = ("exif", "iptc", "xmp")  # the kinds of blocks, as catalogues and JSON call them; the engine says iim
 NAMES = {EXIF: "Exif", IPTC: "IPTC", XMP: "XMP"}
 OWN, EXIFTOOL, EXIV2 = "own", "exiftool", "exiv2"  # which program extracted a block
 PROGRAMS = {EXIFTOOL: "ExifTool", EXIV2: "exiv2"}

@@ -10,24 +10,19 @@ from typing import Annotated, Any, Dict, Iterable, List, NamedTuple, Optional, S
 
 from .budgets import ROW_BYTES
 from .columns import LONGEST, Columns, Damaged, Is, check
-from .found import EXIF, EXIFTOOL, IPTC, PROGRAMS, XMP, Blocks, NotRead
+from .found import EXIF, EXIFTOOL, KINDS, PROGRAMS, XMP, Blocks, NotRead
 from .steps import Step, loses, unpacked
 from .sides import REACHED, Side, Status, joined, side_of
 
-KINDS = (EXIF, IPTC, XMP)
-WORDS = {EXIF: "exif", IPTC: "iptc", XMP: "xmp"}  # the names for people and in the catalogue: archivists know IPTC, the engine IIM
-KIND_OF = {word: kind for kind, word in WORDS.items()}
-
 _PATH = 5000  # bytes: Linux opens paths of 4,095, and lists a name of 255 in such a folder
 _STEPS, _EACH = 1 << 20, 1 << 20  # characters of the steps of a repair, and of what each of a picture's blocks or sidecars adds
-TOO_LONG, FAILED = "too long", "failed"
 AS_BEFORE = " as before"
 
 
 class Block(NamedTuple):
     """A block: its name, its position in the file, its reader, and the result of judging it. `fields.block_fields` has its fields."""
 
-    kind: Annotated[str, "exif, iptc, xmp"]  # in a catalogue a word of WORDS
+    kind: Annotated[str, "exif, iptc, xmp"]
     name: Annotated[str, "Exif, IPTC, XMP; of further blocks a name of their own"]  # `second Exif`, `page 2`
     source: Annotated[str, "its position in the file"]
     extractor: Annotated[str, "own, exiftool, exiv2"]
@@ -57,7 +52,7 @@ class Block(NamedTuple):
 
     def row(self) -> Tuple[Any, ...]:
         """The block as a row of the catalogue."""
-        return (WORDS[self.kind], *self[1 : BLOCKS.width])
+        return self[: BLOCKS.width]
 
     @property
     def is_accepted(self) -> bool:
@@ -286,7 +281,7 @@ def _compared(problem: Optional[str], blocks: Sequence[Block], unread: Sequence[
         by_kind[block.kind].append(block)
     sides = [side_of(ours) for ours in by_kind.values()]
     known: Dict[str, Any] = {}
-    for word, side in zip(WORDS.values(), sides):
+    for word, side in zip(KINDS, sides):
         known[word] = side.digest if side.status == Status.ACCEPTED else "" if side.status == Status.ABSENT else None
         known[f"{word}_octets"] = side.octets
     known["not_read"] = known["other_not_read"] = _parts_digest(unread)
@@ -334,9 +329,9 @@ def has_short(kind: type, *values: object) -> None:
 
 def kind_of(word: str) -> str:
     """The kind of a block by its word in a catalogue. Raises `Damaged` if there is none."""
-    if word not in KIND_OF:
+    if word not in KINDS:
         raise Damaged(f"{word!r} is no kind of block")
-    return KIND_OF[word]
+    return word
 
 
 PICTURES = Columns(Picture, last=["run INTEGER NOT NULL REFERENCES runs(id)"])

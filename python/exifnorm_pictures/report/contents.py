@@ -23,7 +23,7 @@ from ..fields.choosing import EVERYTHING, Choice
 from ..fields.left_out import lines
 from ..files.session import Session
 from ..model.problems import Problem
-from ..model.records import WORDS, Picture, has_short, kind_of
+from ..model.records import Picture, has_short, kind_of
 from ..model.results import Result
 from ..model.texts import Members, path_members, shown_path
 from .contradictions import Contradictions, checked, texts_by_standard
@@ -276,7 +276,7 @@ def members(about: About) -> Iterator[Members]:
     for block in _refused(about):
         yield {
             "refused": path_members(block.path),
-            "kind": WORDS[block.kind],
+            "kind": block.kind,
             "name": block.name,
             "cause": block.cause,
             "refusal": block.refusal,
