@@ -6,5 +6,6 @@ pub mod Pieces
 pub mod Lines
 pub mod Verdicts
 pub mod Holding
+pub mod Keyed
 pub mod Asked
 pub mod Sizes

@@ -7,6 +7,14 @@ use Rattle.px_bytes.specs.Held.{mark_bytes}
 abbrev pub chunks_request : ℕ → ℕ
 chunks_request n = 64 * n
 
+-- to place n chunks in a plan, 8 bytes each: the lists double, so that four times as many are asked for
+abbrev pub place_request : ℕ → ℕ
+place_request n = 32 * n
+
+-- to plan the normal form of a meaning with n chunks
+abbrev pub plan_request : ℕ → ℕ
+plan_request n = chunks_request n + place_request n
+
 -- to judge the plan of a block of so many bytes for n chunks: to list them, and the marks of the claimed bytes
 abbrev pub legal_request : ℕ → ℕ → ℕ
 legal_request n bytes = chunks_request n + mark_bytes bytes

@@ -1,4 +1,5 @@
 -- Definitions for the contracts of single calls. The definitions of plans and layouts are in px_layout.
+pub mod Keyed
 pub mod Kept
 pub mod Counted
 pub mod Planned

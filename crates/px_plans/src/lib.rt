@@ -14,6 +14,7 @@
 #![tactic(auto)]
 
 mod building;
+mod keyed;
 mod layout;
 mod legal;
 mod normal;

@@ -1,10 +1,13 @@
 // The plan of the normal form.
-ghost use Rattle.std.specs.Prelude.{◌≡◌, ◌≤◌};
+ghost use Rattle.std.specs.Prelude.{◌≡◌, ◌≤◌, ◌+◌, OnOk, length};
+ghost use Rattle.px_bytes.specs.Lacking.{AsksAtMost};
 ghost use Rattle.px_bytes.specs.Parts.{limit};
 ghost use Rattle.px_bytes.specs.calls.Writing.{LacksWrite};
 ghost use Rattle.px_meaning.specs.Fits.{Fits};
 ghost use Rattle.px_meaning.specs.calls.Seen.{meaning_of};
-ghost use Rattle.px_plans.specs.calls.Planned.{plan_of, bare};
+ghost use Rattle.px_layout.specs.Chunks.{chunks};
+ghost use Rattle.px_plans.specs.Asking.{place_request, plan_request};
+ghost use Rattle.px_plans.specs.calls.Planned.{plan_of, bare, paid_of};
 ghost use Rattle.px_plans.specs.calls.PlanningNormal.{AnswersNext, AnswersAll, AnswersPlan};
 
 use crate::plan::Plan;
@@ -25,6 +28,8 @@ fn place_next(
     requires { at ≤ limit }
     ensures next { AnswersNext result (plan_of plan.old) (plan_of plan.new) at (chunk, size) }
     ensures memory { LacksWrite result memory.old memory.new }
+    ensures asked { memory.new.asked ≤ memory.old.asked + paid_of plan.old + place_request 1 }
+    ensures paid { OnOk result (memory.new.asked + paid_of plan.new ≤ memory.old.asked + paid_of plan.old + place_request 1) }
 {
     let Some(end) = behind(at, size) else {
         return Err(WriteRefusal::NormalTooLong);
@@ -42,6 +47,7 @@ fn place_all(
     requires { plan_of plan.old ≡ bare 8 }
     ensures all { AnswersAll result (plan_of plan.new) chunks.now }
     ensures memory { LacksWrite result memory.old memory.new }
+    ensures asked { memory.new.asked ≤ memory.old.asked + paid_of plan.old + place_request (length chunks.now) }
 {
     let mut at = 8;
     for i in 0..chunks.len() {
@@ -69,6 +75,7 @@ pub fn plan_normal_in(memory: &mut Memory, m: &Meaning) -> Result<Plan, WriteRef
     requires { Fits (meaning_of m.now) }
     ensures plan { AnswersPlan result (meaning_of m.now) }
     ensures memory { LacksWrite result memory.old memory.new }
+    ensures asked { AsksAtMost (plan_request (length (chunks (meaning_of m.now)))) memory.old memory.new }
 {
     let chunks = chunk_sizes(memory, m)?;
     let mut plan = Plan::new_in(memory, 8);

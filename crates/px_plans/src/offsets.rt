@@ -4,30 +4,31 @@ ghost use Rattle.px_bytes.specs.Lacking.{Lacks};
 ghost use Rattle.px_layout.specs.declared.chunks.Chunk.{Chunk as AnyChunk};
 ghost use Rattle.px_layout.specs.declared.chunks.Chunk.TheVariants.{Table, Placed, Jpeg, Strip};
 ghost use Rattle.px_layout.specs.Chunks.{same_chunk};
-ghost use Rattle.px_plans.specs.calls.Kept.{value_in, strip_in, dir_in, offset_in, dir_size, strips_size, size_in};
+ghost use Rattle.px_plans.specs.calls.Kept.{key_in, dir_in, offset_in, dir_size, size_in, keyed_paid, paid_in};
 
+use crate::keyed::KeyedOffsets;
 use px_bytes::{Memory, Refused};
 use px_layout::Chunk;
 use px_tree::Dir;
 use std::alloc::Global;
-use std::collections::BTreeMap;
 
 // The offsets of a directory: of its table, and of its values by tag.
 #[derive(Drop)]
 pub(crate) struct DirOffsets {
     table: Option<u32>,
-    values: BTreeMap<u16, u32>,
+    values: KeyedOffsets,
 }
 
 impl DirOffsets {
     fn new(memory: &Memory) -> DirOffsets
         ensures table { result.table ≡ None }
         ensures size { dir_size result ≡ 0 }
-        ensures values { (t : ℕ) → value_in result t ≡ None }
+        ensures values { (t : ℕ) → key_in result.values t ≡ None }
+        ensures paid { keyed_paid result.values ≡ 0 }
     {
         DirOffsets {
             table: None,
-            values: memory.map(),
+            values: KeyedOffsets::new(memory),
         }
     }
 
@@ -35,80 +36,7 @@ impl DirOffsets {
         ensures value { result ≡ dir_size self.now }
         ensures bound { result ≤ 2 ^ 64 }
     {
-        u128::from(self.table.is_some()) + self.values.len() as u128
-    }
-
-    fn value(&self, tag: u16) -> Option<u32>
-        ensures { result ≡ value_in self.now tag }
-    {
-        self.values.get(&tag).copied()
-    }
-
-    // Adds the offset of a value that has none yet.
-    fn put_value(&mut self, memory: &mut Memory, tag: u16, offset: u32) -> Result<(), Refused>
-        requires { value_in self.old tag ≡ None }
-        ensures table { self.new.table ≡ self.old.table }
-        ensures ok { OnOk result ((t : ℕ) → value_in self.new t ≡ (if tag == t then Some offset else value_in self.old t)) }
-        ensures err { OnErr result ((t : ℕ) → value_in self.new t ≡ value_in self.old t) }
-        ensures size { OnOk result (dir_size self.new ≡ dir_size self.old + 1) }
-        ensures kept { OnErr result (dir_size self.new ≡ dir_size self.old) }
-        ensures memory { Lacks result memory.old memory.new }
-    {
-        memory.put(&mut self.values, tag, offset)?;
-        Ok(())
-    }
-}
-
-// The offsets of strips. Those that are added in ascending order from strip 0 on are in a vector, any other
-// in a map.
-#[derive(Drop)]
-pub(crate) struct StripOffsets {
-    line: Vec<u32>,
-    others: BTreeMap<u32, u32>,
-}
-
-impl StripOffsets {
-    fn new(memory: &Memory) -> StripOffsets
-        ensures none { (i : ℕ) → strip_in result i ≡ None }
-        ensures size { strips_size result ≡ 0 }
-    {
-        StripOffsets {
-            line: memory.list(),
-            others: memory.map(),
-        }
-    }
-
-    fn size(&self) -> u128
-        ensures value { result ≡ strips_size self.now }
-        ensures bound { result < 2 ^ 65 }
-    {
-        self.line.len() as u128 + self.others.len() as u128
-    }
-
-    fn offset(&self, i: u32) -> Option<u32>
-        ensures { result ≡ strip_in self.now i }
-    {
-        if (i as usize) < self.line.len() {
-            return Some(self.line[i as usize]);
-        }
-        self.others.get(&i).copied()
-    }
-
-    // Adds the offset of a strip that has none yet.
-    fn put(&mut self, memory: &mut Memory, i: u32, offset: u32) -> Result<(), Refused>
-        requires { strip_in self.old i ≡ None }
-        ensures ok { OnOk result ((j : ℕ) → strip_in self.new j ≡ (if i == j then Some offset else strip_in self.old j)) }
-        ensures err { OnErr result ((j : ℕ) → strip_in self.new j ≡ strip_in self.old j) }
-        ensures size { OnOk result (strips_size self.new ≡ strips_size self.old + 1) }
-        ensures kept { OnErr result (strips_size self.new ≡ strips_size self.old) }
-        ensures memory { Lacks result memory.old memory.new }
-    {
-        if i as usize == self.line.len() {
-            memory.push(&mut self.line, offset)?;
-            return Ok(());
-        }
-        memory.put(&mut self.others, i, offset)?;
-        Ok(())
+        u128::from(self.table.is_some()) + self.values.size()
     }
 }
 
@@ -121,7 +49,7 @@ pub(crate) struct Offsets {
     gps: DirOffsets,
     thumb: DirOffsets,
     jpeg: Option<u32>,
-    strips: StripOffsets,
+    strips: KeyedOffsets,
 }
 
 impl Offsets {
@@ -129,6 +57,7 @@ impl Offsets {
     pub(crate) fn new(memory: &Memory) -> Offsets
         ensures none { (c : AnyChunk) → offset_in result c ≡ None }
         ensures size { size_in result ≡ 0 }
+        ensures paid { paid_in result ≡ 0 }
     {
         Offsets {
             main: DirOffsets::new(memory),
@@ -137,13 +66,13 @@ impl Offsets {
             gps: DirOffsets::new(memory),
             thumb: DirOffsets::new(memory),
             jpeg: None,
-            strips: StripOffsets::new(memory),
+            strips: KeyedOffsets::new(memory),
         }
     }
 
-    // The allocator of the vector and of the maps.
+    // The allocator of the vectors.
     pub(crate) fn allocator(&self) -> Global {
-        *self.strips.line.allocator()
+        self.strips.allocator()
     }
 
     // The number of chunks that have an offset.
@@ -177,7 +106,7 @@ impl Offsets {
     {
         match chunk {
             Chunk::Table(dir) => self.dir(dir).table,
-            Chunk::Placed(dir, tag) => self.dir(dir).value(tag),
+            Chunk::Placed(dir, tag) => self.dir(dir).values.offset(u32::from(tag)),
             Chunk::Jpeg => self.jpeg,
             Chunk::Strip(i) => self.strips.offset(i),
         }
@@ -187,6 +116,7 @@ impl Offsets {
         requires { offset_in self.old (Table dir) ≡ None }
         ensures size { size_in self.new ≡ size_in self.old + 1 }
         ensures put { (c : AnyChunk) → offset_in self.new c ≡ (if same_chunk (Table dir) c then Some offset else offset_in self.old c) }
+        ensures paid { paid_in self.new ≡ paid_in self.old }
     {
         let table = Some(offset);
         match dir {
@@ -212,13 +142,16 @@ impl Offsets {
         ensures size { OnOk result (size_in self.new ≡ size_in self.old + 1) }
         ensures kept { OnErr result (size_in self.new ≡ size_in self.old) }
         ensures memory { Lacks result memory.old memory.new }
+        ensures asked { memory.new.asked ≤ memory.old.asked + paid_in self.old + 32 }
+        ensures paid { OnOk result (memory.new.asked + paid_in self.new ≤ memory.old.asked + paid_in self.old + 32) }
     {
+        let tag = u32::from(tag);
         match dir {
-            Dir::Main => self.main.put_value(memory, tag, offset),
-            Dir::Exif => self.exif.put_value(memory, tag, offset),
-            Dir::Interop => self.interop.put_value(memory, tag, offset),
-            Dir::Gps => self.gps.put_value(memory, tag, offset),
-            Dir::Thumb => self.thumb.put_value(memory, tag, offset),
+            Dir::Main => self.main.values.put(memory, tag, offset),
+            Dir::Exif => self.exif.values.put(memory, tag, offset),
+            Dir::Interop => self.interop.values.put(memory, tag, offset),
+            Dir::Gps => self.gps.values.put(memory, tag, offset),
+            Dir::Thumb => self.thumb.values.put(memory, tag, offset),
         }
     }
 
@@ -226,6 +159,7 @@ impl Offsets {
         requires { offset_in self.old Jpeg ≡ None }
         ensures size { size_in self.new ≡ size_in self.old + 1 }
         ensures put { (c : AnyChunk) → offset_in self.new c ≡ (if same_chunk Jpeg c then Some offset else offset_in self.old c) }
+        ensures paid { paid_in self.new ≡ paid_in self.old }
     {
         self.jpeg = Some(offset);
     }
@@ -238,6 +172,8 @@ impl Offsets {
         ensures size { OnOk result (size_in self.new ≡ size_in self.old + 1) }
         ensures kept { OnErr result (size_in self.new ≡ size_in self.old) }
         ensures memory { Lacks result memory.old memory.new }
+        ensures asked { memory.new.asked ≤ memory.old.asked + paid_in self.old + 32 }
+        ensures paid { OnOk result (memory.new.asked + paid_in self.new ≤ memory.old.asked + paid_in self.old + 32) }
     {
         self.strips.put(memory, i, offset)
     }
@@ -256,6 +192,8 @@ impl Offsets {
         ensures size { OnOk result (size_in self.new ≡ size_in self.old + 1) }
         ensures kept { OnErr result (size_in self.new ≡ size_in self.old) }
         ensures memory { Lacks result memory.old memory.new }
+        ensures asked { memory.new.asked ≤ memory.old.asked + paid_in self.old + 32 }
+        ensures paid { OnOk result (memory.new.asked + paid_in self.new ≤ memory.old.asked + paid_in self.old + 32) }
     {
         match chunk {
             Chunk::Table(dir) => {

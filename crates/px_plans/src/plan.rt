@@ -1,5 +1,5 @@
 // Plans: the offset of each chunk of a block.
-ghost use Rattle.std.specs.Prelude.{◌≡◌, None, IsSome, IfOk, OnErr, true, false, if◌then◌else◌};
+ghost use Rattle.std.specs.Prelude.{◌≡◌, ◌≤◌, ◌+◌, None, IsSome, IfOk, OnOk, OnErr, true, false, if◌then◌else◌};
 ghost use Rattle.px_bytes.specs.Lacking.{Lacks};
 ghost use Rattle.px_plans.specs.calls.Kept.{offset_in, size_in};
 ghost use Rattle.px_plans.specs.calls.Counted.{IsCount};
@@ -12,8 +12,9 @@ use std::alloc::{AllocError, Global};
 /// A layout: the length of a block in bytes, and the offset of each of its chunks. TIFF 6.0 section 2 leaves
 /// offsets free.
 ///
-/// The offsets of strips that are placed in ascending order from strip 0 on are in a vector, four bytes each.
-/// Those of other strips and of values are in maps, so each costs the logarithm of their number in any order.
+/// The offsets of values and of strips are in vectors by tag and by number, eight bytes each, where one is found in
+/// the logarithm of their number. One that is placed after those with a lesser tag or number is appended; any other
+/// moves those after it.
 #[derive(Drop)]
 pub struct Plan {
     len: u32,
@@ -22,7 +23,8 @@ pub struct Plan {
 }
 
 impl Plan {
-    ghost use Rattle.px_plans.specs.calls.Planned.{plan_of, bare, with_chunk, with_length};
+    ghost use Rattle.px_plans.specs.Asking.{place_request};
+    ghost use Rattle.px_plans.specs.calls.Planned.{plan_of, bare, with_chunk, with_length, paid_of};
 
     /// Like `new_in`, with memory of its own.
     pub fn new(alloc: Global, len: u32) -> Plan
@@ -33,9 +35,10 @@ impl Plan {
 
     /// A plan of a block of `len` bytes without any chunk. It allocates nothing. Later calls use the
     /// allocator of `memory`.
-    #[tactic(auto, unfolding(crate::specs::calls::Planned::plan_of))]
+    #[tactic(auto, unfolding(crate::specs::calls::Planned::plan_of, crate::specs::calls::Planned::paid_of))]
     pub fn new_in(memory: &Memory, len: u32) -> Plan
-        ensures { plan_of result ≡ bare len }
+        ensures plan { plan_of result ≡ bare len }
+        ensures paid { paid_of result ≡ 0 }
     {
         Plan {
             len,
@@ -74,8 +77,8 @@ impl Plan {
 
     /// Places a chunk at an offset and returns true, or returns false and changes nothing if it is placed
     /// already. It accepts any offset: `is_legal` judges a plan. `Err`: an allocation failed, the chunk isn't
-    /// placed, and nothing has changed.
-    #[tactic(auto, unfolding(crate::specs::calls::Planned::plan_of))]
+    /// placed, and nothing has changed. Placing `n` chunks in a new plan asks for at most 32 bytes for each.
+    #[tactic(auto, unfolding(crate::specs::calls::Planned::plan_of, crate::specs::calls::Planned::paid_of))]
     pub fn place_in(
         &mut self,
         memory: &mut Memory,
@@ -89,6 +92,8 @@ impl Plan {
         ensures err { OnErr result (plan_of self.new ≡ plan_of self.old) }
         ensures unplaced { OnErr result ((plan_of self.old).offset chunk ≡ None) }
         ensures memory { Lacks result memory.old memory.new }
+        ensures asked { memory.new.asked ≤ memory.old.asked + paid_of self.old + place_request 1 }
+        ensures paid { OnOk result (memory.new.asked + paid_of self.new ≤ memory.old.asked + paid_of self.old + place_request 1) }
     {
         if self.offsets.offset(chunk).is_some() {
             return Ok(false);

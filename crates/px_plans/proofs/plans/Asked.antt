@@ -13,7 +13,6 @@ use Rattle.px_bytes.specs.calls.Grown.{Grown, grown_bytes}
 use Rattle.px_meaning.specs.declared.Dir.TheVariants.{Main, Exif, Interop, Gps, Thumb}
 use Rattle.px_meaning.specs.Tree.{Meaning}
 use Rattle.px_meaning.specs.Fits.{items}
-use Rattle.px_layout.specs.declared.chunks.Chunk.{Chunk}
 use Rattle.px_layout.specs.declared.chunks.Chunk.TheVariants.{Strip}
 use Rattle.px_layout.specs.Chunks.{chunks_of_dir, strip_chunks, thumb_chunks, chunks}
 use Rattle.px_layout.specs.lemmas.WalkLaws.{values_more, strips_more, chunks_gathered}

@@ -4,10 +4,14 @@ use Rattle.px_layout.specs.declared.chunks.Chunk.{Chunk}
 use Rattle.px_plans.specs.declared.plan.Plan.{Plan}
 use Rattle.px_layout.specs.Chunks.{same_chunk}
 use Rattle.px_layout.specs.Plans as said
-use Rattle.px_plans.specs.calls.Kept.{offset_in}
+use Rattle.px_plans.specs.calls.Kept.{offset_in, paid_in}
 
 unfoldable pub plan_of : Plan → said.Plan
 plan_of p = record { length = p.len; offset = offset_in p.offsets }
+
+-- the bytes that its chunks have paid for, and that the allocator wasn't asked for yet (`Spent`); none in a new plan
+unfoldable pub paid_of : Plan → ℕ
+paid_of p = paid_in p.offsets
 
 -- no chunk has an offset
 abbrev pub bare : ℕ → said.Plan

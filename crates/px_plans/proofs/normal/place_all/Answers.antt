@@ -13,6 +13,7 @@ pub loop-i-init : goal.loop-i-init
 loop-i-init c = record {
   placed = record { ends = refl; most = omega arith; each = λ d. ap (λ (p : Plan). p.offset d) c.requires };
   memory = refl;
+  paid = omega arith;
 }
 
 pub returns-in_err-at-clause-all : goal.returns-in_err-at-clause-all
@@ -34,6 +35,7 @@ loop-i-preserved c = record {
       (sym (take_more c.args.chunks.now c.loop-i.i (Table Main, 0) c.loop-i-test.true))
       (c.in_ok-at.ensures.next (take c.loop-i.i c.args.chunks.now) c.loop-i.invariant.placed);
   memory = c.in_ok-at.ensures.memory ∙ c.loop-i.invariant.memory;
+  paid = omega (arith, c.in_ok-at.ensures.paid, c.loop-i.invariant.paid);
 }
 
 pub returns-clause-all : goal.returns-clause-all
