@@ -4,6 +4,7 @@ import functools
 import hashlib
 import http.server
 import json
+import re
 import shutil
 import threading
 from pathlib import Path
@@ -136,6 +137,31 @@ def test_engine(node, module, session_folder):
     run("wasm-as", HERE / "trap.wat", "-o", module / "trap.wasm")
     said = node("--test", "--test-reporter=tap", "engine.test.mjs", folder=module)
     assert "# fail 0" in said and "# pass 0" not in said, said
+
+
+def declared(text):
+    """What a .d.ts file declares, as declared.mjs prints what is there: constants, functions with their parameters, and classes."""
+    plain = re.sub(r"/\*.*?\*/|//[^\n]*", "", text, flags=re.S)
+    found = {name: ["const", int(number)] for name, number in re.findall(r"export const (\w+): (\d+);", plain)}
+    for name, parameters in re.findall(r"export function (\w+)\((.*?)\): ", plain):
+        found[name] = ["function", parameters.count(":")]
+    for name, body in re.findall(r"export class (\w+)[^{]*\{(.*?)\}", plain, re.S):
+        methods = re.findall(r"(?m)^  (?!constructor)(\w+)\(", body)
+        found[name] = ["class", sorted([*methods, *(re.findall(r"readonly (\w+)", body) if methods else [])])]
+    return found
+
+
+def test_the_declared_types_are_those_of_the_module(node, module):
+    """Names, numbers of parameters and methods; and with tsc (Debian's package node-typescript), how each is used."""
+    for name in ("declared.mjs", "client.mts"):
+        shutil.copyfile(HERE / name, module / name)
+    there = json.loads(node("declared.mjs", folder=module))
+    texts = {name: (module / f"{name}.d.ts").read_text(encoding="utf-8") for name in there}
+    assert declared(texts["exifnorm"]) == there["exifnorm"]
+    again = re.search(r"export \{ (.*?) \} from", texts["engine"])[1].split(", ")
+    assert {**{name: there["exifnorm"][name] for name in again}, **declared(texts["engine"])} == there["engine"]
+    if shutil.which("tsc"):
+        run("tsc", "--noEmit", "--strict", "--target", "es2022", "--module", "node16", "--lib", "es2022,dom", "client.mts", folder=module)
 
 
 def test_the_module_imports_nothing_and_is_small(wasm, node):
