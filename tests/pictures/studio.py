@@ -255,6 +255,11 @@ def many():
     return Studio.once("many", make_many)
 
 
+def errors(text):
+    """The lines of standard error that aren't notes: what is said beside an answer is tested where that is the subject."""
+    return [line for line in text.splitlines() if not line.startswith("exifnorm-pictures: note: ")]
+
+
 def needs(*names):
     """Skips a test, by name, where a program or module isn't installed."""
     if not {*names} <= {*PROGRAMS, *MODULES}:

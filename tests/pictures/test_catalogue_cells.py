@@ -7,7 +7,7 @@ import sqlite3
 import pytest
 from made_blocks import with_exif
 from made_files import app1, app1_xmp, exif, jpeg, title
-from studio import SMALL_JPEG, put
+from studio import SMALL_JPEG, errors, put
 from test_repairs import REFUSED
 
 from exifnorm_pictures.catalogue.store import Catalogue
@@ -95,7 +95,7 @@ def test_each_cell(table, column, archive, capsys, monkeypatch):
             context = (table, column, name, words, status, printed.err[-1000:])
             assert status in (0, 1, 2, 4), context
             assert "internal error" not in printed.out + printed.err and "Traceback" not in printed.err, context
-            assert status != 4 or len(printed.err.splitlines()) == 1, context
+            assert status != 4 or len(errors(printed.err)) == 1, context
             assert not re.search("[\0-\x08\x0b-\x1f]", printed.err), context
 
 

@@ -10,7 +10,7 @@ import subprocess
 import pytest
 from made_blocks import BLOCKS, LONG, MAKE, block, entry, table
 from made_files import app1, app1_xmp, exif, iim, jpeg, with_record, xmp
-from studio import SMALL_JPEG, needs, tool
+from studio import SMALL_JPEG, errors, needs, tool
 
 from exifnorm_pictures.comparison.changed import _Left
 from exifnorm_pictures.fields.choosing import SAVES, Choice, fits_of as fits, kinds_of
@@ -350,7 +350,7 @@ def test_changed_has_what_was_left_out(run, folder):
             (folder / side / name).write_bytes(jpeg(app1(exif(make))))
     for words, lines in (([], 7), (["--each"], 5)):
         status, found, err = run("changed", "before", "after", "--ignore", "Make", "--ignore", "GPS", *words)
-        assert (status, err) == (0, "") and "No picture has a field GPS." in found
+        assert (status, errors(err)) == (0, []) and "No picture has a field GPS." in found
         assert "Left out though it differs: IFD0:Make (2 pictures)." in found and len(found) == lines
     *_, last = (json.loads(it) for it in run("changed", "before", "after", "--ignore", "Make", "--json")[1])
     assert (last["counts"], last["left_out"]) == ({BUT: 2}, {"IFD0:Make": 2})

@@ -11,7 +11,7 @@ import sys
 from in_process import InFolder
 from made_blocks import BLOCKS, MAKE, block, with_exif
 from made_files import app1_xmp
-from studio import SMALL_JPEG, Studio, WithPictures, needs, read, run, write
+from studio import SMALL_JPEG, Studio, WithPictures, errors, needs, read, run, write
 
 from exifnorm_pictures.catalogue.store import VERSION
 
@@ -256,7 +256,7 @@ class Tools(WithPictures):
         ):
             with self.subTest(words):
                 self.assertEqual(self.asked(*words, status=4, EXIFNORM_LIBRARY=self.path("nothing")), [])
-                self.assertRegex(self.complaint, r"^exifnorm-pictures: [^\n]*libexifnorm[^\n]*\n$")
+                self.assertEqual(["libexifnorm" in line for line in errors(self.complaint)], [True])
         self.assertEqual(self.asked("index", "many", "--catalogue", "c", "--quiet"), ["70 unchanged"])
 
     def has_ended(self, pid, looks=2000):
@@ -301,7 +301,7 @@ class Catalogues(InFolder):
             with self.subTest(name, call=call[0]):
                 self.asked(*call, status=4)
                 self.assertIn(words, self.complaint)
-                self.assertEqual(len(self.complaint.splitlines()), 1)
+                self.assertEqual(len(errors(self.complaint)), 1)
         self.assertEqual(read(self.path(name)), before)
         self.assertEqual([it for it in os.listdir(self.folder) if it.startswith(name + "-")], [])
 
@@ -361,7 +361,7 @@ class Catalogues(InFolder):
         write(self.path("cut"), octets[: len(octets) // 2])
         for call in (["same", "--catalogue", "cut"], ["index", "p", "--catalogue", "cut", "--quiet"]):
             self.asked(*call, status=4)
-            self.assertEqual(len(self.complaint.splitlines()), 1)
+            self.assertEqual(len(errors(self.complaint)), 1)
 
     def test_values_of_a_wrong_kind_in_groups(self):
         write(self.path("p", "twin.jpg"), GOOD)

@@ -20,7 +20,7 @@ from exifnorm_pictures.model import records
 from exifnorm_pictures.model.found import Blocks, NotRead
 from exifnorm_pictures.model.records import Block, Damaged, Picture, Stamp
 from made_files import jpeg, png as made_png
-from studio import run
+from studio import errors, run
 
 FAULT = "unsupported operand type(s) for +: 'NoneType' and 'int'"
 
@@ -74,7 +74,7 @@ def test_a_mistake_is_no_damage(command, monkeypatch, words, module, name):
         planted.setattr(module, name, mistake)
         printed = command(*words, status=4).err
     assert f"an internal error, please report it: TypeError: {FAULT} (exifnorm_pictures/" in printed
-    assert "damaged" not in printed and len(printed.splitlines()) == 1
+    assert "damaged" not in printed and len(errors(printed)) == 1
     where, _, line = printed.rpartition("(")[2].rstrip(")\n").partition(", line ")
     with open(os.path.join(os.path.dirname(os.path.dirname(os.path.dirname(store.__file__))), where)) as file:
         assert "(" in file.read().splitlines()[int(line) - 1]  # the call of what failed

@@ -17,7 +17,7 @@ from in_process import InProcess
 from made_blocks import ASCII, BLOCKS, LONG, UNDEFINED, block, entry, segment, table
 from made_files import A, B, K, L, T, T_OTHERWISE, U, XMP_HEAD, turned, xmp
 from made_files import app1, app13, app1_xmp, chunk, extension, jpeg, mpf, page, png, png_xmp, profile, resource, tiff, webp, with_record
-from studio import SMALL_JPEG, needs, read, run, write
+from studio import SMALL_JPEG, errors, needs, read, run, write
 
 from exifnorm_pictures.cli import looking, mend as mend_cli
 from exifnorm_pictures.refusals import mend
@@ -341,7 +341,7 @@ class Catalogues(Promises):
         with mock.patch.object(looking, "index", wraps=looking.index) as read_:
             for more in ([], ["--quiet"]):
                 self.printed("changed", "@/x", "@/both", "--jobs", "3", *more, status=1)
-                self.assertEqual(self.complaint, "")
+                self.assertEqual(errors(self.complaint), [])
         self.assertEqual([it.args[0].how.processes for it in read_.mock_calls], [3, 3])
 
     def test_report(self):

@@ -14,7 +14,7 @@ from exifnorm_pictures.refusals import causes
 from exifnorm_pictures.scan import index
 from made_blocks import BLOCKS
 from made_files import app1, app1_xmp, exif, jpeg, title
-from studio import needs
+from studio import errors, needs
 
 GOOD = jpeg(app1(exif(b"abc")), app1_xmp(title("a")))
 
@@ -105,11 +105,12 @@ def test_names_of_a_list_that_no_picture_has(called, folder, words):
     (folder / "p/a.jpg").write_bytes(GOOD)
     assert called("index", "p", "--catalogue", "c", "--quiet")[0] == 0
     (folder / "list").write_text("p/a.jpg\n")
-    assert called(*words, "--files-from", "list")[::2] == (0, "")
+    status, _, message = called(*words, "--files-from", "list")
+    assert status == 0 and "no picture's" not in message
     (folder / "list").write_text("p/a.jpg\np/b.jpg\np/c.jpg\n")
     status, _, message = called(*words, "--files-from", "list")
     named = "p/b.jpg, p/c.jpg" if words[0] == "changed" else f"{folder}/p/b.jpg, {folder}/p/c.jpg"
-    assert (status, message) == (0, f"exifnorm-pictures: note: 2 names of the list are no picture's: {named}\n")
+    assert status == 0 and f"exifnorm-pictures: note: 2 names of the list are no picture's: {named}\n" in message
 
 
 def test_a_name_of_a_list_below_a_folder(called, folder):
@@ -117,9 +118,9 @@ def test_a_name_of_a_list_below_a_folder(called, folder):
     (folder / "p/a.jpg").write_bytes(GOOD)
     (folder / "list").write_text("a.jpg\nb.jpg\n")
     status, _, message = called("changed", "p", "p", "--files-from", "list")
-    assert (status, message) == (0, "exifnorm-pictures: note: 1 name of the list is no picture's: b.jpg\n")
+    assert status == 0 and "exifnorm-pictures: note: 1 name of the list is no picture's: b.jpg\n" in message
     (folder / "list").write_text("e\nd\nc\nb\n")
-    assert called("changed", "p", "p", "--files-from", "list")[2].endswith("4 names of the list are no picture's: b, c, d, ..\n")
+    assert "4 names of the list are no picture's: b, c, d, ..\n" in called("changed", "p", "p", "--files-from", "list")[2]
 
 
 @pytest.mark.parametrize("names", [("p", "q"), ("q", "p")])
@@ -237,6 +238,6 @@ def test_a_catalogue_of_an_earlier_release(words, folder, called):
     base.close()
     before = (folder / "c").read_bytes()
     status, printed, message = called(*words)
-    assert (status, printed, message.count("\n")) == (4, "", 1), message
+    assert (status, printed, len(errors(message))) == (4, "", 1), message
     assert "earlier release (version 5" in message and message.endswith("exifnorm-pictures index FOLDER --catalogue NEW\n")
     assert (folder / "c").read_bytes() == before
