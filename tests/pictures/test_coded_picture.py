@@ -164,7 +164,7 @@ NONE = {
     "a PNG without an end": png()[:-12],
     "a WebP that is cut": webp((b"VP8 ", VP8))[:-3],
     "a TIFF with a strip outside": tiff(pixel(b"abcd", x111=(LONG, 0x7FFFFFF0))),
-    "a TIFF without lengths": tiff([it for it in pixel(b"abcd") if it[0] != 0x117]),
+    "TIFF, strips without lengths": tiff([it for it in pixel(b"abcd") if it[0] != 0x117]),
     "a TIFF with old tables": tiff(pixel(b"abcd", x207=(LONG, 8))),
     "a TIFF with its width outside": file_of(*entries_of(x100=(0x100, LONG, 2, b"\x7f\0\0\0"))),
     # What readers take otherwise than it is written

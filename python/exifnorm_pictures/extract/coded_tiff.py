@@ -107,6 +107,8 @@ def _strips(directories: Directories, page: Directory, entries: Entries, coded: 
     for tag, of_lengths in _OFFSETS.items():
         if tag not in entries and of_lengths not in entries:
             continue
+        if of_lengths not in entries:
+            raise NotFollowed("strips without lengths, as old programs write them")
         starts, lengths = (directories.numbers(entries[it]) if it in entries else [] for it in (tag, of_lengths))
         if len(starts) != len(lengths) or not starts:
             raise Broken(f"the strips of the directory at {page.at} have no lengths")
