@@ -219,12 +219,12 @@ class Lines(WithPictures):
             ),
             (
                 mend.Mended(mend.Remedy("copy"), {}),
-                ["a\\n: nothing was to be mended: a plain copy"],
+                ["a\\n: no block is to be mended: a plain copy"],
                 {"step": "copy", "before": {}, "lost": [], "gained": []},
             ),
             (
                 mend.Mended(mend.Remedy("copy"), {}, damage=["the rest"]),
-                ["a\\n: nothing was to be mended: a plain copy", "  not wholly read, and not mended: the rest"],
+                ["a\\n: damaged, which mend can't mend: the rest", "a\\n: no block is to be mended: a plain copy of what is there"],
                 {"step": "copy", "before": {}, "lost": [], "gained": [], "damage": ["the rest"]},
             ),
             (

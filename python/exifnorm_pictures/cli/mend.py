@@ -109,10 +109,12 @@ def _mended_lines(picture: bytes, mended: mend.Mended) -> List[str]:
     if mended.problem:
         return [f"{name}: {mended.problem}"]
     before = "; ".join(f"{name} {line}" for name, line in mended.before.items())
-    lines = [
-        f"{name}: {before + ': ' if before else ''}{mended.remedy.text}" + (f": {steps.words(mended.repairs)}" if mended.repairs else "")
-    ]
-    lines += [f"  not wholly read, and not mended: {it}" for it in mended.damage]
+    lines = [f"{name}: damaged, which mend can't mend: {it}" for it in mended.damage]
+    lines.append(
+        f"{name}: {before + ': ' if before else ''}{mended.remedy.text}"
+        + " of what is there" * (mended.remedy == mend.Remedy.COPY and bool(mended.damage))
+        + (f": {steps.words(mended.repairs)}" if mended.repairs else "")
+    )
     if mended.remedy not in (mend.Remedy.NONE, mend.Remedy.COPY):
         lines += ["  not written, for --lossless"] * (not mended.is_written)
         lines.append(f"  {len(mended.lost)} printed values lost or changed")

@@ -34,7 +34,7 @@ class Remedy(Word):
         remedy.text = text
         return remedy
 
-    COPY = ("copy", "nothing was to be mended: a plain copy")
+    COPY = ("copy", "no block is to be mended: a plain copy")
     REPAIR = ("repair", "the block was repaired, and the rest of the file kept")
     TOUCH = ("touch", "ExifTool added a field and removed it")
     EXIV2 = ("exiv2", "exiv2 added a field and removed it")
