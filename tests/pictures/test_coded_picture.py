@@ -349,18 +349,20 @@ def test_same(folder, called_lines):
             "p/a.jpg": jpeg(app1(A), app1_xmp(T)),
             "p/b.jpg": jpeg(app1(B), app1_xmp(T)),
             "p/c.jpg": jpeg(app1(A), base=OTHER),
-            "p/d.gif": b"GIF89a",
+            "p/d.xmp": T,
+            "p/e.jpg": jpeg(app1(A))[:-9],
         },
     )
-    assert called_lines("index", "p", "--catalogue", "c", "--pixels", "--quiet")[0] == 0
+    called_lines("index", "p", "--catalogue", "c", "--pixels", "--quiet")
     status, lines, _ = called_lines("same", "--catalogue", "c", "--kind", "pixels")
     assert status == 0 and lines[0] == "2 pictures: the coded picture is the same; XMP is the same, Exif is different, no IPTC:"
     assert [os.path.basename(it) for it in lines[1:3]] == ["a.jpg", "b.jpg"] and lines[3] == "1 group of 2 pictures", lines
+    assert [it.partition(" ")[0] for it in lines[4:7]] == ["3", "1", "1"] and lines[6].endswith("damaged"), lines
     (group, summary) = (json.loads(it) for it in called_lines("same", "--catalogue", "c", "--kind", "pixels", "--json")[1])
     assert (group["basis"], group["digests"], group["wholly_read"]) == ("coded picture", {}, False)
-    assert {it["keep"] for it in group["pictures"]} == {None} and summary["groups"] == 1
+    assert {it["keep"] for it in group["pictures"]} == {None} and (summary["groups"], summary["undecided"]) == (1, 2)
     rows = called_lines("same", "--catalogue", "c", "--kind", "pixels", "--csv")[1]
-    assert len(rows) == 3 and "coded picture" in rows[1]
+    assert len(rows) == 6 and "coded picture" in rows[1] and [it.split(",")[-1] for it in rows[3:]] == lines[4:7]
 
 
 def test_a_catalogue_without_digests(folder, called_lines):

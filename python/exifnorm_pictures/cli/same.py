@@ -11,7 +11,7 @@ from typing import TYPE_CHECKING, Dict, Iterator, List, Sequence, Tuple
 from ..catalogue.store import Catalogue
 from ..comparison.group import Group, Link
 from ..comparison.group_sentence import sentence_of
-from ..comparison.groups import Groups, left_out, without_coded_picture
+from ..comparison.groups import CodedPictures, Groups, coded_pictures, left_out
 from ..comparison.keeping import KEEP_ALL, NOT_KNOWN, Keep, keeping
 from ..comparison.readings import of_unknown
 from ..fields.choosing import Choice
@@ -78,11 +78,19 @@ def run(arguments: argparse.Namespace) -> int:
         listed = _Listed(arguments, choice)
         for group in _asked(groups, arguments, kinds, choice):
             listed.add(group)
-        left = 0 if arguments.kind == PIXELS or listed.table else left_out(catalogue, kinds, only)
+        left = (
+            sum(coded_pictures(catalogue, only)[1:3])
+            if arguments.kind == PIXELS
+            else 0
+            if listed.table
+            else left_out(catalogue, kinds, only)
+        )
         if arguments.json:
             print_object("same", "summary", _summary(listed, groups, left))
         elif listed.table:
             _add_notes(listed.table, groups, choice)
+            for text in _of_coded_pictures(coded_pictures(catalogue, only)) if arguments.kind == PIXELS else ():
+                listed.table.row(*(None,) * 6, text)
         else:
             _print_totals(listed, groups, left)
         say_unknown(chosen or (), catalogue.has)
@@ -99,7 +107,7 @@ def _asked(groups: Groups, arguments: argparse.Namespace, kinds: Sequence[str], 
         return groups.by_meaning(kinds, choice, arguments.least_fields)
     if choice or arguments.least_fields:
         raise NoDigests("--kind pixels compares coded pictures and no fields: leave out the options for fields")
-    count = without_coded_picture(groups.catalogue, groups.only)[0]
+    count = coded_pictures(groups.catalogue, groups.only).not_requested
     if count:
         have = "1 picture has" if count == 1 else f"{count:,} pictures have"
         raise NoDigests(f"{have} no digest of the coded picture yet: `index --pixels` adds it")
@@ -127,7 +135,7 @@ def _totals(listed: _Listed, groups: Groups, left: int) -> Iterator[str]:
         yield f"{groups.small} more, of pictures with fewer than {listed.arguments.least_fields} fields, {are} not listed"
     if groups.absent:
         yield _of_absent(groups.absent)
-    if left:
+    if left and listed.arguments.kind != PIXELS:
         why = "can't be the same by meaning: a block is refused or unreadable, or a part was not read"
         yield f"{left} picture{'s' * (left > 1)} {why}"
     yield from [of_unknown(groups.unknown)] * bool(groups.unknown)
@@ -135,7 +143,7 @@ def _totals(listed: _Listed, groups: Groups, left: int) -> Iterator[str]:
     yield from [BY_LISTING] * bool(listed.partial)
     yield from [_ONLY_METADATA] * bool(listed.unknown_pictures)
     if listed.arguments.kind == PIXELS:
-        yield from _without_digest(without_coded_picture(groups.catalogue, groups.only)[1])
+        yield from _of_coded_pictures(coded_pictures(groups.catalogue, groups.only))
 
 
 def _of_absent(count: int) -> str:
@@ -143,10 +151,17 @@ def _of_absent(count: int) -> str:
     return f"{count:,} more {'is' if is_one else 'are'} not listed, because {'its' if is_one else 'their'} files are gone or have changed since they were indexed"
 
 
-def _without_digest(count: int) -> Iterator[str]:
-    if count:
-        have = "1 picture has" if count == 1 else f"{count:,} pictures have"
-        yield f"{have} no digest of the coded picture: the file is of another format than JPEG, PNG, TIFF and WebP, or is damaged"
+def _of_coded_pictures(counts: CodedPictures) -> Iterator[str]:
+    """How many pictures were compared, and how many weren't."""
+    yield f"{_pictures(counts.compared)} compared by the data that {'its' if counts.compared == 1 else 'their'} pixels are decoded from"
+    if counts.other:
+        yield f"{_pictures(counts.other)} not compared: no digest is made of a picture in their format"
+    if counts.damaged:
+        yield f"{_pictures(counts.damaged)} not compared: damaged"
+
+
+def _pictures(count: int) -> str:
+    return f"{count:,} picture{'s' * (count != 1)}"
 
 
 _ONLY_METADATA = "Only metadata was compared, and pictures with the same metadata may differ: index --pixels compares them too"

@@ -232,10 +232,19 @@ def _fields_of(catalogue: Catalogue, group: Group, choice: Choice) -> Optional[i
     return None if group.members[0].file else count
 
 
-def without_coded_picture(catalogue: Catalogue, only: Optional[str] = None) -> Tuple[int, int]:
-    """How many pictures have no digest of their coded picture, because it wasn't requested, and because there is none."""
-    counts = [next(catalogue.rows(f"SELECT count(*) FROM pictures WHERE {_coded(it, only)}"))[0] for it in ("IS NULL", "= ''")]
-    return int(counts[0]), int(counts[1])
+class CodedPictures(NamedTuple):
+    """How many pictures have a digest of their coded picture, how many have none and why, and of how many it wasn't requested."""
+
+    compared: int
+    other: int
+    damaged: int
+    not_requested: int
+
+
+def coded_pictures(catalogue: Catalogue, only: Optional[str] = None) -> CodedPictures:
+    """The pictures of a catalogue by what is known of their coded pictures."""
+    conditions = ("!= ''", "= '' AND damage = ''", "= '' AND damage != ''", "IS NULL")
+    return CodedPictures(*(int(next(catalogue.rows(f"SELECT count(*) FROM pictures WHERE {_coded(it, only)}"))[0]) for it in conditions))
 
 
 def _coded(words: str, only: Optional[str]) -> str:
