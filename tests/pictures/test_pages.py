@@ -9,6 +9,7 @@ from unittest import mock
 from exifnorm_pictures.comparison.conflicts import Conflict
 from exifnorm_pictures.fields.labels import LabelText
 from exifnorm_pictures.model.records import Picture
+from exifnorm_pictures.model.results import Result
 from exifnorm_pictures.report import contents, page as report
 from exifnorm_pictures.report.contradictions import Contradictions
 from exifnorm_pictures.report.style import STYLE
@@ -45,22 +46,23 @@ CONTRADICTIONS = [
 ]
 CHANGED = [
     contents.EqualChanges(
-        "different", "Exif is different", [("IFD0:Make", '"<a>"', '"b"', ""), ("IFD0:Model", None, "x" * 301, "")], 1, [b"one.jpg"]
+        Result.DIFFERENT, "Exif is different", [("IFD0:Make", '"<a>"', '"b"', ""), ("IFD0:Model", None, "x" * 301, "")], 2, 1, [b"one.jpg"]
     ),
     contents.EqualChanges(
-        "different",
+        Result.DIFFERENT,
         "",
         [("ExifIFD:Flash", "1", None, ""), ("ExifIFD:MakerNote", None, None, "reads <the> same")],
+        2,
         1200,
         [b"x.jpg", b"y\n.jpg"],
     ),
-    contents.EqualChanges("moved", "to b&.jpg", [], 1, [b"a.jpg"]),
-    contents.EqualChanges("missing after", "", [], 2, [b"m.jpg", b"n.jpg"]),
-    contents.EqualChanges("refused", "Exif: Overlap", [], 1, [b"r.jpg"]),
-    contents.EqualChanges("only MakerNote differs", "", [], 1, [b"k.jpg"]),
-    contents.EqualChanges("not read", "", [], 1, [b"l.jpg"]),
-    contents.EqualChanges("different", "", [(f"IPTC:{number}", "1", "2", "") for number in range(42)], 1, [b"8"]),
-    contents.EqualChanges("different", "", [("a", "1", "2", "")], 1, [b"9"]),
+    contents.EqualChanges(Result.MOVED, "to b&.jpg", [], 0, 1, [b"a.jpg"]),
+    contents.EqualChanges(Result.MISSING_AFTER, "", [], 0, 2, [b"m.jpg", b"n.jpg"]),
+    contents.EqualChanges(Result.REFUSED, "Exif: Overlap", [], 0, 1, [b"r.jpg"]),
+    contents.EqualChanges(Result.ONLY_MAKER_NOTE, "", [], 0, 1, [b"k.jpg"]),
+    contents.EqualChanges(Result.NOT_READ, "", [], 0, 1, [b"l.jpg"]),
+    contents.EqualChanges(Result.DIFFERENT, "", [(f"IPTC:{number}", "1", "2", "") for number in range(42)], 42, 1, [b"8"]),
+    contents.EqualChanges(Result.DIFFERENT, "", [("a", "1", "2", "")], 1, 1, [b"9"]),
 ]
 
 
@@ -97,7 +99,14 @@ class Whole(unittest.TestCase):
             all_groups=(41, 1100),
             contradictions=Contradictions(1200, 61, 1, 2, Counter({"title": 61, "creator": 1}), CONTRADICTIONS),
             results=Counter(
-                {"same": 1000, "different": 500, "refused": 10, "refused, the same bytes": 3, "only MakerNote differs": 1, "not read": 2}
+                {
+                    Result.SAME: 1000,
+                    Result.DIFFERENT: 500,
+                    Result.REFUSED: 10,
+                    Result.REFUSED_SAME: 3,
+                    Result.ONLY_MAKER_NOTE: 1,
+                    Result.NOT_READ: 2,
+                }
             ),
             changed=CHANGED,
             all_changed=303,

@@ -422,19 +422,22 @@ class Sessions(WithPictures):
 
     def test_its_arguments(self):
         calls, lines = [], []
-        stdin = SimpleNamespace(write=lines.append)
 
         def start(words, folder, stdin):
             calls.append((words, folder, stdin))
-            return SimpleNamespace(stdin=pipe, poll=lambda: None)
+            return SimpleNamespace(poll=lambda: None)
 
-        pipe, answers = stdin, [
+        answers = [
             b'[{"SourceFile": "/a/b.jpg", "EXIF": "x"}]\n{done 1}\n',
             b"{done 2}\n",
             b'[{"SourceFile": "./link.Jpg"}]{done 3}\n',
         ]
         with mock.patch.multiple(
-            programs, start=start, needed=lambda it: it, read_until=lambda _, complete, __: self.complete(answers.pop(0), complete)
+            programs,
+            start=start,
+            needed=lambda it: it,
+            write=lambda _, octets, __: lines.append(octets),
+            read_until=lambda _, complete, __: self.complete(answers.pop(0), complete),
         ):
             it = exiftool.Process(self.folder, 60.0)
             self.assertEqual(it.ask([b"/a/b.jpg"], ("-EXIF:Exif", "-XMP"), exiftool._OPTIONS), [{"EXIF": "x"}])
