@@ -61,7 +61,7 @@ CHANGED = [
     contents.EqualChanges(Result.REFUSED, "Exif: Overlap", [], 0, 1, [b"r.jpg"]),
     contents.EqualChanges(Result.ONLY_MAKER_NOTE, "", [], 0, 1, [b"k.jpg"]),
     contents.EqualChanges(Result.NOT_READ, "", [], 0, 1, [b"l.jpg"]),
-    contents.EqualChanges(Result.DIFFERENT, "", [(f"IPTC:{number}", "1", "2", "") for number in range(42)], 42, 1, [b"8"]),
+    contents.EqualChanges(Result.DIFFERENT, "", [(f"IPTC:{number}", "1", "2", "") for number in range(40)], 42, 1, [b"8"]),
     contents.EqualChanges(Result.DIFFERENT, "", [("a", "1", "2", "")], 1, 1, [b"9"]),
 ]
 
