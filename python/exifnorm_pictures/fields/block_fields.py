@@ -2,7 +2,7 @@
 
 from __future__ import annotations
 
-from typing import TYPE_CHECKING, List, Optional, Sequence, Tuple, Union
+from typing import Callable, Generic, List, Optional, Sequence, Tuple, TypeVar
 
 from ..model.budgets import KEPT_BYTES
 from ..model.columns import Damaged
@@ -10,26 +10,22 @@ from ..model.records import Block
 from .listing import Field
 from .packing import length, unpacked
 
-if TYPE_CHECKING:
-    from .. import xmp
+Source = TypeVar("Source")
 
 
-class Fields:
+class Fields(Generic[Source]):
     """The fields of a normal form or of the statements of a packet: made once, when somebody asks for them."""
 
-    __slots__ = ("_source", "_made")
+    __slots__ = ("_make", "_source", "_made")
 
-    def __init__(self, source: "Union[bytes, xmp.Statements]") -> None:
-        self._source = source
+    def __init__(self, make: Callable[[Source], List[Field]], source: Source) -> None:
+        self._make, self._source = make, source
         self._made: Optional[List[Field]] = None
 
     def all(self) -> List[Field]:
         """The fields, in the order of a listing."""
         if self._made is None:
-            from . import normal_form, xmp_properties  # which load the library and the reader of XML, and a catalogue's fields need neither
-
-            source = self._source
-            self._made = normal_form.fields_of_form(source) if isinstance(source, bytes) else xmp_properties.fields_of_statements(source)
+            self._made = self._make(self._source)
         return self._made
 
 

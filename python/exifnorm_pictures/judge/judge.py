@@ -3,12 +3,13 @@
 from __future__ import annotations
 
 import hashlib
-from typing import Dict, List, Optional, Set, Tuple
+from typing import Any, Dict, List, Optional, Set, Tuple
 
 import exifnorm
 
 from .. import xmp
 from ..extract import structure
+from ..fields import normal_form, xmp_properties
 from ..fields.block_fields import Fields
 from ..fields.packing import is_short, left_out, length, packed
 from ..model import steps
@@ -38,10 +39,12 @@ def judge(kind: str, block: bytes, packs: bool = False, at: FoundBlock = _BY_ITS
     if (form[:1] == _DATASET) != (kind == IPTC):  # a block of the other kind is none here, as for the library's calls for pictures
         return Block(kind, *at[2:5], Status.REFUSED, None, "NoMarker" if kind == IPTC else "UnknownKind", 0, len(block), octets)
     digest = octets if form == block else hashlib.sha256(form).hexdigest()
-    return _with_fields(Block(kind, *at[2:5], Status.ACCEPTED, digest, None, None, len(block), octets), Fields(form), packs)
+    return _with_fields(
+        Block(kind, *at[2:5], Status.ACCEPTED, digest, None, None, len(block), octets), Fields(normal_form.fields_of_form, form), packs
+    )
 
 
-def _with_fields(block: Block, fields: Fields, packs: bool) -> Block:
+def _with_fields(block: Block, fields: Fields[Any], packs: bool) -> Block:
     """A block with its fields."""
     if not packs:
         return block._replace(fresh=fields)
@@ -57,7 +60,7 @@ def _repaired(refused: Block, block: bytes, packs: bool, budget: Optional[Budget
     if repair is None:
         return refused
     known = refused._replace(repair=steps.packed(repair.steps), repaired=hashlib.sha256(repair.form).hexdigest())
-    return _with_fields(known, Fields(repair.form), packs)
+    return _with_fields(known, Fields(normal_form.fields_of_form, repair.form), packs)
 
 
 def _says_nothing(block: FoundBlock) -> bool:
@@ -187,7 +190,7 @@ def _judge_xmp(at: FoundBlock, extensions: xmp.Extensions, left: Dict[str, bytes
     if statements is None:
         return _unreadable(XMP, at, len(at.data), octets.hexdigest(), cause)
     result = Block(XMP, *at[2:5], Status.ACCEPTED, xmp.digest_of_packet(statements), None, None, len(at.data), octets.hexdigest())
-    return _with_fields(result, Fields(statements), packs)
+    return _with_fields(result, Fields(xmp_properties.fields_of_statements, statements), packs)
 
 
 def _unreadable(kind: str, at: FoundBlock, length: int, octets: str, cause: str) -> Block:
