@@ -176,13 +176,13 @@ IN_PYTHON = {
     "uint32_t": "c_uint",
     "uint32_t *": "LP_c_uint",
     "struct exifnorm_fault *": "LP_Fault",
-    "struct exifnorm_jpeg_part *": "LP_Part",
+    "struct exifnorm_jpeg_part *": "LP_PartStruct",
     "struct exifnorm_jpeg_fault *": "LP_JpegFault",
-    "struct exifnorm_photoshop_resource *": "LP_Resource",
+    "struct exifnorm_photoshop_resource *": "LP_ResourceStruct",
     "struct exifnorm_picture_fault *": "LP_PictureFault",
-    "struct exifnorm_jpeg_block *": "LP_Place",
+    "struct exifnorm_jpeg_block *": "LP_PlaceStruct",
     "struct exifnorm_jpeg_sizes *": "LP_Sizes",
-    "struct exifnorm_unread_part *": "LP_Unread",
+    "struct exifnorm_unread_part *": "LP_UnreadStruct",
 }
 
 
