@@ -61,9 +61,10 @@ static void expect_piece(const Part *part) {
     block->size += part->size;
 }
 
-static void expect_blocks(void) {
+/* The blocks of the first parts. */
+static void expect_blocks(size_t parts) {
     expected.sizes = (struct exifnorm_jpeg_sizes){0, 0};
-    for (size_t i = 0; i < head.count; i++)
+    for (size_t i = 0; i < parts; i++)
         if (head.parts[i].kind != EXIFNORM_JPEG_OTHER)
             expect_piece(&head.parts[i]);
 }
@@ -206,12 +207,18 @@ static int are_sizes(struct exifnorm_jpeg_sizes sizes) {
 }
 
 static int are_blocks(struct blocks found) {
-    if (found.status != EXIFNORM_DONE || found.fault.cause != UNSET || !are_sizes(found.sizes))
+    if (!are_sizes(found.sizes))
         return 0;
     for (size_t i = 0; i < found.sizes.blocks; i++)
         if (!is_block(found.list[i], expected.list[i]))
             return 0;
     return memcmp(found.joined, expected.joined, found.sizes.joined) == 0;
+}
+
+/* Leaves out the last block, with its joined bytes. */
+static void expect_one_less(void) {
+    Block last = expected.list[--expected.sizes.blocks];
+    expected.sizes.joined = last.joined ? last.start : expected.sizes.joined;
 }
 
 static int is_place(Place one, Place other) {
@@ -223,7 +230,8 @@ static int is_place(Place one, Place other) {
 static void judge_places(void) {
     size_t blocks = expected.sizes.blocks, joined = expected.sizes.joined;
     struct blocks found = blocks_of(head.length, blocks + 1, joined + 1);
-    holds(LAW_BLOCKS, are_blocks(found) && is_filled(found.list + blocks, sizeof *found.list) && found.joined[joined] == FILLER);
+    int is_done = found.status == EXIFNORM_DONE && found.fault.cause == UNSET;
+    holds(LAW_BLOCKS, is_done && are_blocks(found) && is_filled(found.list + blocks, sizeof *found.list) && found.joined[joined] == FILLER);
     if (blocks > 0) {
         found = blocks_of(head.length, blocks - 1, joined);
         holds(LAW_BLOCKS_ROOM, found.status == EXIFNORM_TOO_LITTLE_ROOM && are_sizes(found.sizes) &&
@@ -236,7 +244,7 @@ static void judge_places(void) {
     }
 }
 
-/* Each call refuses a head that is cut. */
+/* Each call refuses a head that is cut. The blocks of the whole parts before are found, but for a last one of Exif, which may go on behind. */
 static void judge_refusal(size_t length) {
     Place place = {UNSET, UNSET, UNSET};
     struct exifnorm_jpeg_fault fault = {UNSET, UNSET};
@@ -247,6 +255,10 @@ static void judge_refusal(size_t length) {
     uint32_t status = exifnorm_jpeg_unread(picture(length), length, &place, &fault);
     holds(LAW_BLOCKS_FAULT, found.status == EXIFNORM_REFUSED && found.fault.cause == EXIFNORM_JPEG_HEAD_CUT &&
                                 found.fault.place == head.begin[part]);
+    expect_blocks(part);
+    if (part > 0 && head.parts[part - 1].kind == EXIFNORM_JPEG_EXIF && found.sizes.blocks < expected.sizes.blocks)
+        expect_one_less();
+    holds(LAW_BLOCKS_BEFORE, are_blocks(found));
     holds(LAW_BLOCKS_FAULT, status == EXIFNORM_REFUSED && fault.cause == EXIFNORM_JPEG_HEAD_CUT && fault.place == head.begin[part] &&
                                 place.found == UNSET);
 }
@@ -283,10 +295,10 @@ static void judge_same(Place place) {
 void judge_blocks(const unsigned char *block, size_t length) {
     struct script script = {block, length, 0};
     make_head(&script, &head);
-    expect_blocks();
+    expect_blocks(head.count);
     Place place = first_place();
     judge_places();
-    judge_refusal(2 + next(&script) * 32 % (head.length - 2));
     judge_unread(place);
     judge_same(place);
+    judge_refusal(2 + next(&script) * 32 % (head.length - 2));
 }

@@ -92,6 +92,7 @@
     MISTAKE(BLOCKS_ROOM_COUNT, "for arrays that are too short for the blocks their own lengths are returned") \
     MISTAKE(BLOCKS_OF_CUT, "blocks are found in a head that is cut, and no fault") \
     MISTAKE(BLOCKS_FAULT_BESIDE, "the offset of a head's fault is one too high, for its blocks alone") \
+    MISTAKE(BLOCKS_FAULT_ALONE, "of a head that is cut only the fault is returned") \
     MISTAKE(UNREAD_NONE, "all of a picture is read") \
     MISTAKE(UNREAD_BESIDE, "the place that is not read is one too high") \
     MISTAKE(UNREAD_IN_PICTURE, "a place in the joined bytes is one in the picture") \
@@ -549,6 +550,8 @@ uint32_t exifnorm_jpeg_blocks(const unsigned char *bytes, size_t length, struct 
         return changed_blocks(blocks, room, out, out_length, sizes);
     if (status == EXIFNORM_REFUSED && wrong == BLOCKS_FAULT_BESIDE)
         fault->place++;
+    if (status == EXIFNORM_REFUSED && wrong == BLOCKS_FAULT_ALONE)
+        *sizes = (struct exifnorm_jpeg_sizes){0, 0};
     if (status == EXIFNORM_REFUSED && wrong == BLOCKS_OF_CUT)
         return *sizes = (struct exifnorm_jpeg_sizes){0, 0}, EXIFNORM_DONE;
     if (status == EXIFNORM_TOO_LITTLE_ROOM && wrong == BLOCKS_ROOM_FILLED)
