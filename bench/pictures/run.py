@@ -89,7 +89,7 @@ def row(number: int, says: int, path: bytes, fields: bool) -> Picture:
     blocks = []
     for kind in (EXIF, IPTC, XMP):
         digest = hashlib.sha256(f"{kind} {says}".encode()).hexdigest()
-        blocks.append(Block(kind, NAMES[kind], "APP1 at 2", "own", "accepted", digest, None, None, 100, digest, packed=kept))
+        blocks.append(Block(kind, NAMES[kind], "APP1 at 2", "own", "accepted", digest, None, None, 100, digest, fields=kept))
     return Picture.of(ROOT + path, ROOT, Stamp(1000 + says, number, number, number), "JPEG", "own", blocks=tuple(blocks))
 
 

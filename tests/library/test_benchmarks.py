@@ -233,6 +233,17 @@ def test_instructions_of_commands_on_pictures(of_pictures, folder, monkeypatch):
     assert rows == ["700 thousand for a picture, 300 million for the start"] * 2
 
 
+def test_costs_over_another_tree(library, tmp_path, monkeypatch):
+    """Over this one itself they are the same. Valgrind takes long."""
+    monkeypatch.setenv("EXIFNORM_LIBRARY", str(library / "libexifnorm.so.1"))
+    over = load("pictures/over.py")
+    monkeypatch.setattr(over.Tree, "instructions", lambda tree, *words: len(tree.run(*words)))
+    trees = over.Tree(TOP, tmp_path / "other"), over.Tree(TOP, tmp_path / "this")
+    rows = {what: (other, this) for what, other, this in over.rows(trees, tmp_path, 3, 200)}
+    assert len(rows) == 11 and all(other == this for other, this in rows.values())
+    assert sum(what.startswith("bytes of their catalogue") and size > 10_000 for what, (size, _) in rows.items()) == 2
+
+
 def test_a_page_opens_later_than_an_empty_one(of_pictures, monkeypatch):
     monkeypatch.setattr(of_pictures.shutil, "which", lambda _: "chromium")
     monkeypatch.setattr(of_pictures, "cost", lambda words: of_pictures.Cost(1.0 if words[-1] == "about:blank" else 1.5, 1, 1))
