@@ -26,6 +26,6 @@ def texts_of(blocks: Sequence[Tuple[Block, List[Field]]], wanted: Sequence[str] 
         camera = camera if any(camera) else camera_of(fields)
         part = "" if block.name == NAMES[block.kind] else block.name
         left = not_kept(fields)
-        texts += [it._replace(block=part) for it in of_block(fields) if it.label not in left]
+        texts += [it._replace(block=part) if part else it for it in of_block(fields) if it.label not in left]
         missing |= left & set(wanted)
     return PictureTexts(with_own(sorted(texts, key=lambda it: STANDARDS.index(it.standard)), *camera), missing)

@@ -216,7 +216,7 @@ def _of_octets_fields(fields: Sequence[Field]) -> Iterator[LabelText]:
 def with_own(texts: Sequence[LabelText], make: str = "", model: str = "") -> List[LabelText]:
     """The texts of a picture, of which captions and comments are marked that a camera with this make and model, or a program, writes by
     itself; also where another program has copied them to IPTC or XMP."""
-    return [it._replace(is_own=it.label in _CAN_BE_OWN and is_own(it.line, make, model)) for it in texts]
+    return [it._replace(is_own=True) if it.label in _CAN_BE_OWN and is_own(it.line, make, model) else it for it in texts]
 
 
 def camera_of(fields: Iterable[Field]) -> Tuple[str, str]:
