@@ -84,7 +84,7 @@ def question_of(text: str) -> Question:
     """What a text asks. Raises `WrongQuestion`.
 
     >>> question_of("keywords = clay or without credit")
-    Any(questions=(Compared(label='keywords', comparison='=', value='clay'), Not(question=With(label='credit'))))
+    Any(questions=(Condition(label='keywords', comparison='=', value='clay'), Not(question=With(label='credit'))))
     >>> question_of("date created < 1950").value
     '1950'
     """
