@@ -362,7 +362,11 @@ def test_calls_are_pickled():
 
 MODULES = [
     exifnorm,
-    *(importlib.import_module(f"exifnorm.{it.name}") for it in pkgutil.iter_modules(exifnorm.__path__) if it.name != "_native"),
+    *(
+        importlib.import_module(f"exifnorm.{it.name}")
+        for it in pkgutil.iter_modules(exifnorm.__path__)
+        if it.name not in ("_native", "_in_c")
+    ),
 ]
 
 
