@@ -45,6 +45,7 @@ TOOLS = {"wasm-opt": "binaryen", "wasm2c": "wabt"}
 LINKED = ["-mwasm64", "--no-entry", "--gc-sections", "--allow-undefined", "--strip-debug", "--no-stack-first"]
 LOWERED = [*wasm.FEATURES, "--memory64-lowering", "--strip-debug", "--strip-producers"]
 BASES = 1 << 16, 1 << 17  # where the constants of the two modules begin
+MOST_BEFORE = 4096  # bytes that an address may be before the first constant, as that of a table whose first index is above 0
 WIDTH = 8  # bytes of an address
 
 
@@ -119,15 +120,16 @@ ACCESS = re.compile(r"(i(?:32|64)_(?:load|store)\w*\()&instance->w2c_memory, \(u
 BULK = re.compile(r"memory_(copy|fill)\((?:&instance->w2c_memory, )+w2c_i(\d+), w2c_i(\d+), w2c_i(\d+)\)")
 
 
-def constant_of(first: str, second: str) -> int:
-    """The offset among the constants of which these are the addresses in both modules; -1 if they aren't.
+def constant_of(first: str, second: str) -> int | None:
+    """The offset from the first constant of which these are the addresses in both modules; None if they aren't. It is below 0 if an index that
+    begins above 0 is added: nothing else is before the constants.
 
-    >>> constant_of("65542ull", "131078ull")
-    6
+    >>> constant_of("65542ull", "131078ull"), constant_of("65529ull", "131065ull"), constant_of("7ull", "8ull")
+    (6, -7, None)
     """
     numbers = [NUMBER.fullmatch(token) for token in (first, second)]
-    offsets = {int(number[1]) - base if number else -1 for number, base in zip(numbers, BASES)}
-    return offsets.pop() if len(offsets) == 1 else -1
+    offsets = {int(number[1]) - base if number else None for number, base in zip(numbers, BASES)}
+    return offsets.pop() if len(offsets) == 1 else None
 
 
 def joined_line(one: str, other: str, length: int) -> str:
@@ -144,7 +146,7 @@ def joined_line(one: str, other: str, length: int) -> str:
     for at, (first, second) in enumerate(zip(tokens, others)):
         if first != second:
             offset = constant_of(first, second)
-            if not 0 <= offset <= length:
+            if offset is None or not -MOST_BEFORE <= offset <= length:
                 raise Failed(f"the two modules differ: {one!r}, {other!r}")
             tokens[at] = f"CONSTANT({offset})"
     return "".join(tokens)
@@ -250,7 +252,7 @@ def constants(one: bytes, other: bytes) -> str:
         *values,
         "};",
         "",
-        "#define CONSTANT(offset) (address(&constant) + offset)",
+        "#define CONSTANT(offset) (address(&constant) + (u64)(offset))",
     ]
     return "\n".join(lines) + "\n"
 

@@ -153,7 +153,7 @@ def test_an_address_that_may_have_changed_is_refused(between: str) -> None:
         ("  w2c_j1 = 65542ull;", "  w2c_j1 = 131079ull;"),  # not the same constant
         ("  w2c_j1 = 65542ull;", "  w2c_j2 = 131078ull;"),
         ("  w2c_j1 = 65742ull;", "  w2c_j1 = 131278ull;"),  # after the constants
-        ("  w2c_j1 = 1ull;", "  w2c_j1 = 65537ull;"),
+        ("  w2c_j1 = 1ull;", "  w2c_j1 = 65537ull;"),  # far before them
         ("  w2c_f1();", "  w2c_f1(w2c_j0);"),
     ],
 )
