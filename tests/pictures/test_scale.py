@@ -342,9 +342,9 @@ class Scale(WithPictures):
         write(self.path("small.jpg"), picture)
         write(self.path("great.jpg"), picture[:at] + bytes(length) + picture[at:])
         call = (
-            "import sys; from exifnorm_pictures.extract.extraction import blocks_of\n"
+            "import sys; from exifnorm_pictures.extract.extraction import blocks_of_file\n"
             "def octets(): return int(open('/proc/self/io').read().split()[1])\n"
-            "def read(name, whole): at = octets(); blocks_of(name, whole); return octets() - at\n"
+            "def read(name, whole): at = octets(); blocks_of_file(name, whole); return octets() - at\n"
             "read(b'small.jpg', True)\n"  # what Python loads at first isn't counted
             "print(read(b'small.jpg', False), read(b'great.jpg', False), read(b'great.jpg', True))"
         )
