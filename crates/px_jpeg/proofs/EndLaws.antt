@@ -212,10 +212,3 @@ module _ (b : List ℕ) (at begun : ℕ) (last : Option Kind) (w : Walked b at b
       ending b begun w.before (taken b w.before (drop begun b) begun r)
       (ended_there b w.parts w.before c at there.0 there.1 (inr ((sym w.kind ∙ o.0, subst MayContinue e o.1), l)))
       (behind_begins b w.before (drop begun b) begun r)
-
--- ---- no start mark
-
-pub no_parts : (b : List ℕ) → starts b ≡ false → IsEnded b []
-no_parts b f =
-    let none : Fault b NoStart 0 = (refl, λ rest e. both_ways (starts b) f (ap starts e ∙ start_holds rest)) in
-    ended_there b [] [] NoStart 0 none (refl, none) (inl (λ o. absurd (cc), refl))

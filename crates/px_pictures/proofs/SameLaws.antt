@@ -52,7 +52,7 @@ answer (NotRead Second n) f g p q one e h d k (s, u, v) = (
   subst (λ (b : List ℕ). IsUnread b (Some n)) d v,
 )
 
-pub answers : (r : Result Comparison PictureFault) (f g : List ℕ) (p : Picture) → OneMeaning → p.octets ≡ f → HasBlocks f (blocks_of p)
+pub result_answers : (r : Result Comparison PictureFault) (f g : List ℕ) (p : Picture) → OneMeaning → p.octets ≡ f → HasBlocks f (blocks_of p)
     → IfOk r (AnswersSecond p g) → IfOk r (IsComparison f g)
-answers (Ok c) f g p one e h (q, d, k, a) = answer c f g p q one e h d k a
-answers (Err e) f g p one d h a = tt
+result_answers (Ok c) f g p one e h (q, d, k, a) = answer c f g p q one e h d k a
+result_answers (Err e) f g p one d h a = tt
