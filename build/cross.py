@@ -74,8 +74,8 @@ def build_for(crate: str, machine_name: str, store: Store) -> Path:
     target = product(store.crates, crate, machine_name)
     note = target.with_name(f"{crate}.made-from")
     target.parent.mkdir(parents=True, exist_ok=True)
-    with open(target.with_name("lock"), "w", encoding="ascii") as lock:
-        take_lock(lock, f"another call builds for {machine_name}: waiting for it")
+    with open(target.with_name(f"{crate}.lock"), "w", encoding="ascii") as lock:
+        take_lock(lock, f"another call builds {crate} for {machine_name}: waiting for it")
         if not (target.exists() and note.exists() and note.read_text(encoding="utf-8") == store.noted(crate)):
             say(f"proving {crate} for {machine_name}")
             put(store, crate, f"{machine_name}-unknown-linux-gnu", target)

@@ -7,6 +7,8 @@ import os
 import re
 import shutil
 import subprocess
+import sys
+from concurrent.futures import ThreadPoolExecutor
 from dataclasses import dataclass, field
 from pathlib import Path
 from typing import List
@@ -15,7 +17,7 @@ import pytest
 
 from commands import TOP, run
 from crates import Crates
-from prove import open_store
+from prove import open_store, places
 
 HERE = Path(__file__).resolve().parent
 VERSION = re.findall(r'VERSION: &str = "(.*)";', TOP.joinpath("crates/px_engine/src/version.rt").read_text(encoding="utf-8"))[0]
@@ -24,10 +26,11 @@ WINE = Path("/usr/lib/wine")  # Debian's wine64 is not on the PATH
 
 GCC, QEMU = "aarch64-linux-gnu-gcc", "qemu-aarch64"
 ROOT = "/usr/aarch64-linux-gnu"  # where Debian has the C library for aarch64
+PROVED = [("px_cli", "aarch64"), ("px_cli", "x86_64"), ("px_c", "aarch64")]
 
 
 def make(*words: str) -> None:
-    """Builds for other machines what is proved for this one. Tests in several processes build it once."""
+    """Builds for other machines what is proved for this one. Tests in several processes build it once; the proofs run side by side."""
     for tool in (GCC, QEMU):
         if not shutil.which(tool):
             pytest.skip(f"{tool} is not installed: `apt-get install $(./test --packages)`")
@@ -36,6 +39,10 @@ def make(*words: str) -> None:
         pytest.skip("the sources are not proved: call `make`")
     with open(TOP / "out" / "machines-lock", "w", encoding="ascii") as lock:
         fcntl.flock(lock, fcntl.LOCK_EX)
+        with ThreadPoolExecutor(places()) as pool:
+            proofs = [pool.submit(run, sys.executable, TOP / "build/cross.py", *product) for product in PROVED]
+        for proof in proofs:
+            proof.result()
         run("make", *words)
 
 

@@ -13,7 +13,7 @@ from machines import VERSION
 
 from commands import TOP, run
 
-pytestmark = pytest.mark.xdist_group("C source")
+pytestmark = pytest.mark.xdist_group("package in C")
 
 
 def test_each_form_is_timed(library: Path, c_folder: Path, wasm: Path, folder: Path) -> None:

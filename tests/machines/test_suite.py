@@ -42,7 +42,7 @@ def passes(library: Path, modules: list[str], *words: str) -> None:
     assert ran.returncode == 0, ran.stdout[-5000:]
 
 
-@pytest.mark.xdist_group("C source")
+@pytest.mark.xdist_group("library in C")
 def test_the_library(c_folder: Path, folder: Path) -> None:
     """Static and shared, as its Makefile compiles it."""
     for header in c_folder.glob("*.h"):
@@ -53,7 +53,7 @@ def test_the_library(c_folder: Path, folder: Path) -> None:
     passes(folder, LIBRARY, "-k", "not TestInPython")
 
 
-@pytest.mark.xdist_group("C source")
+@pytest.mark.xdist_group("package in C")
 def test_the_package(c_folder: Path, folder: Path) -> None:
     """Installed by pip from the source distribution by a C compiler alone, which finds no header of Python; the tests then import it."""
     packed, compiler = sdist.make(c_folder, 10**9, folder), folder / "compiler"
