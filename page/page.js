@@ -357,12 +357,12 @@ function captionsTable({ captions }, heads) {
   return table("Captions", ["Label", ...shown], rows);
 }
 
-/** Shows the result, and returns its heading. */
-function show(look, names, files) {
+/** Shows the result, which names the pictures if they are of folders, and returns its heading. */
+function show(look, names, files, areOfFolders) {
   const isOne = look.sides.length === 1, alike = !isOne && names[0] === names[1];
   const called = alike ? SIDES.map((side) => `the ${side}`) : names, heads = isOne ? ["Value"] : alike ? names.map((name, i) => `${name}, ${SIDES[i]}`) : names;
   const hasNone = look.sides.every(({ blocks }) => !blocks.length), verdict = hasNone && (look.verdict === "same" || look.verdict === "valid") ? "none" : look.verdict;
-  const isUnread = look.sides.every(({ problem }) => problem), main = card(verdict, SIGNS[verdict], titleOf(look), element("p", "", meaningOf(look)),
+  const isUnread = look.sides.every(({ problem }) => problem), main = card(verdict, SIGNS[verdict], titleOf(look), areOfFolders && element("p", "small", [...new Set(names)].join(" and ")), element("p", "", meaningOf(look)),
     !isOne && look.verdict === "partly" && doubts(look, called), ...faultsOf(look, called), !isUnread && element("p", "small", unreadOf(look)));
   const [differing, equal] = look.counts, isDifferent = look.verdict === "different";
   const cells = (row) => isOne ? [cell(row.cells[0], heads[0])] : row.cells.map((value, i) => cell(value, heads[i], true));
@@ -378,8 +378,8 @@ function show(look, names, files) {
   return main.firstChild;
 }
 
-/** Compares two pictures, or looks at one. */
-async function pictures(files, names, isFocused = false) {
+/** Compares two pictures, or looks at one. Of pictures of folders the result is below the list, and gets the focus. */
+async function pictures(files, names, areOfFolders = false) {
   const mine = turn, shown = names.map(safeName);
   let look;
   say("Reading ..");
@@ -390,10 +390,10 @@ async function pictures(files, names, isFocused = false) {
     return;
   }
   if (mine !== turn) return;
-  const heading = show(look, shown, files);
+  const heading = show(look, shown, files, areOfFolders);
   say(`${titleOf(look)}: ${shown.join(" and ")}.`, false);
   document.body.dataset.state = "done";
-  if (isFocused) {
+  if (areOfFolders) {
     heading.focus();
     heading.scrollIntoView?.();
   }
