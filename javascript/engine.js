@@ -30,11 +30,12 @@ export class Refused extends Error {
   }
 }
 
-/** The bytes are no head of a JPEG: the first fault, and the parts before it. */
+/** The bytes are no head of a JPEG: the first fault, the parts before it, and the blocks that end before it. */
 export class HeadRefused extends Refused {
-  constructor(cause, place, parts = []) {
+  constructor(cause, place, parts = [], blocks = []) {
     super(cause, place);
     this.parts = parts;
+    this.blocks = blocks;
   }
 }
 
@@ -305,20 +306,23 @@ export class Engine {
   }
 
   jpegBlocks(picture, most = Infinity) {
-    const blocks = this.#wholeBlocks(picture, most);
-    if (blocks === null) {
-      this.jpegParts(picture, most); // throws HeadRefused with the parts before the fault
-      throw new Error("exifnorm refuses a head of which it has all parts");
-    }
-    return blocks.flatMap(({ kind, data }) => {
+    const [isHead, whole] = this.#wholeBlocks(picture, most);
+    const blocks = whole.flatMap(({ kind, data }) => {
       if (kind === "exif") return [{ kind, data }];
       if (kind !== "photoshop") return [];
       const resources = this.photoshopResources(data, most).filter(({ number, size }) => number === IPTC && size > 0);
       return resources.map(({ start, size }) => ({ kind: "iim", data: data.slice(start, start + size) }));
     });
+    if (isHead) return blocks;
+    try {
+      this.jpegParts(picture, most); // throws HeadRefused with the parts before the fault
+    } catch (error) {
+      throw error instanceof HeadRefused ? new HeadRefused(error.cause, error.place, error.parts, blocks) : error;
+    }
+    throw new Error("exifnorm refuses a head of which it has all parts");
   }
 
-  /** The blocks of all kinds of parts, each as one; null if the picture has no head. */
+  /** Whether the picture has a head, and the blocks of all kinds of parts, each as one; without a head, those that end before its fault. */
   #wholeBlocks(picture, most) {
     return this.#call((sizes, fault) => {
       const bytes = this.#copyIn(picture), call = this.#exports.exifnorm_jpeg_blocks;
@@ -334,9 +338,8 @@ export class Engine {
         const from = this.#uint32(row + 4) === 1 ? out : Number(bytes[0]);
         return { kind: PART_KINDS[this.#uint32(row)], data: this.#slice(from + this.#size(row + 8), this.#size(row + 16)) };
       });
-      if (status === REFUSED) return null;
-      this.#require(status);
-      return blocks;
+      if (status !== REFUSED) this.#require(status);
+      return [status === DONE, blocks];
     });
   }
 

@@ -51,6 +51,8 @@ export class Refused extends Error {
 export class HeadRefused extends Refused {
   /** The parts before the fault, each of them whole; none from jpegUnread. */
   readonly parts: JpegPart[];
+  /** The Exif and IPTC blocks that end before the fault, from jpegBlocks; otherwise none. */
+  readonly blocks: JpegBlock[];
 }
 
 /** Of two JPEGs one has no head of a JPEG, or a block that is refused: the first fault. */
@@ -98,8 +100,8 @@ export function compare(first: Uint8Array, second: Uint8Array): boolean;
 
 /**
  * The Exif and IPTC blocks of a JPEG in their order. The bytes may be a whole file, or only its first bytes if they have the whole head,
- * which is all before the first scan. A hostile file may have millions: `most` limits the blocks of all kinds. Throws HeadRefused,
- * TooMany, OutOfMemory.
+ * which is all before the first scan. A hostile file may have millions: `most` limits the blocks of all kinds. Throws HeadRefused, with
+ * the blocks that end before the fault, TooMany, OutOfMemory.
  */
 export function jpegBlocks(picture: Uint8Array, most?: number): JpegBlock[];
 

@@ -80,9 +80,10 @@ static void print_blocks(octets picture, size_t room, size_t out_length) {
     uint32_t status = exifnorm_jpeg_blocks(picture.bytes, picture.length, blocks, room, out, out_length, &sizes, &fault);
     printf("blocks %u %lu %lu %u %lu", (unsigned)status, (unsigned long)sizes.blocks, (unsigned long)sizes.joined, (unsigned)fault.cause,
            (unsigned long)fault.place);
-    for (size_t i = 0; status == EXIFNORM_DONE && i < sizes.blocks; i++)
+    int are_stored = status == EXIFNORM_DONE || status == EXIFNORM_REFUSED; /* after a fault, the blocks that end before it */
+    for (size_t i = 0; are_stored && i < sizes.blocks; i++)
         printf(" %u:%u:%lu:%lu", (unsigned)blocks[i].kind, (unsigned)blocks[i].joined, (unsigned long)blocks[i].start, (unsigned long)blocks[i].size);
-    printf(" %lu\n", status == EXIFNORM_DONE ? sum(out, sizes.joined) : 0);
+    printf(" %lu\n", are_stored ? sum(out, sizes.joined) : 0);
 }
 
 static void print_resources(octets block, size_t room) {

@@ -13,18 +13,22 @@ async function digest(value) {
   return Array.from(new Uint8Array(await crypto.subtle.digest("SHA-256", bytes)), (byte) => byte.toString(16).padStart(2, "0")).join("");
 }
 
-/** What a call returns, or the name and the text of its error. */
+const ofPart = ({ marker, kind, begins, start, size }) => [marker, kind, begins, start, size];
+const ofBlock = async ({ kind, data }) => [kind, await digest(data)];
+
+/** What a call returns, or the name and the text of its error; of a head also the parts and blocks before the fault. */
 async function answer(name, blocks) {
   let value;
   try {
     value = exifnorm[name](...blocks);
   } catch (error) {
     if (error instanceof exifnorm.NotRead) return [error.name, error.side, error.unread.joined, error.unread.start];
-    return [error.name, error.message];
+    const isHead = error instanceof exifnorm.HeadRefused;
+    return [error.name, error.message, ...(isHead ? [error.parts.map(ofPart), await Promise.all(error.blocks.map(ofBlock))] : [])];
   }
   if (name === "normalise" || name === "show" || name === "captions") return digest(value);
-  if (name === "jpegBlocks") return Promise.all(value.map(async ({ kind, data }) => [kind, await digest(data)]));
-  if (name === "jpegParts") return value.map(({ marker, kind, begins, start, size }) => [marker, kind, begins, start, size]);
+  if (name === "jpegBlocks") return Promise.all(value.map(ofBlock));
+  if (name === "jpegParts") return value.map(ofPart);
   if (name === "photoshopResources") return value.map(({ number, start, size }) => [number, start, size]);
   return name === "jpegUnread" && value ? [value.joined, value.start] : value;
 }

@@ -13,7 +13,7 @@ try {
   engine.check(bytes);
 } catch (error) {
   if (error instanceof exifnorm.PictureRefused) texts.push(error.kind, `${error.index}`);
-  else if (error instanceof exifnorm.HeadRefused) numbers.push(error.parts.length);
+  else if (error instanceof exifnorm.HeadRefused) numbers.push(error.parts.length, ...error.blocks.map(({ data }) => data.length));
   else if (error instanceof exifnorm.Refused) texts.push(error.cause, `${error.place} ${error.side ?? 0}`);
   else if (error instanceof exifnorm.NotRead) numbers.push(error.side, error.unread.start);
   else if (error instanceof exifnorm.TooMany) numbers.push(error.most);

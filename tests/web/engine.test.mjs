@@ -23,9 +23,13 @@ test("errors have a cause, a place, and what else belongs to them", () => {
   assert.throws(() => exifnorm.compare(ONE, ONE.subarray(0, 25)), { cause: "DirectoryOutside", place: 8 - 4, side: 2 });
   assert.throws(() => exifnorm.jpegBlocks(bytes("ffd8 fffe0004 4142 ffe1")), (error) => {
     assert.ok(error instanceof exifnorm.HeadRefused && error instanceof exifnorm.Refused);
-    assert.deepEqual([error.cause, error.place, error.parts.map(({ marker }) => marker)], ["JpegCut", 8, [0xfe]]);
+    assert.deepEqual([error.cause, error.place, error.parts.map(({ marker }) => marker), error.blocks], ["JpegCut", 8, [0xfe], []]);
     return true;
   });
+  const cut = bytes("ffd8 ffe1000c 457869660000 4d4d002a ffe1000a 457869660000 0008 ffdb");
+  const blocks = [{ kind: "exif", data: bytes("4d4d002a 0008") }];
+  assert.throws(() => exifnorm.jpegBlocks(cut), { name: "HeadRefused", cause: "JpegCut", place: 28, blocks });
+  assert.throws(() => exifnorm.jpegParts(cut), { name: "HeadRefused", blocks: [] });
   const broken = bytes("ffd8 ffe1000a 457869660000 4d4d ffd9");
   assert.throws(() => exifnorm.jpegSame(bytes("ffd8 ffd9"), broken), {
     name: "PictureRefused", cause: "HeaderCut", place: 2, side: 2, kind: "exif", index: 0,

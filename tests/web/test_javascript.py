@@ -32,6 +32,10 @@ def digest(octets):
     return hashlib.sha256(octets).hexdigest()
 
 
+def digests(blocks):
+    return [[kind, digest(data)] for kind, data in blocks]
+
+
 CALLS = {
     "check": exifnorm.kind,
     "normalise": lambda block: digest(exifnorm.normal(block)),
@@ -39,7 +43,7 @@ CALLS = {
     "captions": lambda block: digest(exifnorm._calls.captions_text(block).encode()),
     "compare": exifnorm.same,
     "jpegParts": lambda bytes_: [list(part) for part in exifnorm.jpeg_parts(bytes_)],
-    "jpegBlocks": lambda bytes_: [[kind, digest(data)] for kind, data in exifnorm.jpeg_blocks(bytes_)],
+    "jpegBlocks": lambda bytes_: digests(exifnorm.jpeg_blocks(bytes_)),
     "jpegUnread": lambda bytes_: exifnorm.jpeg_unread(bytes_) and list(exifnorm.jpeg_unread(bytes_)),
     "jpegSame": exifnorm.jpeg_same,
     "photoshopResources": lambda bytes_: [list(resource) for resource in exifnorm.photoshop_resources(bytes_)],
@@ -53,6 +57,8 @@ def native(name, blocks):
     try:
         answer = CALLS[name](*blocks)
         return ["NotRead", answer.side, *answer.unread] if isinstance(answer, exifnorm.NotRead) else answer
+    except exifnorm.HeadRefused as why:
+        return ["HeadRefused", str(why), [list(part) for part in why.parts], digests(why.blocks)]
     except (exifnorm.Refused, exifnorm.NormalTooLong) as why:
         return [type(why).__name__, str(why)]
 
