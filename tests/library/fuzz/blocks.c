@@ -244,8 +244,26 @@ static void judge_places(void) {
     }
 }
 
-/* Each call refuses a head that is cut. The blocks of the whole parts before are found, but for a last one of Exif, which may go on behind. */
-static void judge_refusal(size_t length) {
+/* Whether some more bytes make a piece that continues a block of Exif: only bytes FF are there, or a segment APP1 with the mark of Exif and without
+ * a header of TIFF, as far as they go. */
+static int may_continue(const unsigned char *bytes, size_t length) {
+    size_t filling = 0;
+    while (filling < length && bytes[filling] == 0xFF)
+        filling++;
+    if (filling == length)
+        return 1;
+    bytes += filling;
+    length -= filling;
+    if (bytes[0] != 0xE1 || (length >= 3 && bytes[1] == 0 && bytes[2] < 2 + 6))
+        return 0;
+    size_t marked = length < 3 ? 0 : length < 9 ? length - 3 : 6;
+    if (marked > 0 && memcmp(bytes + 3, "Exif\0\0", marked) != 0)
+        return 0;
+    return length < 13 || (memcmp(bytes + 9, "II*", 4) != 0 && memcmp(bytes + 9, "MM\0*", 4) != 0);
+}
+
+/* Each call refuses a head that is cut. The blocks of the whole parts before are found, but for a last one of Exif that may go on behind. */
+static void judge_cut(size_t length) {
     Place place = {UNSET, UNSET, UNSET};
     struct exifnorm_jpeg_fault fault = {UNSET, UNSET};
     struct blocks found = blocks_of(length, MOST_BLOCKS, LONGEST_HEAD);
@@ -255,12 +273,22 @@ static void judge_refusal(size_t length) {
     uint32_t status = exifnorm_jpeg_unread(picture(length), length, &place, &fault);
     holds(LAW_BLOCKS_FAULT, found.status == EXIFNORM_REFUSED && found.fault.cause == EXIFNORM_JPEG_HEAD_CUT &&
                                 found.fault.place == head.begin[part]);
-    expect_blocks(part);
-    if (part > 0 && head.parts[part - 1].kind == EXIFNORM_JPEG_EXIF && found.sizes.blocks < expected.sizes.blocks)
-        expect_one_less();
-    holds(LAW_BLOCKS_BEFORE, are_blocks(found));
     holds(LAW_BLOCKS_FAULT, status == EXIFNORM_REFUSED && fault.cause == EXIFNORM_JPEG_HEAD_CUT && fault.place == head.begin[part] &&
                                 place.found == UNSET);
+    expect_blocks(part);
+    if (part > 0 && head.parts[part - 1].kind == EXIFNORM_JPEG_EXIF && may_continue(head.bytes + head.begin[part], length - head.begin[part]))
+        expect_one_less();
+    holds(LAW_BLOCKS_BEFORE, are_blocks(found));
+}
+
+/* Another byte than FF in place of a part: no more bytes mend that, so all blocks of the parts before are found. */
+static void judge_without(size_t part) {
+    head.bytes[head.begin[part]] = 0;
+    struct blocks found = blocks_of(head.length, MOST_BLOCKS, LONGEST_HEAD);
+    holds(LAW_BLOCKS_FAULT, found.status == EXIFNORM_REFUSED && found.fault.cause == EXIFNORM_JPEG_NO_MARKER &&
+                                found.fault.place == head.begin[part]);
+    expect_blocks(part);
+    holds(LAW_BLOCKS_BEFORE, are_blocks(found));
 }
 
 static void judge_unread(Place expected_place) {
@@ -300,5 +328,6 @@ void judge_blocks(const unsigned char *block, size_t length) {
     judge_places();
     judge_unread(place);
     judge_same(place);
-    judge_refusal(2 + next(&script) * 32 % (head.length - 2));
+    judge_cut(2 + next(&script) * 32 % (head.length - 2));
+    judge_without(next(&script) % head.count);
 }

@@ -54,7 +54,7 @@
     LAW(BLOCKS, "the blocks of a picture are its pieces, joined where a block has several") \
     LAW(BLOCKS_ROOM, "for an array that is too short for blocks or for joined bytes both numbers are returned, and nothing is written") \
     LAW(BLOCKS_FAULT, "the calls for blocks and for what is not read refuse a head that is cut, at the part that is cut") \
-    LAW(BLOCKS_BEFORE, "the blocks before a cut are those of the parts before it, but for a last one of Exif, which may go on") \
+    LAW(BLOCKS_BEFORE, "the blocks before a fault are those of the parts before it, but before a cut for a last one of Exif that may go on") \
     LAW(BLOCKS_CHECKED, "a picture is refused for the first block that check refuses, Exif before IPTC, and otherwise the same as itself") \
     LAW(UNREAD, "the place that is not read is the first one by the rules of the format, or there is none") \
     LAW(UNREAD_MEMORY, "a failed allocation while such a place is looked for is NO_MEMORY, or makes no difference") \

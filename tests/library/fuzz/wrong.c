@@ -93,6 +93,9 @@
     MISTAKE(BLOCKS_OF_CUT, "blocks are found in a head that is cut, and no fault") \
     MISTAKE(BLOCKS_FAULT_BESIDE, "the offset of a head's fault is one too high, for its blocks alone") \
     MISTAKE(BLOCKS_FAULT_ALONE, "of a head that is cut only the fault is returned") \
+    MISTAKE(BLOCKS_OPEN_KEPT, "before a cut, a last block of Exif that may go on is one of the blocks") \
+    MISTAKE(BLOCKS_ALL_OPEN, "before a cut, a last block of Exif is none of the blocks, even if it can't go on") \
+    MISTAKE(BLOCKS_OPEN_BEFORE_ALL, "before any other fault, too, a last block of Exif is none of the blocks") \
     MISTAKE(UNREAD_NONE, "all of a picture is read") \
     MISTAKE(UNREAD_BESIDE, "the place that is not read is one too high") \
     MISTAKE(UNREAD_IN_PICTURE, "a place in the joined bytes is one in the picture") \
@@ -540,6 +543,29 @@ static uint32_t changed_blocks(struct exifnorm_jpeg_block *blocks, size_t room, 
     return EXIFNORM_DONE;
 }
 
+/* The number of blocks without a last one of Exif. */
+static size_t without_exif(const struct exifnorm_jpeg_block *blocks, size_t count) {
+    return count - (count > 0 && blocks[count - 1].kind == EXIFNORM_JPEG_EXIF);
+}
+
+/* A mistake in the blocks before a cut. */
+static void change_cut(const unsigned char *bytes, struct exifnorm_jpeg_block *blocks, size_t room, unsigned char *out, size_t out_length, struct exifnorm_jpeg_sizes *sizes, size_t place) {
+    if (wrong == BLOCKS_FAULT_ALONE)
+        *sizes = (struct exifnorm_jpeg_sizes){0, 0};
+    if (wrong == BLOCKS_ALL_OPEN)
+        sizes->blocks = without_exif(blocks, sizes->blocks);
+    if (wrong != BLOCKS_OPEN_KEPT)
+        return;
+    struct exifnorm_jpeg_fault none;
+    unsigned char *ended = malloc(place + 2); /* the parts before the cut, and the end of the picture */
+    if (!ended)
+        abort();
+    memcpy(ended, bytes, place);
+    memcpy(ended + place, "\xff\xd9", 2);
+    right_blocks(ended, place + 2, blocks, room, out, out_length, sizes, &none);
+    free(ended);
+}
+
 uint32_t exifnorm_jpeg_blocks(const unsigned char *bytes, size_t length, struct exifnorm_jpeg_block *blocks, size_t room, unsigned char *out, size_t out_length, struct exifnorm_jpeg_sizes *sizes, struct exifnorm_jpeg_fault *fault) {
     if (is_right("jpeg_blocks"))
         return right_blocks(bytes, length, blocks, room, out, out_length, sizes, fault);
@@ -548,10 +574,12 @@ uint32_t exifnorm_jpeg_blocks(const unsigned char *bytes, size_t length, struct 
     uint32_t status = right_blocks(bytes, length, blocks, room, out, out_length, sizes, fault);
     if (status == EXIFNORM_DONE)
         return changed_blocks(blocks, room, out, out_length, sizes);
+    if (status == EXIFNORM_REFUSED && fault->cause == EXIFNORM_JPEG_HEAD_CUT)
+        change_cut(bytes, blocks, room, out, out_length, sizes, fault->place);
+    else if (status == EXIFNORM_REFUSED && wrong == BLOCKS_OPEN_BEFORE_ALL)
+        sizes->blocks = without_exif(blocks, sizes->blocks);
     if (status == EXIFNORM_REFUSED && wrong == BLOCKS_FAULT_BESIDE)
         fault->place++;
-    if (status == EXIFNORM_REFUSED && wrong == BLOCKS_FAULT_ALONE)
-        *sizes = (struct exifnorm_jpeg_sizes){0, 0};
     if (status == EXIFNORM_REFUSED && wrong == BLOCKS_OF_CUT)
         return *sizes = (struct exifnorm_jpeg_sizes){0, 0}, EXIFNORM_DONE;
     if (status == EXIFNORM_TOO_LITTLE_ROOM && wrong == BLOCKS_ROOM_FILLED)
