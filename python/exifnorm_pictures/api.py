@@ -84,7 +84,7 @@ class Field:
     @property
     def name(self) -> str:
         """The name with its group, as ExifTool has it: "IFD0:Artist", "IPTC:Keywords", "XMP-dc:title"."""
-        return group_name(self._field.where, self._field.key)
+        return group_name(self._field.directory, self._field.tag)
 
     @property
     def value(self) -> Value:
@@ -114,12 +114,12 @@ class Field:
     @property
     def key(self) -> str:
         """What identifies the field in its directory: "0x013b", "2:25", "dc:title"."""
-        return exact_key(self._field.where, self._field.key)
+        return exact_key(self._field.directory, self._field.tag)
 
     @property
     def directory(self) -> str:
         """The directory: "main", "exif", "interop", "gps", "thumb", "iptc" or "xmp"."""
-        return self._field.where
+        return self._field.directory
 
     @property
     def block(self) -> str:
@@ -608,6 +608,6 @@ def compare(before: Union[Picture, Source], after: Union[Picture, Source], *, as
 
 
 def _difference(change: differing.Difference) -> Difference:
-    block = change.block or NAMES.get(change.where, NAMES[EXIF])
+    block = change.block or NAMES.get(change.directory, NAMES[EXIF])
     before, after = (tuple(Field(one, block) for one in side) or None for side in (change.before, change.after))
     return Difference(change.name, before, after, change.is_equal_number, change.note)

@@ -100,8 +100,8 @@ def made_of(field):
 def test_what_is_kept_is_the_value(meaning):
     fields = fields_of(meaning)
     again = unpacked(packed(fields).octets)
-    assert again == [field._replace(value=kept_value(field)) for field in fields]
-    whole = [(one, other) for one, other in zip(fields, again) if not isinstance(other.value, Long)]
+    assert again == [field._replace(content=kept_value(field)) for field in fields]
+    whole = [(one, other) for one, other in zip(fields, again) if not isinstance(other.content, Long)]
     assert all(
         one == other and repr(typed.value_of(one)) == repr(typed.value_of(other)) and typed.raw(one) == typed.raw(other)
         for one, other in whole
@@ -120,7 +120,7 @@ COMMENT, VERSION = 0x9286, 0x9000  # UNDEFINED, and texts by CIPA DC-008 4.6
 @given(st.sampled_from(sorted(FORMS)).flatmap(value_of_type), st.sampled_from([0x829A, 0x9000, 0x9003, 0x9286, 0x927C, 0xA300, 0xA430]))
 def test_the_form_of_json_follows_from_the_type_and_the_tag(value, tag):
     """And never from the content: a byte that happens to be a letter is a number."""
-    field = next(it for it in fields_of(Exif({0x0112: Value(SHORT, [1])}, {tag: value})) if it.key == f"{tag:04x}")
+    field = next(it for it in fields_of(Exif({0x0112: Value(SHORT, [1])}, {tag: value})) if it.tag == f"{tag:04x}")
     found = typed.typed(field)
     json.dumps(found, allow_nan=False)
     if isinstance(kept_value(field), Long):

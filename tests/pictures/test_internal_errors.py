@@ -187,7 +187,7 @@ def test_fields_of_a_picture_have_a_limit(monkeypatch):
     (one,) = {it.fields for it in judge.judge_all(blocks, packs=True)}
     monkeypatch.setattr(judge, "KEPT_BYTES", 2 * packing.length(one))
     kept = [packing.unpacked(it.fields) for it in judge.judge_all(blocks, packs=True)]
-    assert [it[0].where for it in kept] == ["iptc", "iptc", "", "", ""]
+    assert [it[0].directory for it in kept] == ["iptc", "iptc", "", "", ""]
     assert exact(kept[-1][0]).startswith("too many to be kept; sha256:") and kept[-1] == kept[-2]
 
 

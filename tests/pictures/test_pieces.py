@@ -131,7 +131,7 @@ class Shown(unittest.TestCase):
     def test_xmp(self):
         def shown(inside, attributes=""):
             found = xmp.statements(packet_of(inside, attributes), xmp.Extensions({}), set())
-            return [(it.key, it.type, it.elements, listing.exact(it)) for it in xmp_properties.fields_of_statements(found)]
+            return [(it.tag, it.type, it.elements, listing.exact(it)) for it in xmp_properties.fields_of_statements(found)]
 
         lists = "".join(
             f"<dc:{name}><rdf:{kind}><rdf:li>b</rdf:li><rdf:li xml:lang='DE'>a</rdf:li></rdf:{kind}></dc:{name}>"

@@ -101,7 +101,7 @@ def values_of(folder, blocks):
 
 
 def fields_of(made):
-    return [(it.where, it.key, exact(it)) for it in normal_form.fields_of_form(made.form)]
+    return [(it.directory, it.tag, exact(it)) for it in normal_form.fields_of_form(made.form)]
 
 
 def lossless(block):

@@ -355,7 +355,7 @@ TITLE, COPYRIGHT = field("xmp", "dc:title", "text", 1, '"a"'), field("main", "82
 def test_labelled_fields_are_counted_beyond_the_limit():
     """Of a hostile picture with thousands of fields, too."""
     found = summary.Summary()
-    changes = [it for number in range(2000) for it in differences([], [TITLE._replace(key=f"x:f{number}")])]
+    changes = [it for number in range(2000) for it in differences([], [TITLE._replace(tag=f"x:f{number}")])]
     found.add(Compared(b"p", Result.DIFFERENT, changes=[*changes, *differences([COPYRIGHT], [])]))
     names = [it.name for it in found.fields()]
     assert names[0] == "IFD0:Copyright" and len(names) <= summary.FIELDS + 100

@@ -709,7 +709,7 @@ def _listed(listing):
 
 def _fields(form):
     return [
-        (*it[:4], it.value.hex() if isinstance(it.value, bytes) else numbers_text(it.type, it.value))
+        (*it[:4], it.content.hex() if isinstance(it.content, bytes) else numbers_text(it.type, it.content))
         for it in normal_form.fields_of_form(form)
     ]
 

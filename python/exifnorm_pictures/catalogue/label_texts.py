@@ -39,7 +39,7 @@ def rows_of(blocks: Sequence[Tuple[Block, List[Field]]], maker_notes: Mapping[st
     """
     known: Dict[Tuple[str, str], KeptText] = {}
     left = _MOST_CHARACTERS
-    has_more = any(is_rest(field.where, field.key) for _, fields in blocks for field in fields)
+    has_more = any(is_rest(field.directory, field.tag) for _, fields in blocks for field in fields)
     for label, text in chain(_texts(blocks), _of_maker_notes(maker_notes)):
         if not text or (label, text) in known:
             continue
@@ -60,7 +60,7 @@ def _texts(blocks: Sequence[Tuple[Block, List[Field]]]) -> Iterator[Tuple[str, s
     if place is not None:
         yield POSITION, place.text
     for field in fields:
-        label = _PRIVATE.get((field.where, field.key))
+        label = _PRIVATE.get((field.directory, field.tag))
         if label:
             yield from ((label, text) for text in _of_field(field))
 
@@ -77,7 +77,7 @@ _PRIVATE = {place: label for label, places in PRIVATE.items() for place in place
 
 
 def _of_field(field: Field) -> Iterator[str]:
-    if isinstance(field.value, bytes):
-        yield decoded(field.value)[0].strip(" \0")
-    elif field.where == "xmp" and isinstance(field.value, tuple):
-        yield from (text.strip() for value in field.value for text in texts_in(value))  # type: ignore[arg-type]
+    if isinstance(field.content, bytes):
+        yield decoded(field.content)[0].strip(" \0")
+    elif field.directory == "xmp" and isinstance(field.content, tuple):
+        yield from (text.strip() for value in field.content for text in texts_in(value))  # type: ignore[arg-type]

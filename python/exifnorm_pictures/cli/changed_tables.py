@@ -86,8 +86,8 @@ def field_members(difference: Difference) -> Members:
     sides = {"before": _side_members(plain[0], difference.before), "after": _side_members(plain[1], difference.after)}
     name = {
         "name": difference.name,
-        "directory": difference.where,
-        "key": exact_key(difference.where, difference.key),
+        "directory": difference.directory,
+        "key": exact_key(difference.directory, difference.tag),
         "block": difference.block or None,
     }
     return {**name, **sides, "equal_number": difference.is_equal_number, "note": difference.note or None}

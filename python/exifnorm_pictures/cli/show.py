@@ -91,7 +91,7 @@ class _Lines:
 
 def _plain_line(field: Field) -> str:
     """A field with its name and its plain value. The column is always the same, so that a further field changes no other line."""
-    name = group_name(field.where, field.key)
+    name = group_name(field.directory, field.tag)
     return f"  {name}{' ' * max(0, _COLUMN - width(name))}  {escaped(plain(field))}"
 
 
@@ -120,7 +120,7 @@ def _print_rows(table: Table, reading: Reading) -> None:
                 reading.name, block.name, *_NO_FIELD, block.line + (f"; repaired in memory: {steps.words(block.steps)}" if note else "")
             )
         for field in shown.of(block):
-            name = (group_name(field.where, field.key), exact_key(field.where, field.key))
+            name = (group_name(field.directory, field.tag), exact_key(field.directory, field.tag))
             values = (*name, field.type, field.elements, plain(field), exact(field))
             table.row(reading.name, block.name, *values, note)
         if shown.has_more:
@@ -159,6 +159,6 @@ def _block_members(block: Block, shown: _Shown) -> Members:
 
 def _field_members(field: Field) -> Members:
     """A field: its name for people, what identifies it, and its value for people, exactly and for programs."""
-    name = {"name": group_name(field.where, field.key), "directory": field.where, "key": exact_key(field.where, field.key)}
+    name = {"name": group_name(field.directory, field.tag), "directory": field.directory, "key": exact_key(field.directory, field.tag)}
     values = {"type": field.type, "count": field.elements, "plain": plain(field), "exact": exact(field), "value": typed(field)}
     return {**name, **values}

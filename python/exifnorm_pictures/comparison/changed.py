@@ -192,7 +192,7 @@ def _judge_maker_notes(
         return parts
     comparison.note += "; MakerNote moved, reads the same (ExifTool)"
     comparison.changes = [change for change in comparison.changes if change not in lines]
-    if not any(change.where in _OF_EXIF for change in comparison.changes):
+    if not any(change.directory in _OF_EXIF for change in comparison.changes):
         plain = [
             verdict.kind == EXIF and verdict.result in (Result.SAME, Result.DIFFERENT, Result.DIFFERENT_REPAIRED)
             for verdict in comparison.verdicts
@@ -283,13 +283,13 @@ def _known(differences: List[Difference], old: Optional[Block], new: Optional[Bl
     unknown = [it for it in differences if (not it.before and _is_of(it, lost[0])) or (not it.after and _is_of(it, lost[1]))]
     if not unknown:
         return differences, ""
-    groups = " and ".join(dict.fromkeys(group_of(it.where) for it in unknown))
+    groups = " and ".join(dict.fromkeys(group_of(it.directory) for it in unknown))
     many = f"{len(unknown):,} field{'s' * (len(unknown) > 1)} of {groups} that one picture has"
     return [it for it in differences if it not in unknown], f"; {many}: the repair of the other one may have lost them"
 
 
 def _is_of(difference: Difference, lost: FrozenSet[str]) -> bool:
-    return difference.where in lost or f"{difference.where} {difference.key}" in lost
+    return difference.directory in lost or f"{difference.directory} {difference.tag}" in lost
 
 
 class _Left:
@@ -304,10 +304,10 @@ class _Left:
 
     def without(self, kind: str, differences: List[Difference], is_equal: bool) -> List[Difference]:
         """The differences of a block that count. If there is none at all, and the blocks aren't equal, something else differs."""
-        kept = [it for it in differences if self.choice.counts(it.where, it.key, it.block)]
+        kept = [it for it in differences if self.choice.counts(it.directory, it.tag, it.block)]
         if len(kept) < len(differences):
             self.by_fields.add(kind)
-            self.names.update({it.name: None for it in differences if not self.choice.counts(it.where, it.key, it.block)})
+            self.names.update({it.name: None for it in differences if not self.choice.counts(it.directory, it.tag, it.block)})
         counted = [it for it in kept if not (self.choice.equal_numbers and it.is_equal_number)]
         if len(counted) < len(kept):
             self.by_numbers.add(kind)

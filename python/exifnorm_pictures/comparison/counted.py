@@ -112,14 +112,14 @@ def _counted(row: Tuple[str, str, str, Optional[str], str, Optional[str], Option
 
 def _with_exact_xmp(field: Field) -> Any:
     """A field, one of XMP with its exact value, in which the members of a list without an order have one."""
-    return field._replace(value=exact(field)) if field.where == "xmp" else field  # type: ignore[arg-type]
+    return field._replace(content=exact(field)) if field.directory == "xmp" else field  # type: ignore[arg-type]
 
 
 def _digest(fields: Sequence[Field], choice: Choice) -> str:
     """SHA-256 of the fields that count; empty without any."""
     if not fields:
         return ""
-    return _sum([(it.where, it.key, equal_form(it)) for it in fields] if choice.equal_numbers else fields)
+    return _sum([(it.directory, it.tag, equal_form(it)) for it in fields] if choice.equal_numbers else fields)
 
 
 def _sum(fields: Sequence[Tuple[object, ...]]) -> str:

@@ -17,8 +17,8 @@ NUMBERS = ("BYTE", "SHORT", "LONG", "WHOLE", "SSHORT", "SLONG", "RATIONAL", "SRA
 class Difference(NamedTuple):
     """A field that only one block has, or that has other values in the two."""
 
-    where: str
-    key: str
+    directory: str
+    tag: str
     before: Tuple[Field, ...]  # several of a repeated DataSet, none if there is no such field
     after: Tuple[Field, ...]
     block: str = ""  # of which block; empty for the first one of its kind
@@ -28,12 +28,12 @@ class Difference(NamedTuple):
     @property
     def change_name(self) -> str:
         """The name in JSON."""
-        return (f"{self.block}: " if self.block else "") + full_name(self.where, self.key)
+        return (f"{self.block}: " if self.block else "") + full_name(self.directory, self.tag)
 
     @property
     def name(self) -> str:
         """The name for people: `IFD0:Artist`."""
-        return group_name(self.where, self.key) + (f" ({self.block})" if self.block else "")
+        return group_name(self.directory, self.tag) + (f" ({self.block})" if self.block else "")
 
     @property
     def sign(self) -> str:
@@ -72,10 +72,10 @@ def equal_form(field: Field) -> Tuple[object, ...]:
     True
     """
     if field.type in OCTETS:
-        return ("octets", field.elements, _octets_form(field.value))
-    if field.type not in NUMBERS or isinstance(field.value, Long):
-        return (field.type, field.elements, field.value)
-    return tuple(map(_number, field.value))
+        return ("octets", field.elements, _octets_form(field.content))
+    if field.type not in NUMBERS or isinstance(field.content, Long):
+        return (field.type, field.elements, field.content)
+    return tuple(map(_number, field.content))
 
 
 def _octets_form(value: Any) -> object:
@@ -114,5 +114,5 @@ def _directory(where: str, there: Sequence["set[str]"]) -> str:
 def _by_name(fields: Sequence[Field]) -> Dict[Tuple[str, str], List[Field]]:
     result: Dict[Tuple[str, str], List[Field]] = {}
     for field in fields:
-        result.setdefault((field.where, field.key), []).append(field)
+        result.setdefault((field.directory, field.tag), []).append(field)
     return result

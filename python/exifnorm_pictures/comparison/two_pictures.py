@@ -133,7 +133,7 @@ def _note_rows(comparison: Compared) -> List[FieldRow]:
 
 
 def _place(row: FieldRow) -> int:
-    where = row.differences[0].where if row.differences else "exif"
+    where = row.differences[0].directory if row.differences else "exif"
     return KINDS.index({"iptc": KINDS[1], "xmp": KINDS[2]}.get(where, KINDS[0]))
 
 
@@ -151,8 +151,8 @@ def with_position(rows: List[FieldRow], picture: Picture, other: Picture) -> Lis
         row
         for row in rows
         if row.differences
-        and row.differences[0].where == "gps"
-        and row.differences[0].key in POSITION_TAGS
+        and row.differences[0].directory == "gps"
+        and row.differences[0].tag in POSITION_TAGS
         and not row.differences[0].block
     ]
     places = [_position(it) for it in (picture, other)]
@@ -166,7 +166,7 @@ def with_position(rows: List[FieldRow], picture: Picture, other: Picture) -> Lis
 
 
 def _gps(picture: Picture) -> Dict[str, Field]:
-    return {one.key: one for block in picture.blocks if block.name == NAMES[KINDS[0]] for one in fields_of(block) if one.where == "gps"}
+    return {one.tag: one for block in picture.blocks if block.name == NAMES[KINDS[0]] for one in fields_of(block) if one.directory == "gps"}
 
 
 def _has_position(picture: Picture) -> bool:

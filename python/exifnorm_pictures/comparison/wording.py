@@ -65,9 +65,9 @@ def line_of(difference: Difference, exactly: bool = False) -> str:
 
 def tag_of(difference: Difference) -> str:
     """The number of a field's tag or DataSet, where it isn't its name."""
-    if difference.where == "xmp" or difference.key in difference.name:
+    if difference.directory == "xmp" or difference.tag in difference.name:
         return ""
-    return difference.key if ":" in difference.key else f"0x{difference.key}" if len(difference.key) == 4 else ""
+    return difference.tag if ":" in difference.tag else f"0x{difference.tag}" if len(difference.tag) == 4 else ""
 
 
 def what(difference: Difference) -> What:
@@ -75,7 +75,7 @@ def what(difference: Difference) -> What:
     if difference.note:
         note = difference.note.partition(":")[0]  # without the number of values, which differs from picture to picture
         return _what(f": {note}")
-    if difference[:2] == MAKER_NOTE or (difference.where == "thumb" and difference.key in ("jpeg", "strip")):
+    if difference[:2] == MAKER_NOTE or (difference.directory == "thumb" and difference.tag in ("jpeg", "strip")):
         return _what(": other bytes" if difference.before else ": added")
     listed = _of_list(difference)
     if listed:
@@ -145,7 +145,7 @@ def _members(fields: Sequence[Field]) -> Optional[List[str]]:
     """The members of a list of texts, in quotes; None for a field that is none."""
     if not fields:
         return []
-    if fields[0].where == "iptc" and fields[0].key in _REPEATED:
+    if fields[0].directory == "iptc" and fields[0].tag in _REPEATED:
         return [in_line(it) for it in fields]
     if len(fields) == 1 and fields[0].type in ("Bag", "Seq"):
         texts = xmp_texts(fields[0])

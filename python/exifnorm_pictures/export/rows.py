@@ -118,16 +118,16 @@ def _block_row(picture: Picture, number: int, block: Block) -> Row:
 
 def _field_row(field: Field) -> Row:
     """A row of a field, which is kept for the next picture if it is short: pictures have many fields in common."""
-    return _short_row(field) if isinstance(field.value, bytes) and len(field.value) <= CACHED else _row(field)
+    return _short_row(field) if isinstance(field.content, bytes) and len(field.content) <= CACHED else _row(field)
 
 
 def _row(field: Field) -> Row:
     value = typed(field)
     number = float(value) if isinstance(value, (int, float)) else None
     return (
-        group_name(field.where, field.key),
-        field.where,
-        exact_key(field.where, field.key),
+        group_name(field.directory, field.tag),
+        field.directory,
+        exact_key(field.directory, field.tag),
         field.type,
         field.elements,
         plain(field),

@@ -172,12 +172,12 @@ class Choice:
 
     def of(self, fields: Iterable[Field], block: str = "") -> List[Field]:
         """Those of some fields that count."""
-        return [it for it in fields if self.counts(it.where, it.key, block)]
+        return [it for it in fields if self.counts(it.directory, it.tag, block)]
 
     def see(self, fields: Iterable[Field], block: str = "") -> None:
         """Notes which patterns fit these fields."""
         for field in fields:
-            self.counts(field.where, field.key, block)
+            self.counts(field.directory, field.tag, block)
 
     def see_kind(self, kind: str) -> None:
         """Notes that blocks of a kind are left out as wholes."""

@@ -166,23 +166,23 @@ def of_block(fields: Iterable[Field]) -> Iterator[LabelText]:
     [('creator', 'Exif', 'IFD0:Artist', ('Anna',))]
     """
     labelled = [it for it in fields if word_of(it) is not None]
-    return _of_properties(labelled) if labelled and labelled[0].where == "xmp" else _of_octets_fields(labelled)
+    return _of_properties(labelled) if labelled and labelled[0].directory == "xmp" else _of_octets_fields(labelled)
 
 
 def word_of(field: Field) -> Optional[str]:
     """The label of a field that has a part in one."""
-    if field.where == "xmp":
-        return _XMP.get(field.key)
-    return _IPTC.get(field.key) if field.where == "iptc" else _EXIF.get(field.key) if field.where in ("main", "exif") else None
+    if field.directory == "xmp":
+        return _XMP.get(field.tag)
+    return _IPTC.get(field.tag) if field.directory == "iptc" else _EXIF.get(field.tag) if field.directory in ("main", "exif") else None
 
 
 def not_kept(fields: Iterable[Field]) -> Set[str]:
     """The labels of which a text is too long to be kept."""
-    return {word for it in fields for word in [word_of(it)] if word and (isinstance(it.value, Long) or _has_long(it))}
+    return {word for it in fields for word in [word_of(it)] if word and (isinstance(it.content, Long) or _has_long(it))}
 
 
 def _has_long(field: Field) -> bool:
-    return field.where == "xmp" and any(isinstance(one, Long) for one in field.value)
+    return field.directory == "xmp" and any(isinstance(one, Long) for one in field.content)
 
 
 # Exif and IPTC
@@ -197,11 +197,11 @@ def _of_octets_fields(fields: Sequence[Field]) -> Iterator[LabelText]:
     record: _Values = {}
     utf8: Set[str] = set()
     for field in fields:
-        if isinstance(field.value, bytes) and field.where == "iptc":
-            record.setdefault(field.key, []).append(field.value)
-        elif isinstance(field.value, bytes):
-            exif[field.key] = [field.value]
-            utf8.update({field.key} if field.type == "UTF8" else ())
+        if isinstance(field.content, bytes) and field.directory == "iptc":
+            record.setdefault(field.tag, []).append(field.content)
+        elif isinstance(field.content, bytes):
+            exif[field.tag] = [field.content]
+            utf8.update({field.tag} if field.type == "UTF8" else ())
     for label in LABELS:
         if label.word == DATE:
             yield from _dates(exif, record)
@@ -221,7 +221,7 @@ def with_own(texts: Sequence[LabelText], make: str = "", model: str = "") -> Lis
 
 def camera_of(fields: Iterable[Field]) -> Tuple[str, str]:
     """The make and the model in a block of Exif."""
-    values = {it.key: it.value for it in fields if it.where == "main" and it.key in _CAMERA and isinstance(it.value, bytes)}
+    values = {it.tag: it.content for it in fields if it.directory == "main" and it.tag in _CAMERA and isinstance(it.content, bytes)}
     make, model = (decoded(values.get(key, b""))[0] for key in _CAMERA)
     return make, model
 
@@ -280,7 +280,7 @@ def _text(values: Optional[Sequence[bytes]]) -> str:
 
 def _of_properties(fields: Sequence[Field]) -> Iterator[LabelText]:
     """The texts of a packet, by its properties."""
-    by_key = {it.key: tuple(text.strip() for value in it.value for text in texts_in(value)) for it in fields}  # type: ignore[arg-type]
+    by_key = {it.tag: tuple(text.strip() for value in it.content for text in texts_in(value)) for it in fields}  # type: ignore[arg-type]
     for label in LABELS:
         if label.xmp in by_key:
             values = by_key[label.xmp]

@@ -38,16 +38,16 @@ class Field(NamedTuple):
     - `Long` in place of a value that is too long to be kept
     """
 
-    where: str
-    key: str
+    directory: str
+    tag: str
     type: str
     elements: int
-    value: Value
+    content: Value
 
     @property
-    def name(self) -> str:
+    def full_name(self) -> str:
         """The name and its directory, as in JSON."""
-        return full_name(self.where, self.key)
+        return full_name(self.directory, self.tag)
 
 
 MAKER_NOTE = ("exif", "927c")
@@ -60,18 +60,18 @@ def is_rest(where: str, key: str) -> bool:
 
 def is_comment(field: Field) -> bool:
     """Whether a field has eight bytes for a character set, and then its text (CIPA DC-008 4.6.6)."""
-    return field.key == "9286" or (field.where == "gps" and field.key in ("001b", "001c"))
+    return field.tag == "9286" or (field.directory == "gps" and field.tag in ("001b", "001c"))
 
 
 def is_wide_text(field: Field) -> bool:
     """Whether a field is a text of Windows."""
-    return field.where == "main" and field.key in WIDE_TEXTS
+    return field.directory == "main" and field.tag in WIDE_TEXTS
 
 
 def is_text(field: Field) -> bool:
     """Whether a field of bytes is a text by its type or its standard, whatever bytes it has."""
-    if field.where == "iptc":
-        return field.key[:2] in ("1:", "2:") and field.key not in _OTHER_DATASETS
+    if field.directory == "iptc":
+        return field.tag[:2] in ("1:", "2:") and field.tag not in _OTHER_DATASETS
     return field.type in ("ASCII", "UTF8") or is_comment(field) or is_wide_text(field)
 
 
@@ -89,14 +89,14 @@ def kept_value(field: Field) -> Value:
     >>> kept_value(Field("exif", "927c", "UNDEFINED", 40, bytes(40)))
     Long(digest='2c34ce1df23b838c5abf2a7f6437cca3', begins=b'\\x00\\x00\\x00\\x00\\x00\\x00\\x00\\x00')
     """
-    value = field.value
+    value = field.content
     if isinstance(value, bytes):
-        if field.where == "thumb" and field.type == "octets":
+        if field.directory == "thumb" and field.type == "octets":
             return Long(digest_of(value), b"")
         return Long(digest_of(value), value[:8]) if len(value) > LONGEST_BYTES and _is_long(field, value) else value
     if isinstance(value, Long):
         return value
-    if field.where == "xmp":
+    if field.directory == "xmp":
         return tuple([_kept_property(one) for one in value])  # type: ignore[arg-type]
     if field.elements <= 6:  # the longest fraction has 22 characters
         return value
@@ -136,13 +136,13 @@ def exact(field: Field) -> str:
         return _exact_octets(field, value)
     if isinstance(value, Long):
         return _exact_long(field, value)
-    if field.where == "xmp":
+    if field.directory == "xmp":
         return ", ".join(map(xmp_values.exact, value))  # type: ignore[arg-type]
     return numbers_text(field.type, value)  # type: ignore[arg-type]
 
 
 def _exact_long(field: Field, value: Long) -> str:
-    if not field.where:
+    if not field.directory:
         return f"{value.begins!s}; sha256:{value.digest}"
     begins = f"0x{value.begins.hex()}" if value.begins and isinstance(value.begins, bytes) else str(value.begins or "")
     return f"{begins}.. sha256:{value.digest}" if begins else f"sha256:{value.digest}"
@@ -214,14 +214,14 @@ def readable(fields: Iterable[Field], kind: str) -> Iterator[str]:
     yield f"{kind}:"
     where = None
     for field in fields:
-        if field.where != where:
-            where = field.where
-            yield f"  [{group_of(field.where)}]"
-        name = plain_name(field.where, field.key)
+        if field.directory != where:
+            where = field.directory
+            yield f"  [{group_of(field.directory)}]"
+        name = plain_name(field.directory, field.tag)
         if where == "xmp":
             yield f"    {name:<35} {field.type:<14} {shortened(exact(field))}"
             continue
-        yield f"    {field.key:<6} {name:<28} {counted_type(field):<14} {shortened(exact(field))}".rstrip()
+        yield f"    {field.tag:<6} {name:<28} {counted_type(field):<14} {shortened(exact(field))}".rstrip()
 
 
 def counted_type(field: Field) -> str:

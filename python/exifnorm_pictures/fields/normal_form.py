@@ -18,7 +18,7 @@ def fields_of_form(form: bytes) -> List[Field]:
     """The fields of a normal form, in the order of a listing.
 
     >>> fields_of_form(b"\\x1c\\x02\\x78\\x00\\x04Vase")
-    [Field(where='iptc', key='2:120', type='octets', elements=4, value=b'Vase')]
+    [Field(directory='iptc', tag='2:120', type='octets', elements=4, content=b'Vase')]
     """
     each = places(form)
     if len(form) <= _LEAST * FIELDS:

@@ -90,8 +90,8 @@ def _compressed(text: bytes, count: int) -> bytes:
 
 
 def _json_of_octets(field: Field) -> str:
-    value = field.value
-    if not isinstance(value, bytes) or len(value) > LONGEST_BYTES or field.where == "thumb":  # which a short value needn't be asked
+    value = field.content
+    if not isinstance(value, bytes) or len(value) > LONGEST_BYTES or field.directory == "thumb":  # which a short value needn't be asked
         value = kept_value(field)
     if isinstance(value, bytes):
         text = plain_text(value)
@@ -101,14 +101,14 @@ def _json_of_octets(field: Field) -> str:
 
 
 def _json_of_others(field: Field) -> str:
-    value: Any = field.value
-    if field.elements == 1 and field.where != "xmp" and not isinstance(value, Long):
+    value: Any = field.content
+    if field.elements == 1 and field.directory != "xmp" and not isinstance(value, Long):
         number = value[0]
         return f"[{number[0]},{number[1]}]" if isinstance(number, tuple) else str(number)
     value = kept_value(field)
     if isinstance(value, Long):
         return f'["{value.digest}",{_quoted(str(value.begins))}]'
-    if field.where == "xmp":
+    if field.directory == "xmp":
         return f"[{','.join(map(_json_of_property, value))}]"
     if field.type in ("RATIONAL", "SRATIONAL"):
         return f"[{','.join(['%d,%d' % one for one in value])}]"

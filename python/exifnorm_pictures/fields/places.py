@@ -46,10 +46,10 @@ def position_of(fields: Iterable[Field]) -> Optional[Place]:
     gps: Dict[str, Field] = {}
     properties: Dict[str, Field] = {}
     for field in fields:
-        if field.where == "gps":
-            gps.setdefault(field.key, field)
-        elif field.where == "xmp" and field.key in ("exif:GPSLatitude", "exif:GPSLongitude"):
-            properties.setdefault(field.key, field)
+        if field.directory == "gps":
+            gps.setdefault(field.tag, field)
+        elif field.directory == "xmp" and field.tag in ("exif:GPSLatitude", "exif:GPSLongitude"):
+            properties.setdefault(field.tag, field)
     exif = _place(_of_exif(gps.get("0002"), gps.get("0001"), "NS"), _of_exif(gps.get("0004"), gps.get("0003"), "EW"))
     return exif or _place(_of_xmp(properties.get("exif:GPSLatitude"), "NS"), _of_xmp(properties.get("exif:GPSLongitude"), "EW"))
 
@@ -70,9 +70,9 @@ def _of_exif(angle: Optional[Field], letter: Optional[Field], signs: str) -> Opt
 
 def _of_xmp(field: Optional[Field], signs: str) -> Optional[Fraction]:
     """An angle of XMP: `54,59,22.8N` or `54,59.38N` (XMP part 2, 8.7.5)."""
-    if field is None or not isinstance(field.value, tuple):
+    if field is None or not isinstance(field.content, tuple):
         return None
-    text = next(iter(texts_in(field.value[0])), "").strip()  # type: ignore[arg-type]
+    text = next(iter(texts_in(field.content[0])), "").strip()  # type: ignore[arg-type]
     match = re.fullmatch(r"(\d{1,3}),(\d{1,2}(?:\.\d+)?)(?:,(\d{1,2}(?:\.\d+)?))?([NSEW])", text)
     if match is None or match[4] not in signs:
         return None

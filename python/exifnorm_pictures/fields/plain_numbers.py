@@ -38,7 +38,7 @@ def fractions(field: Field) -> Optional[List[Optional[Fraction]]]:
 
 def integer(field: Field) -> Optional[int]:
     """The number of a field that is one."""
-    value: Any = field.value
+    value: Any = field.content
     return int(value[0]) if field.type in INTEGERS and not isinstance(value, Long) and len(value) == 1 else None
 
 
@@ -175,15 +175,19 @@ def iptc_time(field: Field) -> Optional[str]:
 def iptc_number(field: Field) -> Optional[str]:
     """A binary number of IIM in two bytes."""
     return (
-        str(int.from_bytes(field.value, "big"))
-        if isinstance(field.value, bytes) and len(field.value) == 2 and text_of(field) is None
+        str(int.from_bytes(field.content, "big"))
+        if isinstance(field.content, bytes) and len(field.content) == 2 and text_of(field) is None
         else None
     )
 
 
 def dotted(field: Field) -> Optional[str]:
     """A version of four bytes, as GPSVersionID."""
-    return ".".join(map(str, field.value)) if isinstance(field.value, bytes) and len(field.value) == 4 and text_of(field) is None else None
+    return (
+        ".".join(map(str, field.content))
+        if isinstance(field.content, bytes) and len(field.content) == 4 and text_of(field) is None
+        else None
+    )
 
 
 def version(field: Field) -> Optional[str]:

@@ -80,7 +80,7 @@ def plain_comment(field: Field) -> Optional[str]:
     text = text_of(field)
     if text is not None:
         return text.partition("\0")[0].rstrip() or EMPTY
-    text = comment(field.value) if isinstance(field.value, bytes) else None
+    text = comment(field.content) if isinstance(field.content, bytes) else None
     return None if text is None else text or EMPTY
 
 
@@ -89,10 +89,10 @@ def plain_comment(field: Field) -> Optional[str]:
 
 def xmp_texts(field: Field) -> Optional[List[Tuple[str, str]]]:
     """The texts of a simple value or of a list of such, each with its language. None for a structure, or a value that isn't kept whole."""
-    if isinstance(field.value, Long):
+    if isinstance(field.content, Long):
         return None
     try:
-        return [one for value in field.value for one in simple_texts(value)]  # type: ignore[arg-type]
+        return [one for value in field.content for one in simple_texts(value)]  # type: ignore[arg-type]
     except ValueError:
         return None
 

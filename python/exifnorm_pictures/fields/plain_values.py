@@ -79,11 +79,11 @@ def _letter(words: Dict[str, str]) -> Rule:
 
 def _byte(*words: str) -> Rule:
     known = {bytes([number]): word for number, word in enumerate(words)}
-    return lambda it: known.get(it.value) if isinstance(it.value, bytes) else None
+    return lambda it: known.get(it.content) if isinstance(it.content, bytes) else None
 
 
 def _character_set(field: Field) -> Optional[str]:
-    return "UTF-8" if field.value == b"\x1b%G" else None
+    return "UTF-8" if field.content == b"\x1b%G" else None
 
 
 _EXIF: Dict[str, Rule] = {
@@ -134,7 +134,7 @@ def plain(field: Field) -> str:
     >>> plain(Field("exif", "829a", "RATIONAL", 1, ((10, 1250),))), plain(Field("main", "0112", "SHORT", 1, (6,)))
     ('1/125 s', 'turn 90° clockwise to view')
     """
-    if field.where == "xmp":
+    if field.directory == "xmp":
         return plain_xmp(field) or EMPTY
     return _in_words(field) or _text(field) or _without_words(field)
 
@@ -145,7 +145,7 @@ def in_line(field: Field) -> str:
     >>> in_line(Field("main", "013b", "ASCII", 5, b"Otto\\0")), in_line(Field("xmp", "dc:title", "text", 1, (Literal("Vase"),)))
     ('"Otto"', '"Vase"')
     """
-    if field.where == "xmp":
+    if field.directory == "xmp":
         return quoted_xmp(field)
     words = _in_words(field)
     text = words if is_comment(field) else None if words else _text(field)
@@ -156,7 +156,7 @@ def in_line(field: Field) -> str:
 
 def _in_words(field: Field) -> Optional[str]:
     """The value by the rule of its field, if there is one."""
-    rule = _RULES.get(field.where, {}).get(field.key)
+    rule = _RULES.get(field.directory, {}).get(field.tag)
     return rule(field) if rule else None
 
 
@@ -165,8 +165,8 @@ def _text(field: Field) -> Optional[str]:
     text = text_of(field)
     if text is not None:
         return text.rstrip("\0 ") or EMPTY
-    if (field.type in ("ASCII", "UTF8") or field.where == "iptc") and isinstance(kept_value(field), bytes):
-        return guessed(field.value) or EMPTY  # type: ignore[arg-type]
+    if (field.type in ("ASCII", "UTF8") or field.directory == "iptc") and isinstance(kept_value(field), bytes):
+        return guessed(field.content) or EMPTY  # type: ignore[arg-type]
     return None
 
 

@@ -30,20 +30,20 @@ def value_of(field: Field) -> Value:
     >>> value_of(Field("exif", "829a", "RATIONAL", 1, ((1, 60),))), value_of(Field("exif", "9003", "ASCII", 20, b"2019:03:12 11:20:45\\0"))
     (Fraction(1, 60), datetime.datetime(2019, 3, 12, 11, 20, 45))
     """
-    if isinstance(field.value, Long):
+    if isinstance(field.content, Long):
         return None
-    if field.where == "xmp":
-        return _of_xmp(field.value)  # type: ignore[arg-type]
-    if not isinstance(field.value, bytes):
+    if field.directory == "xmp":
+        return _of_xmp(field.content)  # type: ignore[arg-type]
+    if not isinstance(field.content, bytes):
         return _one_or_all(_numbers(field))
-    value = _of_octets(field, field.value)
+    value = _of_octets(field, field.content)
     text = value.strip("\0 ") if isinstance(value, str) else ""
-    if (field.where, field.key) in _DATES:
+    if (field.directory, field.tag) in _DATES:
         return _moment(text, "%Y:%m:%d %H:%M:%S") or value
-    if field.where == "iptc" and field.key in _DATASET_DATES:
+    if field.directory == "iptc" and field.tag in _DATASET_DATES:
         day = _moment(text, "%Y%m%d")
         return day.date() if day else value
-    if field.where == "iptc" and field.key in _DATASET_TIMES:
+    if field.directory == "iptc" and field.tag in _DATASET_TIMES:
         moment = _moment(text, "%H%M%S%z") or _moment(text, "%H%M%S")
         return moment.timetz() if moment else value
     return value
@@ -58,7 +58,7 @@ def typed(field: Field) -> Any:
     (65, {'hex': '01020300'})
     """
     value = kept_value(field)
-    if field.where == "xmp":
+    if field.directory == "xmp":
         return _json_of_xmp(field)
     if isinstance(value, Long):
         return {"sha256": value.digest, "count": field.elements}
@@ -85,7 +85,7 @@ def _one_or_all(values: Sequence[Value]) -> Value:
 
 def _numbers(field: Field) -> List[Value]:
     """The numbers of a field; None for a fraction with the denominator 0."""
-    values: Any = field.value
+    values: Any = field.content
     if field.type in ("RATIONAL", "SRATIONAL"):
         return [Fraction(*one) if one[1] else None for one in values]
     if field.type in ("FLOAT", "DOUBLE"):
@@ -96,9 +96,9 @@ def _numbers(field: Field) -> List[Value]:
 
 def _of_octets(field: Field, octets: bytes) -> Value:
     """A text, numbers, or the bytes."""
-    if field.where == "iptc":
-        return _of_dataset(field.key, octets)
-    if field.type in ("ASCII", "UTF8") or (field.type == "UNDEFINED" and (field.where, field.key) in _VERSIONS):
+    if field.directory == "iptc":
+        return _of_dataset(field.tag, octets)
+    if field.type in ("ASCII", "UTF8") or (field.type == "UNDEFINED" and (field.directory, field.tag) in _VERSIONS):
         return _text(octets)
     if is_comment(field):
         marked = marked_text(field, octets)
@@ -131,11 +131,11 @@ def _moment(text: str, form: str) -> Optional[datetime]:
 
 def raw(field: Field) -> Optional[bytes]:
     """The bytes of a value, most significant byte first; None for XMP, and for a value that isn't kept whole."""
-    if isinstance(field.value, bytes):
-        return field.value
-    if isinstance(field.value, Long) or field.where == "xmp":
+    if isinstance(field.content, bytes):
+        return field.content
+    if isinstance(field.content, Long) or field.directory == "xmp":
         return None
-    values: Any = field.value
+    values: Any = field.content
     if field.type in ("RATIONAL", "SRATIONAL"):
         values = [number for one in values for number in one]
     return struct.pack(f">{len(values)}{_LETTERS[field.type]}", *values)
@@ -187,7 +187,7 @@ def _one_of_xmp(value: XmpValue) -> Value:
 
 def _json_of_xmp(field: Field) -> Any:
     """A text, a list of texts, or a list of texts with their languages."""
-    pairs = xmp_texts(field._replace(value=kept_value(field)))
+    pairs = xmp_texts(field._replace(content=kept_value(field)))
     if pairs is None:
         long = [one for one in kept_value(field) if isinstance(one, Long)]
         return {"sha256": long[0].digest, "count": field.elements} if long else None

@@ -18,7 +18,7 @@ def fields_of_statements(statements: Statements) -> List[Field]:
     """A field for each property, by its name.
 
     >>> fields_of_statements((Statement("http://purl.org/dc/elements/1.1/format", Literal("image/jpeg")),))
-    [Field(where='xmp', key='dc:format', type='text', elements=1, value=(Literal(text='image/jpeg', language='', datatype=''),))]
+    [Field(directory='xmp', tag='dc:format', type='text', elements=1, content=(Literal(text='image/jpeg', language='', datatype=''),))]
     """
     by_property: Dict[str, List[Value]] = {}
     for predicate, value in unique(statements):
