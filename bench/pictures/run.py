@@ -28,7 +28,7 @@ sys.dont_write_bytecode = True
 
 import made_files as made
 from exifnorm_pictures.catalogue.store import Catalogue
-from exifnorm_pictures.fields.listing import Field
+from exifnorm_pictures.fields.field import Field
 from exifnorm_pictures.fields.packing import packed
 from exifnorm_pictures.model.found import EXIF, IPTC, NAMES, XMP
 from exifnorm_pictures.model.records import Block, Picture, Stamp

@@ -25,6 +25,7 @@ if TYPE_CHECKING:
     from typing import List
 
     from .api import *  # noqa: F403 (type checkers take the names of __all__)
+    from .fields.field import Field
     from .many import read_all
 
 __all__ = [

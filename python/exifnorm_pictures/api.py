@@ -15,9 +15,10 @@ from .comparison.conflicts import chosen, conflicts
 from .extract import coded_picture, extraction, programs
 from .extract.file_objects import FileObject, seekable
 from .extract.formats.streams import File, Parts, digest_of
-from .fields import labels, listing, plain_values, typed
+from .fields import labels
 from .fields.block_fields import fields_of
-from .fields.plain_names import exact_key, group_name
+from .fields.field import Field
+from .fields.typed import Value
 from .files import opening
 from .files.session import Session
 from .judge.judge import judge_all
@@ -29,7 +30,6 @@ from .model.records import Block as Judged, Picture as Record, Stamp, is_marked_
 from .model.results import Result
 from .model.texts import described
 
-Value = typed.Value
 PathLike = Union[str, bytes, "os.PathLike[str]", "os.PathLike[bytes]"]
 Source = Union[PathLike, BinaryIO]
 
@@ -58,87 +58,6 @@ class NotReadable(Exception):
 
 
 # Objects
-
-
-class Field:
-    """A field of a picture. Fields are equal if they mean the same: the directory, the key, the type and the value.
-
-    The type of `value` follows from the field, and never from what it has in a picture:
-
-    - texts of Exif, IPTC and XMP: str
-    - dates and times of Exif and IPTC: datetime, date or time; a str if one has another form than its standard's
-    - SHORT, LONG, BYTE and their signed ones: int
-    - RATIONAL and SRATIONAL: Fraction; None if the denominator is 0
-    - FLOAT and DOUBLE: float
-    - UNDEFINED, the MakerNote and the thumbnail: bytes
-    - several elements, or a list of XMP: a tuple of these
-    - a structure of XMP: a dict of its fields, by names such as "stRef:documentID"; None for one of more than 400 characters, of which
-      `exact` has the beginning
-    """
-
-    __slots__ = ("_field", "_block")
-
-    def __init__(self, field: listing.Field, block: str) -> None:
-        self._field, self._block = field, block
-
-    @property
-    def name(self) -> str:
-        """The name with its group, as ExifTool has it: "IFD0:Artist", "IPTC:Keywords", "XMP-dc:title"."""
-        return group_name(self._field.directory, self._field.tag)
-
-    @property
-    def value(self) -> Value:
-        """The value as an object of Python."""
-        return typed.value_of(self._field)
-
-    @property
-    def text(self) -> str:
-        """The value in plain words: "1/60 s"."""
-        return plain_values.plain(self._field)
-
-    @property
-    def exact(self) -> str:
-        """The value as `show --exact` prints it: "10/600". Of a long value that is no text, its beginning and its SHA-256."""
-        return listing.exact(self._field)
-
-    @property
-    def type(self) -> str:
-        """The type of the standard: "ASCII", "RATIONAL" ..; "octets" in IPTC; "text", "URI", "Alt", "Bag", "Seq" or "structure" in XMP."""
-        return self._field.type
-
-    @property
-    def count(self) -> int:
-        """The number of elements: of a text and of IPTC the bytes, of a list of XMP its members."""
-        return self._field.elements
-
-    @property
-    def key(self) -> str:
-        """What identifies the field in its directory: "0x013b", "2:25", "dc:title"."""
-        return exact_key(self._field.directory, self._field.tag)
-
-    @property
-    def directory(self) -> str:
-        """The directory: "main", "exif", "interop", "gps", "thumb", "iptc" or "xmp"."""
-        return self._field.directory
-
-    @property
-    def block(self) -> str:
-        """The block: "Exif", "IPTC", "XMP", "second Exif", "page 2"."""
-        return self._block
-
-    @property
-    def raw(self) -> bytes:
-        """The bytes of the value, most significant byte first; empty in XMP."""
-        return typed.raw(self._field) or b""
-
-    def __eq__(self, other: object) -> bool:
-        return isinstance(other, Field) and self._field == other._field
-
-    def __hash__(self) -> int:
-        return hash(self._field)
-
-    def __repr__(self) -> str:
-        return f"Field(name={self.name!r}, text={self.text!r})"
 
 
 class Refusal(NamedTuple):
@@ -238,7 +157,7 @@ class Block:
     def fields(self) -> Tuple[Field, ...]:
         """Its fields, which are made when they are first asked for; of a refused block those after a repair in memory, if one is known."""
         if self._fields is None:
-            self._fields = tuple(Field(it, self.name) for it in fields_of(self._judged))
+            self._fields = tuple([it.in_block(self.name) for it in fields_of(self._judged)])
         return self._fields
 
     @property
@@ -609,5 +528,5 @@ def compare(before: Union[Picture, Source], after: Union[Picture, Source], *, as
 
 def _difference(change: differing.Difference) -> Difference:
     block = change.block or NAMES.get(change.directory, NAMES[EXIF])
-    before, after = (tuple(Field(one, block) for one in side) or None for side in (change.before, change.after))
+    before, after = (tuple(it.in_block(block) for it in side) or None for side in (change.before, change.after))
     return Difference(change.name, before, after, change.is_equal_number, change.note)

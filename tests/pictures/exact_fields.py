@@ -4,7 +4,8 @@ import re
 
 from exifnorm import Ratio
 
-from exifnorm_pictures.fields.listing import OCTETS, Field
+from exifnorm_pictures.fields.field import Field
+from exifnorm_pictures.fields.listing import OCTETS
 from exifnorm_pictures.model.xmp_values import Array, Literal, Long, Uri, Structure
 
 _ESCAPE = re.compile(r"\\(n|r|t|\\|\"|x[0-9a-f]{2}|u[0-9a-f]{4}|U[0-9a-f]{8})")

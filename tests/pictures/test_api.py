@@ -181,6 +181,13 @@ def test_a_broken_block_is_a_sentence_and_no_key():
     assert "mend" in broken.refusals[0].remedy
 
 
+def test_a_field_names_its_block():
+    """Also where two blocks have the same bytes, whose fields are made once."""
+    found = pictures.read_bytes(jpeg(app1(A), app1(exif(b"Otto")), app1(A)))
+    assert [(it.block, it.value) for it in found.find("Make")] == [("Exif", "Anna"), ("second Exif", "Otto"), ("third Exif", "Anna")]
+    assert len(set(found.find("Make"))) == 2, "the block is no part of what a field means"
+
+
 @pytest.mark.parametrize("cause", sorted(it for it in BLOCKS if len(BLOCKS[it]) < 60_000))
 def test_each_cause_has_a_sentence(cause):
     found = pictures.read_bytes(with_exif(SMALL_JPEG, BLOCKS[cause]))

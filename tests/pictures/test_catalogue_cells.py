@@ -13,6 +13,7 @@ from test_repairs import REFUSED
 from exifnorm_pictures.catalogue.store import Catalogue
 from exifnorm_pictures.cli import main
 from exifnorm_pictures.fields import block_fields, packing
+from exifnorm_pictures.fields.field import Field
 from exifnorm_pictures.judge import judge
 from exifnorm_pictures.model.columns import Damaged
 from exifnorm_pictures.model.found import Blocks
@@ -106,7 +107,7 @@ def catalogue(archive, tmp_path, monkeypatch):
     return tmp_path / "c"
 
 
-LONG = packing.packed([packing.Field("main", "010e", "ASCII", 5, b"abcd\0")] * 20_000).octets  # 0.7 MB as JSON
+LONG = packing.packed([Field("main", "010e", "ASCII", 5, b"abcd\0")] * 20_000).octets  # 0.7 MB as JSON
 
 
 @pytest.mark.parametrize("words", [["export", "c", "tables"], ["captions", "c"], ["report", "--catalogue", "c", "--json"]])

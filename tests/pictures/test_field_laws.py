@@ -5,9 +5,11 @@ the same; and the form of JSON's value follows from the type and the tag. The no
 """
 
 import json
+import pickle
 from random import Random
 
 import exifnorm
+import pytest
 from hypothesis import given
 from hypothesis import strategies as st
 from made_files import xmp
@@ -91,6 +93,19 @@ def test_fields_are_equal_exactly_if_normal_forms_are(pair):
     assert all(hash(a) == hash(b) for a, b in zip(first, second) if a == b)
 
 
+@given(BLOCKS)
+def test_a_field_does_not_change_and_is_no_tuple(meaning):
+    for field in fields_of(meaning):
+        other = pickle.loads(pickle.dumps(field))
+        assert (other, hash(other), made_of(other), other.block) == (field, hash(field), made_of(field), field.block)
+        for name in ("directory", "tag", "type", "count", "content", "value", "name", "block"):
+            with pytest.raises(AttributeError):
+                setattr(field, name, "other")
+        with pytest.raises(AttributeError):
+            del field.content
+        assert not hasattr(field, "__len__") and not hasattr(field, "__getitem__") and field == other
+
+
 def made_of(field):
     """All that is made of a field, for people and for programs."""
     return exact(field), typed.typed(field), plain_values.plain(field)
@@ -100,7 +115,7 @@ def made_of(field):
 def test_what_is_kept_is_the_value(meaning):
     fields = fields_of(meaning)
     again = unpacked(packed(fields).octets)
-    assert again == [field._replace(content=kept_value(field)) for field in fields]
+    assert again == [field.with_content(kept_value(field)) for field in fields]
     whole = [(one, other) for one, other in zip(fields, again) if not isinstance(other.content, Long)]
     assert all(
         one == other and repr(typed.value_of(one)) == repr(typed.value_of(other)) and typed.raw(one) == typed.raw(other)

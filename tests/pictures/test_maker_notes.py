@@ -15,7 +15,8 @@ from exifnorm_pictures.cli import main
 from exifnorm_pictures.files import session
 from exifnorm_pictures.extract import exiftool, structure
 from exifnorm_pictures.extract.extraction import blocks_of_file
-from exifnorm_pictures.fields.listing import MAKER_NOTE, Field
+from exifnorm_pictures.fields.field import Field
+from exifnorm_pictures.fields.listing import MAKER_NOTE
 from exifnorm_pictures.fields.packing import packed
 from exifnorm_pictures.judge.judge import judge_all
 from exifnorm_pictures.model.found import EXIF, Blocks, FoundBlock

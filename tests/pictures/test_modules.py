@@ -25,7 +25,7 @@ from exifnorm_pictures.comparison import differing
 from exifnorm_pictures.extract import exiftool, programs
 from exifnorm_pictures.extract.formats import png as png_
 from exifnorm_pictures.fields import labels, listing, names
-from exifnorm_pictures.fields.listing import Field
+from exifnorm_pictures.fields.field import Field
 from exifnorm_pictures.files import session
 from exifnorm_pictures.judge import judge
 from exifnorm_pictures.model import xmp_names as short_names

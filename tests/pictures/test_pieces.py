@@ -17,6 +17,7 @@ from exifnorm_pictures import xmp
 from exifnorm_pictures.comparison import differing
 from exifnorm_pictures.extract import exiftool, programs
 from exifnorm_pictures.fields import listing, xmp_properties
+from exifnorm_pictures.fields.field import Field
 from exifnorm_pictures.files import session
 from exifnorm_pictures.model import records, sides, texts, verdicts
 from exifnorm_pictures.model.found import Blocks, NotRead
@@ -29,7 +30,7 @@ from exifnorm_pictures.scan.walk import FoundFile
 
 
 def exact(where, key, octets, kind="UNDEFINED"):
-    return listing.exact(listing.Field(where, key, kind, len(octets), octets))
+    return listing.exact(Field(where, key, kind, len(octets), octets))
 
 
 def digits(octets, count=32):
@@ -131,7 +132,7 @@ class Shown(unittest.TestCase):
     def test_xmp(self):
         def shown(inside, attributes=""):
             found = xmp.statements(packet_of(inside, attributes), xmp.Extensions({}), set())
-            return [(it.tag, it.type, it.elements, listing.exact(it)) for it in xmp_properties.fields_of_statements(found)]
+            return [(it.tag, it.type, it.count, listing.exact(it)) for it in xmp_properties.fields_of_statements(found)]
 
         lists = "".join(
             f"<dc:{name}><rdf:{kind}><rdf:li>b</rdf:li><rdf:li xml:lang='DE'>a</rdf:li></rdf:{kind}></dc:{name}>"

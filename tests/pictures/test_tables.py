@@ -22,7 +22,8 @@ from exifnorm_pictures.comparison.differing import bare
 from exifnorm_pictures.comparison.group_sentence import sentence_of
 from exifnorm_pictures.comparison.groups import Groups
 from exifnorm_pictures.fields import normal_form
-from exifnorm_pictures.fields.listing import Field, numbers_text
+from exifnorm_pictures.fields.field import Field
+from exifnorm_pictures.fields.listing import numbers_text
 from exifnorm_pictures.fields.packing import packed
 from exifnorm_pictures.files.session import Session
 from exifnorm_pictures.model.found import EXIF, IPTC, NAMES, XMP, NotRead
@@ -709,7 +710,7 @@ def _listed(listing):
 
 def _fields(form):
     return [
-        (*it[:4], it.content.hex() if isinstance(it.content, bytes) else numbers_text(it.type, it.content))
+        (*it.identity[:4], it.content.hex() if isinstance(it.content, bytes) else numbers_text(it.type, it.content))
         for it in normal_form.fields_of_form(form)
     ]
 

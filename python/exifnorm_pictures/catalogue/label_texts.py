@@ -7,7 +7,8 @@ from typing import Dict, Iterator, List, Mapping, Sequence, Tuple
 
 from ..fields.folding import folded
 from ..fields.labels import POSITION, PRIVATE, decoded
-from ..fields.listing import LONGEST_TEXT, Field, is_rest
+from ..fields.field import Field
+from ..fields.listing import LONGEST_TEXT, is_rest
 from ..fields.places import position_of
 from ..model.records import Block, KeptText
 from ..model.xmp_values import texts_in

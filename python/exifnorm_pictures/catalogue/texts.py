@@ -5,7 +5,7 @@ from __future__ import annotations
 from typing import List, NamedTuple, Sequence, Set, Tuple
 
 from ..fields.labels import STANDARDS, LABEL_WORDS, LabelText, camera_of, not_kept, of_block, with_own
-from ..fields.listing import Field
+from ..fields.field import Field
 from ..model.found import NAMES
 from ..model.records import Block
 

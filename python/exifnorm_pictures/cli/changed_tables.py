@@ -11,7 +11,8 @@ from ..comparison.differing import Difference, exact_side
 from ..comparison.wording import plain_sides
 from ..fields.choosing import Choice
 from ..fields.left_out import lines, members_of
-from ..fields.listing import MAKER_NOTE, Field
+from ..fields.field import Field
+from ..fields.listing import MAKER_NOTE
 from ..fields.plain_names import exact_key, group_name
 from ..fields.typed import together
 from ..model.results import Result

@@ -7,7 +7,7 @@ from typing import Iterable, Iterator, Sequence, Tuple
 
 from ..catalogue.store import Catalogue
 from ..fields.choosing import Choice, UnknownField, hint
-from ..fields.listing import Field
+from ..fields.field import Field
 from ..fields.packing import unpacked
 from ..model.found import NAMES
 from ..model.texts import escaped, reason

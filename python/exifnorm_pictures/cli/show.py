@@ -6,9 +6,8 @@ import argparse
 from typing import TYPE_CHECKING, Iterator, List
 
 from ..fields.block_fields import fields_of
-from ..fields.listing import Field, exact, readable
-from ..fields.plain_names import exact_key, group_name
-from ..fields.plain_values import plain
+from ..fields.field import Field
+from ..fields.listing import readable
 from ..fields.typed import typed
 from ..judge.reading import Reading
 from ..model import steps
@@ -59,7 +58,7 @@ class _Shown:
                 break
             first.append(field)
             self._fields -= 1
-            self._characters -= len(plain(field)) + len(exact(field))
+            self._characters -= len(field.text) + len(field.exact)
         self.has_more = len(first) < len(fields_of(block))
         return first
 
@@ -91,8 +90,7 @@ class _Lines:
 
 def _plain_line(field: Field) -> str:
     """A field with its name and its plain value. The column is always the same, so that a further field changes no other line."""
-    name = group_name(field.directory, field.tag)
-    return f"  {name}{' ' * max(0, _COLUMN - width(name))}  {escaped(plain(field))}"
+    return f"  {field.name}{' ' * max(0, _COLUMN - width(field.name))}  {escaped(field.text)}"
 
 
 _COLUMN = 30  # characters of a name, of which few have more
@@ -120,8 +118,7 @@ def _print_rows(table: Table, reading: Reading) -> None:
                 reading.name, block.name, *_NO_FIELD, block.line + (f"; repaired in memory: {steps.words(block.steps)}" if note else "")
             )
         for field in shown.of(block):
-            name = (group_name(field.directory, field.tag), exact_key(field.directory, field.tag))
-            values = (*name, field.type, field.elements, plain(field), exact(field))
+            values = (field.name, field.key, field.type, field.count, field.text, field.exact)
             table.row(reading.name, block.name, *values, note)
         if shown.has_more:
             table.row(reading.name, block.name, *_NO_FIELD, _MORE)
@@ -159,6 +156,6 @@ def _block_members(block: Block, shown: _Shown) -> Members:
 
 def _field_members(field: Field) -> Members:
     """A field: its name for people, what identifies it, and its value for people, exactly and for programs."""
-    name = {"name": group_name(field.directory, field.tag), "directory": field.directory, "key": exact_key(field.directory, field.tag)}
-    values = {"type": field.type, "count": field.elements, "plain": plain(field), "exact": exact(field), "value": typed(field)}
+    name = {"name": field.name, "directory": field.directory, "key": field.key}
+    values = {"type": field.type, "count": field.count, "plain": field.text, "exact": field.exact, "value": typed(field)}
     return {**name, **values}

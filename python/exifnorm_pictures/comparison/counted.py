@@ -4,11 +4,12 @@ from __future__ import annotations
 
 import hashlib
 from itertools import groupby
-from typing import Any, Iterator, List, NamedTuple, Optional, Sequence, Tuple
+from typing import Iterator, List, NamedTuple, Optional, Sequence, Tuple
 
 from ..catalogue.store import Catalogue
 from ..fields.choosing import Choice
-from ..fields.listing import MAKER_NOTE, Field, exact
+from ..fields.field import Field
+from ..fields.listing import MAKER_NOTE, exact
 from ..fields.packing import unpacked
 from ..model import steps
 from ..model.found import EXIF, KINDS, NAMES
@@ -99,31 +100,35 @@ def _counted(row: Tuple[str, str, str, Optional[str], str, Optional[str], Option
     fields = list(map(_with_exact_xmp, unpacked(packed)))
     block = "" if name in NAMES.values() else name
     counting = choice.of(fields, block)
-    counted, meaning, listing = _digest(counting, choice), digest or octets, _sum(fields)
+    counted, meaning, listing = _digest(counting, choice), digest or octets, _sum_of(fields)
     is_repaired = repair is not None and not steps.loses(steps.unpacked(repair))
     known = (kind_of(word), name, counted if status == Status.ACCEPTED else None, counted if is_repaired else None, meaning, listing)
-    others = [it for it in fields if it[:2] != MAKER_NOTE]
+    others = [it for it in fields if (it.directory, it.tag) != MAKER_NOTE]
     if len(others) == len(fields):
         return _Counted(*known, counted, meaning, listing)
-    of_others = _sum(others)
-    rest = [it for it in counting if it[:2] != MAKER_NOTE]
+    of_others = _sum_of(others)
+    rest = [it for it in counting if (it.directory, it.tag) != MAKER_NOTE]
     return _Counted(*known, _digest(rest, choice) or "no other field", of_others, of_others)
 
 
-def _with_exact_xmp(field: Field) -> Any:
+def _with_exact_xmp(field: Field) -> Field:
     """A field, one of XMP with its exact value, in which the members of a list without an order have one."""
-    return field._replace(content=exact(field)) if field.directory == "xmp" else field  # type: ignore[arg-type]
+    return field.with_content(exact(field)) if field.directory == "xmp" else field  # type: ignore[arg-type]
 
 
 def _digest(fields: Sequence[Field], choice: Choice) -> str:
     """SHA-256 of the fields that count; empty without any."""
     if not fields:
         return ""
-    return _sum([(it.directory, it.tag, equal_form(it)) for it in fields] if choice.equal_numbers else fields)
+    return _sum([(it.directory, it.tag, equal_form(it)) for it in fields]) if choice.equal_numbers else _sum_of(fields)
 
 
-def _sum(fields: Sequence[Tuple[object, ...]]) -> str:
-    return hashlib.sha256(repr([tuple(it) for it in fields]).encode("utf-8", "surrogatepass")).hexdigest()
+def _sum_of(fields: Sequence[Field]) -> str:
+    return _sum([it.identity for it in fields])
+
+
+def _sum(rows: Sequence[Tuple[object, ...]]) -> str:
+    return hashlib.sha256(repr(rows).encode("utf-8", "surrogatepass")).hexdigest()
 
 
 def _row(blocks: Sequence[_Counted], choice: Choice) -> Tuple[object, ...]:

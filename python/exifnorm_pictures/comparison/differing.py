@@ -5,8 +5,8 @@ from __future__ import annotations
 from fractions import Fraction
 from typing import Any, Dict, List, NamedTuple, Optional, Sequence, Tuple
 
-from ..fields import listing
-from ..fields.listing import LONGEST_BYTES, OCTETS, Field, counted_type, digest_of, order_of, shortened
+from ..fields.field import Field
+from ..fields.listing import LONGEST_BYTES, OCTETS, counted_type, digest_of, order_of, shortened
 from ..fields.names import full_name
 from ..fields.plain_names import group_name, group_of
 from ..model.xmp_values import Long
@@ -54,13 +54,13 @@ def exact_side(fields: Sequence[Field]) -> Optional[str]:
     >>> exact_side([Field("main", "013b", "ASCII", 5, b"Otto\\0")])
     'ascii[5] "Otto"'
     """
-    return ", ".join(f"{counted_type(it)} {shortened(listing.exact(it))}" for it in fields) if fields else None
+    return ", ".join(f"{counted_type(it)} {shortened(it.exact)}" for it in fields) if fields else None
 
 
 def bare(fields: Sequence[Field]) -> Optional[str]:
     """The exact values of a field, with their types unless they are texts; None without any."""
     texts = ("ASCII", "octets", "text", "URI")
-    return ", ".join(shortened(listing.exact(it)) if it.type in texts else exact_side([it]) or "" for it in fields) if fields else None
+    return ", ".join(shortened(it.exact) if it.type in texts else exact_side([it]) or "" for it in fields) if fields else None
 
 
 def equal_form(field: Field) -> Tuple[object, ...]:
@@ -72,9 +72,9 @@ def equal_form(field: Field) -> Tuple[object, ...]:
     True
     """
     if field.type in OCTETS:
-        return ("octets", field.elements, _octets_form(field.content))
+        return ("octets", field.count, _octets_form(field.content))
     if field.type not in NUMBERS or isinstance(field.content, Long):
-        return (field.type, field.elements, field.content)
+        return (field.type, field.count, field.content)
     return tuple(map(_number, field.content))
 
 

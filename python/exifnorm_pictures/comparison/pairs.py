@@ -10,7 +10,7 @@ from collections import Counter
 from typing import Callable, Iterator, List, NamedTuple, Optional, Set, Tuple, TypeVar
 
 from ..catalogue.store import BLOCK_COLUMNS, PICTURE_COLUMNS, Catalogue, NoCatalogue, address, check_schema, connect, unlike
-from ..fields.listing import Field
+from ..fields.field import Field
 from ..fields.block_fields import fields_of
 from ..files import signals
 from ..model.columns import Damaged

@@ -8,7 +8,8 @@ from dataclasses import dataclass, field
 from typing import Dict, FrozenSet, List, Sequence, Set, Tuple
 
 from ..fields.choosing import EVERYTHING, Choice
-from ..fields.listing import Field, exact
+from ..fields.field import Field
+from ..fields.listing import exact
 from .changed import Compared
 from .differing import NUMBERS, Difference
 from .wording import What, cut, what

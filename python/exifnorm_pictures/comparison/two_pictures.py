@@ -10,9 +10,10 @@ from typing import Dict, List, NamedTuple, Optional, Tuple
 from ..extract.formats.streams import digest_of_file
 from ..fields.block_fields import fields_of
 from ..fields.choosing import EVERYTHING, Choice
-from ..fields.listing import MAKER_NOTE, Field
+from ..fields.field import Field
+from ..fields.listing import MAKER_NOTE
 from ..fields.plain_names import group_name
-from ..fields.plain_values import POSITION_TAGS, plain, position
+from ..fields.plain_values import POSITION_TAGS, position
 from ..files.session import Session
 from ..judge.sides import Fresh
 from ..model.found import EXIF, IPTC, KINDS, NAMES
@@ -139,7 +140,9 @@ def _place(row: FieldRow) -> int:
 
 def _row(difference: Difference) -> FieldRow:
     both = [exact_side(side) for side in (difference.before, difference.after)]
-    values = both if difference.note else ["; ".join(map(plain, side)) if side else None for side in (difference.before, difference.after)]
+    values = (
+        both if difference.note else ["; ".join(it.text for it in side) if side else None for side in (difference.before, difference.after)]
+    )
     if values[0] == values[1]:  # what people see is equal, and what is there isn't
         values = both
     return FieldRow(difference.name, (values[0], values[1]), (both[0], both[1]), (difference,), difference.note)

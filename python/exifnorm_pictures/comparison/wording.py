@@ -9,10 +9,10 @@ from collections import Counter
 from datetime import datetime, timedelta
 from typing import List, NamedTuple, Optional, Sequence, Tuple
 
-from ..fields import listing
-from ..fields.listing import MAKER_NOTE, Field
+from ..fields.field import Field
+from ..fields.listing import MAKER_NOTE
 from ..fields.plain_texts import quoted, text_of, xmp_texts
-from ..fields.plain_values import in_line, plain
+from ..fields.plain_values import in_line
 from .differing import Difference, exact_side
 
 NONE = "(none)"  # in place of a value that isn't there
@@ -51,7 +51,7 @@ def plain_sides(difference: Difference) -> Tuple[Optional[str], Optional[str]]:
     >>> plain_sides(Difference("main", "013b", (), (Field("main", "013b", "ASCII", 5, b"Otto\\0"),)))
     (None, 'Otto')
     """
-    values = ["; ".join(map(plain, one)) if one else None for one in (difference.before, difference.after)]
+    values = ["; ".join(it.text for it in one) if one else None for one in (difference.before, difference.after)]
     return (values[0], values[1]) if values[0] != values[1] else (exact_side(difference.before), exact_side(difference.after))
 
 
@@ -89,7 +89,7 @@ def what(difference: Difference) -> What:
 
 def _key(fields: Sequence[Field]) -> bytes:
     """A digest of the values of some fields."""
-    return hashlib.sha256(repr([(*one[:4], listing.exact(one)) for one in fields]).encode("utf-8", "surrogatepass")).digest()
+    return hashlib.sha256(repr([(*one.identity[:4], one.exact) for one in fields]).encode("utf-8", "surrogatepass")).digest()
 
 
 def _what(text: str) -> What:

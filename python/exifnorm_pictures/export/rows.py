@@ -4,7 +4,7 @@ from __future__ import annotations
 
 import functools
 from datetime import datetime, timedelta, timezone
-from typing import Iterator, List, Optional, Sequence, Tuple
+from typing import Any, Iterator, List, Optional, Sequence, Tuple
 
 from ..catalogue.store import Catalogue
 from ..catalogue.texts import texts_of
@@ -13,10 +13,8 @@ from ..comparison.group_sentence import sentence_of
 from ..comparison.groups import Groups
 from ..comparison.keeping import Keep, keeping
 from ..fields.labels import LabelText
-from ..fields.listing import Field, exact
+from ..fields.field import Field
 from ..fields.block_fields import with_fields
-from ..fields.plain_names import exact_key, group_name
-from ..fields.plain_values import plain
 from ..fields.typed import typed
 from ..files.session import Session
 from ..model import steps
@@ -118,25 +116,27 @@ def _block_row(picture: Picture, number: int, block: Block) -> Row:
 
 def _field_row(field: Field) -> Row:
     """A row of a field, which is kept for the next picture if it is short: pictures have many fields in common."""
-    return _short_row(field) if isinstance(field.content, bytes) and len(field.content) <= CACHED else _row(field)
+    return _short_row(*field.identity) if isinstance(field.content, bytes) and len(field.content) <= CACHED else _row(field)
 
 
 def _row(field: Field) -> Row:
     value = typed(field)
     number = float(value) if isinstance(value, (int, float)) else None
     return (
-        group_name(field.directory, field.tag),
+        field.name,
         field.directory,
-        exact_key(field.directory, field.tag),
+        field.key,
         field.type,
-        field.elements,
-        plain(field),
-        exact(field),
+        field.count,
+        field.text,
+        field.exact,
         number,
     )
 
 
-_short_row = functools.lru_cache(maxsize=4096)(_row)
+@functools.lru_cache(maxsize=4096)
+def _short_row(*identity: Any) -> Row:
+    return _row(Field(*identity))
 
 
 def _text_rows(texts: Sequence[LabelText]) -> Iterator[Row]:

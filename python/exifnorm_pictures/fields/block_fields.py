@@ -7,7 +7,7 @@ from typing import Callable, Generic, List, Optional, Sequence, Tuple, TypeVar
 from ..model.budgets import KEPT_BYTES
 from ..model.columns import Damaged
 from ..model.records import Block
-from .listing import Field
+from .field import Field
 from .packing import length, unpacked
 
 Source = TypeVar("Source")

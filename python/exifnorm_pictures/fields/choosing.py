@@ -10,7 +10,8 @@ from typing import Callable, Dict, FrozenSet, Iterable, Iterator, List, Sequence
 from ..model.errors import WrongUse
 from ..model.found import EXIF, IPTC, NAMES, XMP
 from .field_names import EXIF_GROUPS, XMP_GROUPS, dictionary, groups_of, is_possible, names_of
-from .listing import MAKER_NOTE, Field, is_rest
+from .field import Field
+from .listing import MAKER_NOTE, is_rest
 
 # What programs change whenever they save a picture, whatever was edited: the dates of the last change, and the identifiers of that state
 SAVES = (

@@ -10,7 +10,7 @@ import re
 from typing import Dict, Iterable, Iterator, List, NamedTuple, Optional, Sequence, Set, Tuple
 
 from ..model.xmp_values import Long, texts_in
-from .listing import Field
+from .field import Field
 from .own_texts import is_own
 from .plain_names import group_name, plain_name
 from .plain_texts import comment

@@ -1,15 +1,15 @@
-"""Fields of Exif, IPTC and XMP with their values, and these values as they are printed exactly."""
+"""Values of fields as they are printed exactly, and how much of a long value is kept."""
 
 from __future__ import annotations
 
 import hashlib
 import re
-from typing import Iterable, Iterator, NamedTuple, Optional, Tuple, Union
+from typing import Iterable, Iterator, Optional, Tuple
 
 from ..model.texts import escaped
 from ..model import xmp_values
 from ..model.xmp_values import Long, XmpValue
-from .names import full_name
+from .field import Content, Field, Ratio
 from .plain_names import group_of, plain_name
 
 LONGEST_TEXT = 65_536  # bytes of a text that is kept whole
@@ -21,34 +21,6 @@ DIGITS = 32  # hexadecimal digits of SHA-256 that identify a value that isn't ke
 OCTETS = {"BYTE", "ASCII", "SBYTE", "UNDEFINED", "UTF8", "octets"}
 WIDE_TEXTS = {"9c9b", "9c9c", "9c9d", "9c9e", "9c9f"}  # of Windows: UTF-16, least significant byte first
 _OTHER_DATASETS = {"2:125", "2:202"}  # pictures
-
-Ratio = Tuple[int, int]  # numerator and denominator; `exifnorm.Ratio` is one too, whose package loads the library
-Value = Union[bytes, Tuple[int, ...], Tuple[Ratio, ...], Tuple[XmpValue, ...], Long]
-
-
-class Field(NamedTuple):
-    """One field: the directory, its tag, DataSet or property, its type, the number of its elements, and its value.
-
-    Two fields mean the same exactly if they are equal. The value depends on the type:
-
-    - bytes of BYTE, ASCII, SBYTE, UNDEFINED and UTF8, and `octets` of IPTC and of the thumbnail: bytes
-    - SHORT, LONG, WHOLE, SSHORT and SLONG: a tuple of numbers; FLOAT and DOUBLE: a tuple of bit patterns
-    - RATIONAL and SRATIONAL: a tuple of pairs, numerator and denominator
-    - XMP: a tuple of its values, of which there is one but for rare RDF: `Literal`, `Uri`, `Array` or `Structure`
-    - `Long` in place of a value that is too long to be kept
-    """
-
-    directory: str
-    tag: str
-    type: str
-    elements: int
-    content: Value
-
-    @property
-    def full_name(self) -> str:
-        """The name and its directory, as in JSON."""
-        return full_name(self.directory, self.tag)
-
 
 MAKER_NOTE = ("exif", "927c")
 
@@ -83,7 +55,7 @@ def digest_of(octets: bytes) -> str:
     return hashlib.sha256(octets).hexdigest()[:DIGITS]
 
 
-def kept_value(field: Field) -> Value:
+def kept_value(field: Field) -> Content:
     """The value of a field, or if it is too long to be kept, its digest and its beginning.
 
     >>> kept_value(Field("exif", "927c", "UNDEFINED", 40, bytes(40)))
@@ -98,7 +70,7 @@ def kept_value(field: Field) -> Value:
         return value
     if field.directory == "xmp":
         return tuple([_kept_property(one) for one in value])  # type: ignore[arg-type]
-    if field.elements <= 6:  # the longest fraction has 22 characters
+    if field.count <= 6:  # the longest fraction has 22 characters
         return value
     text = numbers_text(field.type, value)  # type: ignore[arg-type]
     return value if len(text) <= LONGEST_NUMBERS else Long(digest_of(text.encode()), text[:60])
@@ -226,7 +198,7 @@ def readable(fields: Iterable[Field], kind: str) -> Iterator[str]:
 
 def counted_type(field: Field) -> str:
     """The type of a field and the number of its elements: `short[1]`; bytes of IPTC and of a thumbnail have no type."""
-    return f"{'bytes' if field.type == 'octets' else field.type.lower()}[{field.elements}]"
+    return f"{'bytes' if field.type == 'octets' else field.type.lower()}[{field.count}]"
 
 
 _PLACES = ["main", "exif", "interop", "gps", "thumb", "iptc", "xmp"]

@@ -9,7 +9,8 @@ from exifnorm._forms import _READ, Place, places
 
 from ..model.budgets import FIELDS
 from ..model.xmp_values import Long
-from .listing import OCTETS, Field, digest_of
+from .field import Field
+from .listing import OCTETS, digest_of
 
 _LEAST = 5  # bytes of a field: the head of an empty DataSet
 
@@ -18,7 +19,7 @@ def fields_of_form(form: bytes) -> List[Field]:
     """The fields of a normal form, in the order of a listing.
 
     >>> fields_of_form(b"\\x1c\\x02\\x78\\x00\\x04Vase")
-    [Field(directory='iptc', tag='2:120', type='octets', elements=4, content=b'Vase')]
+    [Field(name='IPTC:Caption-Abstract', text='Vase')]
     """
     each = places(form)
     if len(form) <= _LEAST * FIELDS:
@@ -31,15 +32,14 @@ def fields_of_form(form: bytes) -> List[Field]:
 
 def _read(form: bytes, each: Iterable[Place]) -> List[Field]:
     fields: List[Field] = []
-    new = tuple.__new__  # to call the class itself takes twice as long, and a picture has a hundred fields
     for where, tag, kind, elements, at in each:
         if kind in OCTETS:
-            fields.append(new(Field, (where, f"{tag:04x}", kind, elements, form[at : at + elements])))
+            fields.append(Field(where, f"{tag:04x}", kind, elements, form[at : at + elements]))
         elif kind == "DATASET":
-            fields.append(new(Field, ("iptc", f"{tag >> 8}:{tag & 255}", "octets", elements, form[at : at + elements])))
+            fields.append(Field("iptc", f"{tag >> 8}:{tag & 255}", "octets", elements, form[at : at + elements]))
         elif kind in ("JPEG", "STRIPS"):  # the thumbnail's JPEG, or each of its strips
             key = "jpeg" if kind == "JPEG" else "strip"
             fields += [Field("thumb", key, "octets", size, form[start : start + size]) for start, size in at]
         else:
-            fields.append(new(Field, (where, f"{tag:04x}", kind, elements, _READ[kind](form, at, elements))))
+            fields.append(Field(where, f"{tag:04x}", kind, elements, _READ[kind](form, at, elements)))
     return fields

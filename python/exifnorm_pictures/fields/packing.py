@@ -20,7 +20,8 @@ from typing import Any, Callable, List, NamedTuple, Optional, Sequence
 from ..model.budgets import FIELD_BYTES
 from ..model.columns import Damaged
 from ..model.xmp_values import Array, Literal, Long, Uri, Structure, XmpValue
-from .listing import LONGEST_BYTES, MAKER_NOTE, OCTETS, Field, Value, digest_of, kept_value, plain_text
+from .field import Content, Field
+from .listing import LONGEST_BYTES, MAKER_NOTE, OCTETS, digest_of, kept_value, plain_text
 
 _SHORTEST = 200  # characters of a list that compression makes longer, or hardly shorter
 _SHORT = 4096  # characters of a list that is compressed with small buffers
@@ -41,11 +42,9 @@ def packed(fields: Sequence[Field]) -> Packed:
     >>> packed([Field("main", "010f", "ASCII", 4, b"abc\\0")]).octets
     b'[["main","010f","ASCII",4,"abc"]]'
     """
-    lines = [
-        f'["{it[0]}",{_quoted(it[1])},"{it[2]}",{it[3]},{_json_of_octets(it) if it[2] in OCTETS else _json_of_others(it)}]' for it in fields
-    ]
+    lines = list(map(_json_of_field, fields))
     text = f"[{','.join(lines)}]".encode("ascii")
-    note = next((number for number, it in enumerate(fields) if it[:2] == MAKER_NOTE), None)
+    note = next((number for number, it in enumerate(fields) if it.tag == MAKER_NOTE[1] and it.directory == MAKER_NOTE[0]), None)
     if note is None:
         return Packed(_compressed(text, len(fields)), None)
     del lines[note]
@@ -89,6 +88,12 @@ def _compressed(text: bytes, count: int) -> bytes:
     return compressing.compress(text) + compressing.flush()
 
 
+def _json_of_field(field: Field) -> str:
+    kind = field.type
+    value = _json_of_octets(field) if kind in OCTETS else _json_of_others(field)
+    return f'["{field.directory}",{_quoted(field.tag)},"{kind}",{field.count},{value}]'
+
+
 def _json_of_octets(field: Field) -> str:
     value = field.content
     if not isinstance(value, bytes) or len(value) > LONGEST_BYTES or field.directory == "thumb":  # which a short value needn't be asked
@@ -102,7 +107,7 @@ def _json_of_octets(field: Field) -> str:
 
 def _json_of_others(field: Field) -> str:
     value: Any = field.content
-    if field.elements == 1 and field.directory != "xmp" and not isinstance(value, Long):
+    if field.count == 1 and field.directory != "xmp" and not isinstance(value, Long):
         number = value[0]
         return f"[{number[0]},{number[1]}]" if isinstance(number, tuple) else str(number)
     value = kept_value(field)
@@ -164,7 +169,7 @@ _RANGES = {
 }
 
 
-def _value(where: str, kind: str, count: int, value: Any) -> Value:
+def _value(where: str, kind: str, count: int, value: Any) -> Content:
     """A value. Raises `ValueError` and `TypeError` for anything else."""
     if kind in OCTETS:
         if isinstance(value, str):

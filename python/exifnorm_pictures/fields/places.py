@@ -7,7 +7,7 @@ from fractions import Fraction
 from typing import Dict, Iterable, NamedTuple, Optional
 
 from ..model.xmp_values import texts_in
-from .listing import Field
+from .field import Field
 from .plain_numbers import degrees
 from .plain_texts import text_of
 

@@ -10,7 +10,8 @@ from fractions import Fraction
 from typing import Any, Callable, List, Optional
 
 from ..model.xmp_values import Long
-from .listing import Field, kept_value
+from .field import Field
+from .listing import kept_value
 from .plain_texts import text_of
 
 Rule = Callable[[Field], Optional[str]]

@@ -6,7 +6,8 @@ from typing import List, Optional, Tuple
 
 from ..model.texts import escaped
 from ..model.xmp_values import Long, simple_texts
-from .listing import Field, exact, kept_value, marked_text, shortened
+from .field import Field
+from .listing import exact, kept_value, marked_text, shortened
 
 EMPTY = "(empty)"
 

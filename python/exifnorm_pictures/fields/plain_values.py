@@ -10,7 +10,8 @@ from typing import Dict, Optional
 from ..model.texts import escaped
 from ..model.xmp_values import Literal
 from . import plain_numbers as numbers
-from .listing import OCTETS, Field, exact, is_comment, kept_value, shortened
+from .field import Field
+from .listing import OCTETS, exact, is_comment, kept_value, shortened
 from .plain_numbers import Rule, decimal, degrees, fractions, with_unit
 from .plain_texts import EMPTY, guessed, plain_comment, plain_xmp, quoted, quoted_xmp, text_of
 
@@ -175,7 +176,7 @@ def _without_words(field: Field) -> str:
     if field.type in OCTETS:
         text = exact(field)
         digest = text.rpartition("sha256:")[2][:8]
-        return f"{field.elements:,} bytes (SHA-256 {digest}..)" if "sha256:" in text else text
+        return f"{field.count:,} bytes (SHA-256 {digest}..)" if "sha256:" in text else text
     ratios = fractions(field)
     if ratios and field.type in numbers.RATIOS:
         return ", ".join(numbers.UNKNOWN if one is None else decimal(one) for one in ratios)

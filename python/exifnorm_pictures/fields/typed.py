@@ -9,7 +9,8 @@ from fractions import Fraction
 from typing import Any, Dict, List, Optional, Sequence, Tuple, Union
 
 from ..model.xmp_values import Array, Literal, Long, Structure, Uri, XmpValue
-from .listing import Field, is_comment, is_wide_text, kept_value, marked_text
+from .field import Field
+from .listing import is_comment, is_wide_text, kept_value, marked_text
 from .plain_texts import comment, is_utf8, xmp_texts
 
 Value = Union[str, int, float, Fraction, datetime, date, time, bytes, None, Tuple[Any, ...], Dict[str, Any]]
@@ -61,7 +62,7 @@ def typed(field: Field) -> Any:
     if field.directory == "xmp":
         return _json_of_xmp(field)
     if isinstance(value, Long):
-        return {"sha256": value.digest, "count": field.elements}
+        return {"sha256": value.digest, "count": field.count}
     result = _of_octets(field, value) if isinstance(value, bytes) else _one_or_all(_numbers(field))
     if isinstance(result, bytes):
         return {"hex": result.hex()}
@@ -187,10 +188,10 @@ def _one_of_xmp(value: XmpValue) -> Value:
 
 def _json_of_xmp(field: Field) -> Any:
     """A text, a list of texts, or a list of texts with their languages."""
-    pairs = xmp_texts(field._replace(content=kept_value(field)))
+    pairs = xmp_texts(field.with_content(kept_value(field)))
     if pairs is None:
         long = [one for one in kept_value(field) if isinstance(one, Long)]
-        return {"sha256": long[0].digest, "count": field.elements} if long else None
+        return {"sha256": long[0].digest, "count": field.count} if long else None
     if any(language for _, language in pairs):
         return [{"text": text, "language": language or None} for text, language in pairs]
     texts = [text for text, _ in pairs]

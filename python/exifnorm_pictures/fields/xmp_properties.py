@@ -8,7 +8,8 @@ from typing import Dict, List, Tuple
 from ..model.xmp_names import short_name
 from ..xmp.tree import MEMBER, Literal, Node, Uri, Statement, Statements, Value, key_of, unique
 from ..model.xmp_values import Array, Long, Structure, XmpValue, exact, texts_in
-from .listing import DIGITS, Field
+from .field import Field
+from .listing import DIGITS
 
 WHERE = "xmp"
 LONGEST_STRUCTURE = 400  # characters of the exact form of a value without texts that is kept whole
@@ -18,7 +19,7 @@ def fields_of_statements(statements: Statements) -> List[Field]:
     """A field for each property, by its name.
 
     >>> fields_of_statements((Statement("http://purl.org/dc/elements/1.1/format", Literal("image/jpeg")),))
-    [Field(directory='xmp', tag='dc:format', type='text', elements=1, content=(Literal(text='image/jpeg', language='', datatype=''),))]
+    [Field(name='XMP-dc:format', text='image/jpeg')]
     """
     by_property: Dict[str, List[Value]] = {}
     for predicate, value in unique(statements):

@@ -4,7 +4,7 @@ from __future__ import annotations
 
 from typing import Callable, List, Optional, Protocol, Sequence, TypeVar
 
-from ..fields.listing import Field
+from ..fields.field import Field
 from ..fields.block_fields import fields_of
 from ..model.found import NotRead
 from ..model.records import Block, Picture
