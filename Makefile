@@ -161,8 +161,8 @@ stage: all
 	    install -d "$(stage)$(PYTHONDIR)/$$package" && \
 	    install -m 644 python/$$package/*.py "$(stage)$(PYTHONDIR)/$$package/" || exit 1; \
 	done
-	for file in $(wildcard python/*/py.typed python/*/*.json); do \
-	    install -m 644 "$$file" "$(stage)$(PYTHONDIR)/$${file#python/}" || exit 1; \
+	for file in $(wildcard python/*/py.typed python/*/*.json python/*/*/templates/*); do \
+	    install -D -m 644 "$$file" "$(stage)$(PYTHONDIR)/$${file#python/}" || exit 1; \
 	done
 	ln -s "$$(realpath -m --relative-to='$(PYTHONDIR)/exifnorm' '$(LIBDIR)')/$(SONAME)" '$(stage)$(PYTHONDIR)/exifnorm/$(SONAME)'
 	CC='$(CC)' LDFLAGS='$(LDFLAGS)' python3 packaging/extension.py '$(stage)$(PYTHONDIR)/exifnorm/_native.abi3.so' '$(PYTHONINCLUDE)'

@@ -12,7 +12,7 @@ from made_files import app1, app1_xmp, jpeg, xmp
 from studio import TOP
 from test_captions import CREATOR, LONG_NAME, data_set, with_record, with_texts
 
-from exifnorm_pictures.report import contents
+from exifnorm_pictures.report import contents, rendering
 
 LONG = "Ein Gefäß aus Köln, zerbrochen und geklebt. " * 20
 
@@ -96,7 +96,7 @@ def test_files_are_not_needed(reported):
 
 def test_the_list_of_a_page_is_bounded(reported, monkeypatch):
     monkeypatch.setattr(contents, "MOST_CONTRADICTIONS", 1)
-    monkeypatch.setattr("exifnorm_pictures.report.page.MOST_CONTRADICTIONS", 1)
+    monkeypatch.setitem(rendering.MOST, "CONTRADICTIONS", 1)
     section = reported()
     assert "different.jpg" in section and "two.jpg" not in section and ".. and 2 more pictures" in section
 

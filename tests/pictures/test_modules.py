@@ -32,7 +32,7 @@ from exifnorm_pictures.model import xmp_names as short_names
 from exifnorm_pictures.model.found import Broken, NotRead
 from exifnorm_pictures.model.records import Picture
 from exifnorm_pictures.refusals import explain, mend
-from exifnorm_pictures.report import contents, page as report
+from exifnorm_pictures.report import contents, rendering
 from exifnorm_pictures.scan import index, walk
 
 
@@ -267,9 +267,9 @@ class Pieces(unittest.TestCase):
 
     def test_the_bar_of_states(self):
         """Its parts are side by side, and together 1,000 wide."""
-        bar = report._share(contents.Gathered(total=4, states=Counter({"accepted": 3, "refused": 1})))
+        page = rendering.page(contents.Gathered(total=4, states=Counter({"accepted": 3, "refused": 1})), "")
         self.assertEqual(
-            re.findall(r'class="(\w+)" x="([\d.]+)" width="([\d.]+)"', bar), [("good", "0.0", "750.0"), ("bad", "750.0", "250.0")]
+            re.findall(r'class="(\w+)" x="([\d.]+)" width="([\d.]+)"', page), [("good", "0.0", "750.0"), ("bad", "750.0", "250.0")]
         )
 
     def test_a_long_value(self):

@@ -4,15 +4,15 @@ import re
 import unittest
 from collections import Counter
 from datetime import datetime
+from pathlib import Path
 from unittest import mock
 
 from exifnorm_pictures.comparison.conflicts import Conflict
 from exifnorm_pictures.fields.labels import LabelText
 from exifnorm_pictures.model.records import Picture
 from exifnorm_pictures.model.results import Result
-from exifnorm_pictures.report import contents, page as report
+from exifnorm_pictures.report import contents, rendering as report, templating
 from exifnorm_pictures.report.contradictions import Contradictions
-from exifnorm_pictures.report.style import STYLE
 
 
 def compact(page):
@@ -40,6 +40,7 @@ def different(label, detail="", **texts):
     return Conflict(label, "different", detail, found)
 
 
+STYLE = Path(report.__file__).with_name("templates").joinpath("report.css").read_text(encoding="utf-8").rstrip("\n")
 CONTRADICTIONS = [
     (b"/p/one.jpg", [different("title", IPTC="<b>", XMP="x" * 301), different("creator", "IPTC:x is <cut>", Exif="A\u202eB", XMP="C")]),
     *((b"/p/%d.jpg" % number, [different("title", Exif="1", XMP="2")]) for number in range(9)),
@@ -129,8 +130,8 @@ class Whole(unittest.TestCase):
             )
             self.assertIn(f"<p>{words} 2026-03-04 05:06 UTC</p>", page)
             self.assertEqual(re.findall(r'<span class="name">(.*?)</span>', page), ["/a&lt;/x", "/f/y"])
-        for root, path, name in ((b"/", b"/x/y", "x/y"), (b"/a/", b"/a/y", "y"), (b"/a", b"/ab/y", "/ab/y"), (b"/a", b"/a", "/a")):
-            self.assertEqual(report._name(path, [root]), f'<span class="name">{name}</span>')
+        for root, path, name in ((b"/", b"/x/y", b"x/y"), (b"/a/", b"/a/y", b"y"), (b"/a", b"/ab/y", b"/ab/y"), (b"/a", b"/a", b"/a")):
+            self.assertEqual(templating.below(path, [root]), name)
 
 
 class Style(unittest.TestCase):

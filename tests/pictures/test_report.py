@@ -8,7 +8,7 @@ from html.parser import HTMLParser
 from made_blocks import BLOCKS, MAKE, MODEL, block, with_exif, with_iptc
 from studio import SMALL_JPEG, WithPictures, needs, read, run, write
 
-from exifnorm_pictures.report import page as report
+from exifnorm_pictures.report import templating as report
 
 GROUPS, REFUSED, CHANGED = {"One\0": 5, "Two\0": 3, "Ten\0": 2}, 4, 6
 

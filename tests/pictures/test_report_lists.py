@@ -11,7 +11,7 @@ import pytest
 from made_blocks import BLOCKS, with_exif, with_iptc
 from studio import SMALL_JPEG
 
-from exifnorm_pictures.report import contents, page
+from exifnorm_pictures.report import contents, rendering, templating
 
 TOP = Path(__file__).resolve().parent.parent.parent
 RECORD = b"\x1c\x02\x78"  # the head of a DataSet, without the rest
@@ -51,8 +51,20 @@ def test_refused_blocks_have_the_kinds_of_the_command(refused: List[Dict[str, An
     assert {it["name"]: it["kind"] for it in refused} == {"Exif": "exif", "IPTC": "iptc"}
 
 
+def test_without_jinja2(folder: Path, called: Callable[..., Any], monkeypatch: pytest.MonkeyPatch) -> None:
+    """The message says what is missing, and no page is written; objects need no package."""
+    (folder / "p").mkdir()
+    (folder / "p" / "a.jpg").write_bytes(SMALL_JPEG)
+    called("index", "p", "--catalogue", "c", "--quiet")
+    templating.environment.cache_clear()
+    monkeypatch.setitem(sys.modules, "jinja2", None)
+    status, _, messages = called("report", "--catalogue", "c", "--html", "page.html")
+    assert status == 4 and "python3-jinja2" in messages and not (folder / "page.html").exists()
+    assert called("report", "--catalogue", "c", "--json")[0] == 0
+
+
 @pytest.mark.parametrize("more", [0, 1])
 def test_a_page_counts_what_it_leaves_out(more: int) -> None:
     number = contents.MOST_GROUPS + more
-    made = page.page(contents.Gathered(all_groups=(number, 2 * number)), "a title")
+    made = rendering.page(contents.Gathered(all_groups=(number, 2 * number)), "a title")
     assert (".. and 1 more groups" in made, ".. and 0 more" in made) == (more == 1, False)

@@ -291,9 +291,9 @@ class Scale(WithPictures):
             "refusals.explain",
             "refusals.mend",
             "refusals.repairs",
-            "report.page",
+            "report.rendering",
         )
-        watched = {"exifnorm", "html", "logging", "multiprocessing", "subprocess", "urllib", "xml", *reading}
+        watched = {"exifnorm", "html", "jinja2", "logging", "multiprocessing", "subprocess", "urllib", "xml", *reading}
         watched.update(f"exifnorm_pictures.{it}" for it in names)
         for words, needed in (
             (["same", "--catalogue", "c"], {"subprocess", "exifnorm_pictures.comparison.groups"}),

@@ -276,7 +276,9 @@ class TestDebian:
         assert re.findall(r"^[EW]: .*$", said, re.MULTILINE) == []
 
     def test_dependencies(self) -> None:
-        assert {"libimage-exiftool-perl", f"python3-exifnorm (= {VERSION}-1)"} <= set(self.field("exifnorm-pictures", "Depends"))
+        assert {"libimage-exiftool-perl", "python3-jinja2", f"python3-exifnorm (= {VERSION}-1)"} <= set(
+            self.field("exifnorm-pictures", "Depends")
+        )
         assert self.field("exifnorm-pictures", "Suggests") == ["python3-distributed", "python3-xlsxwriter"]
         assert {"exifnorm", "exiv2", "python3-rdflib"} <= set(self.field("exifnorm-pictures", "Recommends"))
         assert f"libexifnorm1 (>= {VERSION})" in self.field("python3-exifnorm", "Depends")

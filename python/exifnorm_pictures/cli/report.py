@@ -10,7 +10,8 @@ from typing import BinaryIO
 
 from ..catalogue.store import Catalogue
 from ..files import atomic
-from ..report import contents, page
+from ..report import contents, rendering
+from ..report.templating import environment
 from .choice import choice_of, listings_of, note_absent, refuse_unknown
 from .exit_codes import SUCCESS
 from .names import chosen_paths, say_unknown
@@ -21,6 +22,8 @@ def run(arguments: argparse.Namespace) -> int:
     """Writes one page about a catalogue, or the same as JSON."""
     if not arguments.html and not arguments.json:
         refuse("report", "give --html PAGE, --json, or both")
+    if arguments.html:
+        environment()  # which may be missing
     chosen = chosen_paths(arguments)
     with contextlib.ExitStack() as open_:
         catalogue = open_.enter_context(Catalogue(arguments.catalogue))
@@ -31,7 +34,7 @@ def run(arguments: argparse.Namespace) -> int:
         note_absent(choice, (it for one in sides for it in listings_of(one)), max(one.with_maker_note() for one in sides))
         about = contents.About(catalogue, old, chosen, not arguments.no_look, choice, arguments.session)
         if arguments.html:
-            text = page.page(contents.gather(about), arguments.title, arguments.session)
+            text = rendering.page(contents.gather(about), arguments.title, arguments.session)
             _write_page(arguments, text.encode("utf-8", "backslashreplace"))
         if arguments.json:
             for members in contents.members(about):

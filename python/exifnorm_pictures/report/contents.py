@@ -117,6 +117,16 @@ class Gathered:
     runs: List[Run] = field(default_factory=list)
     roots: List[bytes] = field(default_factory=list)
 
+    @property
+    def number_changed(self) -> int:
+        """How many pictures have changed since the older catalogue."""
+        return changed.number_changed(self.results)
+
+    @property
+    def number_undecided(self) -> int:
+        """Of how many nobody knows."""
+        return changed.number_undecided(self.results)
+
 
 def gather(about: About) -> Gathered:
     """The contents of a catalogue, and the changes since an older one: counts, and the first of each list."""

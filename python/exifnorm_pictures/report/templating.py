@@ -1,0 +1,107 @@
+"""The templates of the report, which Jinja2 fills in. Each text of a picture is made safe and escaped, whatever a template says."""
+
+from __future__ import annotations
+
+import functools
+from pathlib import Path
+from typing import TYPE_CHECKING, Any, Callable, Dict, Sequence
+
+from ..model.errors import Failure
+from ..model.problems import COUNTED, TEXTS
+from ..model.results import Result
+from ..model.texts import escaped, safe, shown_path
+from ..refusals.causes import CAUSES, words_of
+from .contents import shortened
+from .contradictions import texts_by_standard
+
+if TYPE_CHECKING:
+    import jinja2
+
+_TEMPLATES = Path(__file__).with_name("templates")
+
+STATE_WORDS = {
+    **COUNTED,
+    "accepted": "accepted: all blocks were read",
+    "refused": "with a block that is refused or unreadable",
+    "no block": "without an Exif, IPTC or XMP block",
+}
+_TONES = {"accepted": "good", "refused": "bad", "no block": "plain", "NoPicture": "plain"}
+_RESULT_TONES: Dict[str, str] = {
+    Result.SAME: "good",
+    Result.ONLY_MAKER_NOTE: "plain",
+    Result.SAME_FILE: "plain",
+    Result.REFUSED_SAME: "plain",
+    Result.REFUSED: "bad",
+    Result.NOT_READ: "bad",
+    Result.DAMAGED: "bad",
+}
+
+
+class NoTemplates(Failure):
+    """No page can be made. The text is the reason."""
+
+
+@functools.lru_cache(maxsize=1)
+def environment() -> "jinja2.Environment":
+    """What knows the templates. Raises `NoTemplates` if Jinja2 isn't installed."""
+    try:
+        import jinja2
+    except ImportError:
+        why = "it needs the Python package Jinja2 (Debian: apt-get install python3-jinja2). --json needs no package"
+        raise NoTemplates(f"--html: {why}") from None
+
+    def finalize(value: object) -> object:
+        """A value as it is printed: what is no HTML of a template has no control characters."""
+        return safe(str(value)) if isinstance(value, str) and not hasattr(value, "__html__") else value
+
+    templates = jinja2.Environment(
+        loader=jinja2.FileSystemLoader(_TEMPLATES, encoding="utf-8"),
+        autoescape=True,
+        finalize=finalize,
+        undefined=jinja2.StrictUndefined,
+        trim_blocks=True,
+        lstrip_blocks=True,
+    )
+    templates.filters.update(_FILTERS)
+    return templates
+
+
+def counted(count: int, what: str) -> str:
+    """A number of things.
+
+    >>> counted(1, "group"), counted(2000, "group")
+    ('1 group', '2,000 groups')
+    """
+    return f"{count:,} {what}{'' if count == 1 else 's'}"
+
+
+def below(path: bytes, roots: Sequence[bytes]) -> bytes:
+    """A picture's name, relative to the folder if there is only one.
+
+    >>> below(b"/p/x/y", [b"/p"]), below(b"/p/x", [b"/p", b"/q"])
+    (b'x/y', b'/p/x')
+    """
+    root = roots[0].rstrip(b"/") + b"/" if len(roots) == 1 else b""
+    return path[len(root) :] if path.startswith(root) else path
+
+
+def result_tone(result: str) -> str:
+    """The tone of a result, by which it is coloured."""
+    return _RESULT_TONES.get(result, "odd")
+
+
+_FILTERS: Dict[str, Callable[..., Any]] = {
+    "number": "{:,}".format,
+    "counted": counted,
+    "path": shown_path,
+    "below": below,
+    "short": shortened,
+    "escaped": lambda text: escaped(shortened(text)),
+    "state": lambda state: STATE_WORDS.get(state, state),
+    "tone": lambda state: _TONES.get(state, "odd"),
+    "result_tone": result_tone,
+    "problem": lambda problem: TEXTS.get(problem, ""),
+    "texts": texts_by_standard,
+    "cause": CAUSES.get,
+    "words_of_cause": words_of,
+}
