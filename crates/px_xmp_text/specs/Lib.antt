@@ -1,4 +1,5 @@
 pub mod References
+pub mod Characters
 pub mod Grammar
 pub mod Texts
 pub mod Values

@@ -1,6 +1,9 @@
-// The characters of XML.
-ghost use Rattle.std.specs.Prelude.{◌≡◌};
+// The characters of XML. XML 1.0, 2.2.
+ghost use Rattle.std.specs.Prelude.{◌≡◌, ◌≤◌, length, take, drop, MatchOption};
+ghost use Rattle.std.specs.Str.{StartsWithNoChar};
 ghost use Rattle.px_xmp_text.specs.References.{is_char};
+ghost use Rattle.px_xmp_text.specs.Characters.{AreCharacters, IsFirstBad};
+ghost use Rattle.px_xmp_text.specs.calls.Forbidden.{IsForbidden};
 
 /// Whether XML allows the character with this number. XML 1.0, 2.2.
 pub fn is_char(number: u32) -> bool
@@ -12,4 +15,46 @@ pub fn is_char(number: u32) -> bool
         || (0x20 <= number && number <= 0xD7FF)
         || (0xE000 <= number && number <= 0xFFFD)
         || (0x10000 <= number && number <= 0x10FFFF)
+}
+
+// The longest text at the start, in UTF-8.
+fn text_at_start(octets: &[u8]) -> &str
+    ensures start { result.now ≡ take (length result.now) octets.now }
+    ensures within { length result.now ≤ length octets.now }
+    ensures none { StartsWithNoChar (drop (length result.now) octets.now) }
+{
+    match str::from_utf8(octets) {
+        Ok(text) => text,
+        Err(error) => match str::from_utf8(octets.split_at(error.valid_up_to()).0) {
+            Ok(text) => text,
+            Err(_) => "",
+        },
+    }
+}
+
+// The offset of the first character that XML does not allow.
+fn first_forbidden(text: &str) -> Option<usize>
+    ensures { MatchOption result (AreCharacters text.now) (IsForbidden text.now) }
+{
+    for (at, character) in text.char_indices() {
+        if !is_char(u32::from(character)) {
+            return Some(at);
+        }
+    }
+    None
+}
+
+/// The offset of the first place where no character that XML allows is, in UTF-8. None: the octets are such characters. It
+/// allocates nothing. XML 1.0, 2.2 and 4.3.3.
+pub fn first_bad_character(octets: &[u8]) -> Option<usize>
+    ensures { MatchOption result (AreCharacters octets.now) (IsFirstBad octets.now) }
+{
+    let text = text_at_start(octets);
+    if let Some(at) = first_forbidden(text) {
+        return Some(at);
+    }
+    if text.len() == octets.len() {
+        return None;
+    }
+    Some(text.len())
 }

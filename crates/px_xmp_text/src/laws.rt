@@ -1,7 +1,13 @@
 //! The laws of texts: what follows from the definitions. Each is the contract of a function that does nothing.
+ghost use Rattle.px_xmp_text.specs.Characters.{CharactersOrFault};
 ghost use Rattle.px_xmp_text.specs.Grammar.{ReferencesAreRead, OnlyReferencesAreRead};
 ghost use Rattle.px_xmp_text.specs.Laws.{NormalReadsBack, NormalIsInjective, NormalBound, FaultOrText};
 ghost use Rattle.px_xmp_text.specs.Values.{PacketIsInjective};
+
+/// Octets are characters that XML allows, or there is one first place where none is, and not both.
+pub fn characters_or_fault()
+    ensures { CharactersOrFault }
+{}
 
 /// Each reference of the grammar is read, whatever follows it.
 pub fn references_are_read()
