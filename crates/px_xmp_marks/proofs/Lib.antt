@@ -3,3 +3,5 @@ pub mod NameLaws
 pub mod AttributeLaws
 pub mod TagLaws
 pub mod SectionLaws
+pub mod CommentLaws
+pub mod InstructionLaws

@@ -21,12 +21,12 @@ find_on w n m (o ∷ y) s h e =
     cond-false (starts_with nat_eq (o ∷ y) w) (Some n) (find w (suc n) y) e ∙ ap (λ (j : ℕ). find w j y) (sym s)
 
 -- the first place of w, and what is before it
-record Found (w x : List ℕ) (n : ℕ) : Type 0 where
-  whole : x ≡ take n x ++ (w ++ drop (length w) (drop n x))
-  none : (a b : List ℕ) → x ≡ a ++ (w ++ b) → n ≤ length a
-  size : length (take n x) ≡ n
+pub record Found (w x : List ℕ) (n : ℕ) : Type 0 where
+  pub whole : x ≡ take n x ++ (w ++ drop (length w) (drop n x))
+  pub none : (a b : List ℕ) → x ≡ a ++ (w ++ b) → n ≤ length a
+  pub size : length (take n x) ≡ n
 
-find_found : (w : List ℕ) → ((b : List ℕ) → starts_with nat_eq (w ++ b) w ≡ true) → (j : ℕ) (x : List ℕ) (n : ℕ) → find w j x ≡ Some n
+pub find_found : (w : List ℕ) → ((b : List ℕ) → starts_with nat_eq (w ++ b) w ≡ true) → (j : ℕ) (x : List ℕ) (n : ℕ) → find w j x ≡ Some n
     → (k : ℕ) × (n ≡ j + k) × Found w x k
 unfolding find
 find_found w s j [] n h = absurd (cc)
@@ -52,7 +52,7 @@ find_found w s j (o ∷ x) n h = elim (cases_Bool (starts_with nat_eq (o ∷ x) 
         let t : true ≡ false = sym (s b) ∙ ap (λ (z : List ℕ). starts_with nat_eq z w) (sym e) ∙ f in absurd (cc)
     after x k r f (c ∷ a) b e = let l = r a b (ap (λ (z : List ℕ). drop 1 z) e) in omega (arith, l)
 
-differ : (a b : ℕ) → a ≡ b → (a == b) ≡ false → ⊥
+pub differ : (a b : ℕ) → a ≡ b → (a == b) ≡ false → ⊥
 differ a b e h = let t = eq-eqb a b e in absurd (cc)
 
 -- ---- sections

@@ -2,3 +2,5 @@ pub mod Reading
 pub mod Grammar
 pub mod Laws
 pub mod Sections
+pub mod Comments
+pub mod Instructions

@@ -1,8 +1,10 @@
-//! The laws of attributes, tags and sections: what is read is exactly what the grammar has. Each is the contract of a function
-//! that does nothing.
+//! The laws of the marks: what is read is exactly what the grammar has. Each is the contract of a function that does
+//! nothing.
 ghost use Rattle.px_xmp_marks.specs.Laws.{AttributesAreRead, OnlyAttributesAreRead, StartTagsAreRead, OnlyStartTagsAreRead};
 ghost use Rattle.px_xmp_marks.specs.Laws.{EndTagsAreRead, OnlyEndTagsAreRead, AttributesInOrder};
 ghost use Rattle.px_xmp_marks.specs.Sections.{SectionsAreRead, OnlySectionsAreRead};
+ghost use Rattle.px_xmp_marks.specs.Comments.{CommentsAreRead, OnlyCommentsAreRead};
+ghost use Rattle.px_xmp_marks.specs.Instructions.{InstructionsAreRead, OnlyInstructionsAreRead};
 
 /// Each attribute of the grammar is read, whatever follows it.
 pub fn attributes_are_read()
@@ -47,4 +49,24 @@ pub fn sections_are_read()
 /// What is read as a CDATA section is one of the grammar.
 pub fn only_sections_are_read()
     ensures { OnlySectionsAreRead }
+{}
+
+/// Each comment of the grammar is read, whatever follows it.
+pub fn comments_are_read()
+    ensures { CommentsAreRead }
+{}
+
+/// What is read as a comment is one of the grammar.
+pub fn only_comments_are_read()
+    ensures { OnlyCommentsAreRead }
+{}
+
+/// Each processing instruction of the grammar is read, whatever follows it.
+pub fn instructions_are_read()
+    ensures { InstructionsAreRead }
+{}
+
+/// What is read as a processing instruction is one of the grammar.
+pub fn only_instructions_are_read()
+    ensures { OnlyInstructionsAreRead }
 {}

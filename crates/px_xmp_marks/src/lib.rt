@@ -1,9 +1,11 @@
-//! The marks of XML 1.0 with namespaces, as they are written: names, attributes, tags and CDATA sections. Namespaces are
-//! found elsewhere. A name has ASCII letters, digits, `_`, `-` and `.` alone, as those of XMP have; others are for another
-//! reader. It works on octets, and allocates nothing.
+//! The marks of XML 1.0 with namespaces, as they are written: names, attributes, tags, CDATA sections, comments and
+//! processing instructions. Namespaces are found elsewhere. A name has ASCII letters, digits, `_`, `-` and `.` alone, as
+//! those of XMP have; others are for another reader. It works on octets, and allocates nothing.
 #![tactic(auto)]
 
 mod attributes;
+mod comments;
+mod instructions;
 pub mod laws;
 mod listing;
 mod names;
@@ -11,6 +13,8 @@ mod sections;
 mod tags;
 
 pub use attributes::{Attribute, read_attribute};
+pub use comments::read_comment;
+pub use instructions::read_instruction;
 pub use listing::{NextAttribute, next_attribute};
 pub use names::{Name, read_name};
 pub use sections::read_section;

@@ -63,7 +63,7 @@ fn name_len(octets: &[u8]) -> usize
 
 // The length of the name without a colon at the start.
 #[tactic(auto, unfolding(crate::specs::Reading::ncname))]
-fn ncname_len(octets: &[u8]) -> Option<usize>
+pub(crate) fn ncname_len(octets: &[u8]) -> Option<usize>
     ensures value { result ≡ ncname octets.now }
     ensures within { IfSome result (λ n. n ≤ length octets.now) }
 {

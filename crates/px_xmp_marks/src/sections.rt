@@ -4,9 +4,9 @@ ghost use Rattle.px_xmp_marks.specs.Sections.{find, section};
 
 // The offset of the first place where a mark begins.
 #[tactic(auto, unfolding(crate::specs::Sections::find))]
-fn find(octets: &[u8], mark: &[u8]) -> Option<usize>
+pub(crate) fn find(octets: &[u8], mark: &[u8]) -> Option<usize>
     ensures value { result ≡ find mark.now 0 octets.now }
-    ensures within { IfSome result (λ n. n ≤ length octets.now) }
+    ensures within { IfSome result (λ n. n + length mark.now ≤ length octets.now) }
 {
     for (n, _) in octets.iter().enumerate() {
         if octets.split_at(n).1.starts_with(mark) {
@@ -21,6 +21,7 @@ fn find(octets: &[u8], mark: &[u8]) -> Option<usize>
 #[tactic(auto, unfolding(crate::specs::Sections::section))]
 pub fn read_section<'a>(octets: &'a [u8]) -> Option<&'a [u8]>
     ensures value { option_map (λ v. v.now) result ≡ section octets.now }
+    ensures within { IfSome result (λ v. length v.now + 12 ≤ length octets.now) }
 {
     if !octets.starts_with(b"<![CDATA[") {
         return None;
