@@ -5,10 +5,10 @@ from __future__ import annotations
 import contextlib
 import errno
 import os
-import shutil
+import re
 import sys
 import tempfile
-from typing import IO, Iterator, Optional
+from typing import IO, Iterator, List, Optional, Union
 
 from ..model.budgets import COPIED_BYTES, Budget
 from ..model.texts import described
@@ -34,53 +34,93 @@ def seekable(source: IO[bytes], budget: Budget) -> Iterator[IO[bytes]]:
 
 
 class FileObject(Parts):
-    """A file object that can seek, from where it is to its end. Only parts of it are read, and when this is closed it is where it was."""
+    """A file object that can seek, from where it is to its end. Only parts of it are read, and when this is closed it is where it was.
+
+    Programs bring their own classes: what one raises, and a place or bytes that can't be, become an `OSError`.
+    """
 
     def __init__(self, source: IO[bytes], budget: Optional[Budget] = None) -> None:
-        self._source, self._start = source, source.tell()
+        self._source, self._start = source, _place(source)
         self._copies = contextlib.ExitStack()
-        source.seek(0, os.SEEK_END)
-        super().__init__(max(0, source.tell() - self._start), budget)
+        _seek(source, 0, os.SEEK_END)
+        super().__init__(max(0, _place(source) - self._start), budget)
 
     def _part(self, at: int, length: int) -> bytes:
-        self._source.seek(self._start + at)
-        parts = []
+        _seek(self._source, self._start + at)
+        parts: List[bytes] = []
         while length > 0 and (data := _some(self._source, length)):  # some return less than they are asked for
             parts.append(data)
             length -= len(data)
+            if len(parts) % PIECES == 0:
+                self.budget.check_time()
         return b"".join(parts)
 
     def as_file(self, name: bytes) -> bytes:
         """The path of a copy, which is gone once this is closed. Raises `TooMuch`."""
         self.budget.spend(COPIED_BYTES, self.size)
-        ending = os.path.splitext(os.fsdecode(name))[1]
-        copy = self._copies.enter_context(tempfile.NamedTemporaryFile(prefix="exifnorm-picture-", suffix=ending))
-        self._source.seek(self._start)
-        shutil.copyfileobj(self._source, copy, CHUNK)
+        ending = re.search(rb"\.[A-Za-z0-9]{1,8}\Z", name)
+        suffix = ending[0].decode("ascii") if ending else ""
+        copy = self._copies.enter_context(tempfile.NamedTemporaryFile(prefix="exifnorm-picture-", suffix=suffix))
+        at = 0
+        while piece := self._part(at, min(CHUNK, self.size - at)):  # no more than its size, however much there is now
+            copy.write(piece)
+            at += len(piece)
         copy.flush()
         return os.fsencode(copy.name)
 
     def close(self) -> None:
         """Removes the copies."""
         with self._copies:
-            self._source.seek(self._start)
+            _seek(self._source, self._start)
+
+
+PIECES = 256  # pieces after which the time is looked at
 
 
 def _is_read_in_place(source: IO[bytes]) -> bool:
     """Whether a file object can seek, and doesn't decompress."""
     if any(module in sys.modules and isinstance(source, getattr(sys.modules[module], name)) for module, name in _DECOMPRESS):
         return False
-    return source.seekable() if hasattr(source, "seekable") else hasattr(source, "seek") and hasattr(source, "tell")
+    with _own_errors():
+        return source.seekable() if hasattr(source, "seekable") else hasattr(source, "seek") and hasattr(source, "tell")
 
 
-def _some(source: IO[bytes], most: int) -> bytes:
-    """The next bytes of a file object, `most` at most; none at its end. Whatever it raises itself becomes an `OSError`."""
+@contextlib.contextmanager
+def _own_errors() -> Iterator[None]:
+    """Makes an `OSError` of whatever a file object raises itself."""
     try:
-        data: Optional[bytes] = source.read(most)
+        yield
     except (OSError, MemoryError):
         raise
     except Exception as error:
         raise OSError(errno.EIO, f"the file object can't be read: {described(error)}") from error
+
+
+def _place(source: IO[bytes]) -> int:
+    with _own_errors():
+        place = source.tell()
+    if not isinstance(place, int) or not 0 <= place < _LONGEST:
+        raise OSError(errno.EIO, f"the file object can't be read: tell() returned {place!r:.40}")
+    return place
+
+
+_LONGEST = 1 << 62  # bytes
+
+
+def _seek(source: IO[bytes], place: int, whence: int = os.SEEK_SET) -> None:
+    with _own_errors():
+        source.seek(place, whence)
+
+
+def _some(source: IO[bytes], most: int) -> bytes:
+    """The next bytes of a file object, `most` at most; none at its end."""
+    with _own_errors():
+        data: Union[bytes, bytearray, memoryview, None] = source.read(most)
     if data is None:
         raise BlockingIOError(errno.EAGAIN, "the file object has no bytes yet")
-    return data
+    if not isinstance(data, (bytes, bytearray, memoryview)):
+        raise OSError(errno.EIO, f"the file object can't be read: read() returned {type(data).__name__}, and not bytes")
+    octets = bytes(data)
+    if len(octets) > most:
+        raise OSError(errno.EIO, f"the file object can't be read: read({most}) returned {len(octets)} bytes")
+    return octets

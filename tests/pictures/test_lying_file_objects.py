@@ -1,0 +1,154 @@
+"""File objects that lie: each call returns or raises what no file does. `read` and `compare` raise what docs/PYTHON.md lists, and end."""
+
+import io
+import itertools
+import os
+import tempfile
+
+import pytest
+from made_blocks import BLOCKS, with_exif
+from made_files import app1, exif, jpeg, png
+from studio import SMALL_JPEG
+from test_file_objects import facts
+
+import exifnorm_pictures as pictures
+from exifnorm_pictures.extract.file_objects import PIECES
+from exifnorm_pictures.model.budgets import BYTES_READ, COPIED_BYTES, LIMITS
+
+PICTURES = {
+    "jpg": jpeg(app1(exif(b"Abc"))),
+    "cut.jpg": jpeg(app1(exif(b"Abc")))[:300],  # which ExifTool reads, from a copy
+    "png": png(),
+    "refused.jpg": with_exif(SMALL_JPEG, BLOCKS["Doubled"]),
+    "nothing": b"",
+}
+RAISED = (OSError, pictures.NoPicture, pictures.NotReadable, TypeError)
+READS = 20_000  # calls of a file object, of which none of these pictures needs as many
+
+
+class Liar(io.BytesIO):
+    """A file object with one call that lies, from the second time on, so that it passes for a file at first."""
+
+    def __init__(self, octets, call, lie, name):
+        super().__init__(octets)
+        self.call, self.lie, self.name = call, lie, name
+        self.calls, self.octets = 0, 0
+
+    def _answer(self, call, answer, *words):
+        self.calls += 1
+        assert self.calls < READS, "it is asked without end"
+        if call != self.call or self.calls < 3:
+            return answer
+        return self.lie(answer, *words) if callable(self.lie) else self.lie
+
+    def read(self, length=-1):
+        data = self._answer("read", super().read(length), length)
+        self.octets += len(data) if isinstance(data, (bytes, bytearray)) else 0
+        return data
+
+    def tell(self):
+        return self._answer("tell", super().tell())
+
+    def seek(self, at, whence=os.SEEK_SET):
+        if self.call == "seek" and self.lie == "stays":
+            return self._answer("", super().tell())
+        return self._answer("seek", super().seek(at, whence))
+
+    def seekable(self):
+        return self._answer("seekable", True)
+
+
+def raising(error):
+    def fails(*_):
+        raise error
+
+    return fails
+
+
+ERRORS = [raising(it) for it in (ValueError("closed"), KeyError("x"), io.UnsupportedOperation("seek"), RuntimeError("\x1b[2J"), EOFError())]
+LIES = {
+    "read": [
+        *ERRORS,
+        "text",
+        7,
+        [b"a"],
+        bytearray(b"abc"),
+        memoryview(b"abc"),
+        None,
+        lambda data, _: data + b"more",
+        lambda data, _: data[:1],
+    ],
+    "tell": [*ERRORS, -1, 1 << 70, 1 << 60, 10_000_000, "7", None, 0.5],
+    "seek": [*ERRORS, "stays", None, -1],
+    "seekable": [*ERRORS, False, None, "no"],
+}
+EACH = [(call, number) for call, lies in LIES.items() for number in range(len(lies))]
+
+
+@pytest.mark.parametrize("call, number", EACH)
+@pytest.mark.parametrize("name", PICTURES)
+def test_a_call_that_lies(name, call, number, tmp_path, monkeypatch):
+    monkeypatch.setattr(tempfile, "tempdir", str(tmp_path))
+    monkeypatch.setenv("PATH", str(tmp_path))  # ExifTool takes long, and gets what is copied
+    for ask in (pictures.read, lambda file: pictures.compare(file, PICTURE)):
+        file = Liar(PICTURES[name], call, LIES[call][number], name)
+        try:
+            ask(file)
+        except RAISED as error:
+            assert "internal" not in str(error) and "\n" not in str(error), repr(error)
+        assert not list(tmp_path.iterdir())
+
+
+PICTURE = pictures.read_bytes(PICTURES["jpg"])
+
+
+class Endless(io.BytesIO):
+    """One of so many bytes by its places, and of bytes without end by what it reads."""
+
+    def __init__(self, octets, length, most, seeks):
+        super().__init__(octets)
+        self.length, self.most, self.seeks, self.reads = length, most, seeks, 0
+
+    def read(self, length=-1):
+        self.reads += 1
+        data = super().read(min(length, self.most))
+        return data or bytes(min(length, self.most))
+
+    def seekable(self):
+        return self.seeks
+
+    def seek(self, at, whence=os.SEEK_SET):
+        return super().seek(at if whence == os.SEEK_SET else self.length)
+
+
+@pytest.mark.parametrize("name", PICTURES)
+@pytest.mark.parametrize("length", [1000, 1 << 61])
+@pytest.mark.parametrize("seeks", [True, False])
+def test_one_that_never_ends(name, length, seeks, tmp_path, monkeypatch):
+    """What is copied of it is at most its length, and at most the limit."""
+    monkeypatch.setattr(tempfile, "tempdir", str(tmp_path))
+    monkeypatch.setenv("PATH", str(tmp_path))
+    for limit in (COPIED_BYTES, BYTES_READ):
+        monkeypatch.setitem(LIMITS, limit, 1 << 20)
+    file = Endless(PICTURES[name], length, 1 << 20, seeks)
+    try:
+        pictures.read(file)
+    except RAISED as error:
+        assert "internal" not in str(error), repr(error)
+    assert file.reads < READS
+
+
+def test_the_clock_is_looked_at_between_small_pieces(monkeypatch):
+    """One that returns a byte at a time is read as long as the picture's clock runs, and no longer."""
+    ticks = itertools.count()
+    monkeypatch.setattr("exifnorm_pictures.model.budgets.time.thread_time", lambda: next(ticks) / 5)
+    file = Endless(PICTURES["jpg"], 1 << 30, 1, True)
+    with pytest.raises(pictures.NotReadable, match="seconds of a processor"):
+        pictures.read(file)
+    assert file.reads < 100 * PIECES
+
+
+def test_a_file_object_that_tells_the_truth():
+    for name, octets in PICTURES.items():
+        if name != "nothing":
+            assert facts(pictures.read(Liar(octets, "", None, name))) == facts(pictures.read_bytes(octets, name=name))
