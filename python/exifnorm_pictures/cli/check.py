@@ -8,7 +8,7 @@ from itertools import groupby
 from typing import TYPE_CHECKING, Dict, List
 
 from ..catalogue.checking import Broken, Checked
-from ..fields.rules import WrongRules, rules_of
+from ..fields.rules import MOST_WORDS, WrongRules, rules_of
 from ..files import opening, signals
 from ..model.texts import Members, escaped, path_members, shown_path
 from .exit_codes import DIFFERENCE, SUCCESS, UNKNOWN
@@ -61,7 +61,10 @@ def _text_of(name: str) -> str:
 
 def _words_of(name: str) -> List[str]:
     """The words of a file, one each line; lines that begin with # are comments."""
-    lines = (line.strip() for line in _text_of(name).splitlines())
+    text = _text_of(name)
+    if text.count("\n") > MOST_WORDS:
+        raise WrongRules(f"{escaped(name)} has more than {MOST_WORDS:,} lines")
+    lines = (line.strip() for line in text.splitlines())
     return [line for line in lines if line and not line.startswith("#")]
 
 

@@ -14,7 +14,7 @@ from typing import TYPE_CHECKING, Iterator, List, Optional, Sequence, Tuple
 from ..catalogue.asking import Answer, Fitting, Scope
 from ..fields.labels import POSITION, PRIVATE
 from ..fields.places import place_of
-from ..fields.questions import All, Not, Question, With, WrongQuestion, given_label, labels_of, question_of
+from ..fields.questions import Not, Question, With, WrongQuestion, all_of, given_label, labels_of, question_of
 from ..files import signals
 from ..model.texts import Members, escaped, path_members, shown_path
 from .exit_codes import SUCCESS, UNKNOWN
@@ -73,7 +73,7 @@ def _question(arguments: argparse.Namespace) -> Optional[Question]:
     questions += [Not(With(given_label(word))) for word in arguments.without]
     questions += [question_of(text) for text in arguments.where]
     questions += [With(POSITION)] * arguments.geojson
-    return None if not questions else questions[0] if len(questions) == 1 else All(tuple(questions))
+    return all_of(questions) if questions else None
 
 
 def _columns(arguments: argparse.Namespace, question: Optional[Question]) -> List[str]:

@@ -13,15 +13,17 @@ from __future__ import annotations
 import difflib
 import re
 from dataclasses import dataclass
-from typing import List, NamedTuple, NoReturn, Tuple, Union
+from typing import List, NamedTuple, NoReturn, Sequence, Tuple, Union
 
 from ..model.errors import WrongUse
 from .labels import DATE, fields_by_label, label_of
 
 COMPARISONS = ("=", "!=", "has", "like", "<", "<=", ">", ">=")
 ORDERED = ("<", "<=", ">", ">=")
-DEEPEST = 50  # brackets and `not` inside each other
+DEEPEST = 20  # brackets and `not` inside each other, each of which takes places in the stack of SQLite's parser, of which it has 100
 LONGEST = 4000  # characters of a question
+LONGEST_PATTERN = 1000  # characters of `like`, with which SQLite may compare at each place of a text
+MOST = 400  # conditions, of which SQLite makes one expression
 
 
 class WrongQuestion(WrongUse):
@@ -78,6 +80,19 @@ def labels_of(question: Question) -> List[str]:
         return [question.label]
     parts = (question.question,) if isinstance(question, Not) else question.questions
     return list(dict.fromkeys(label for part in parts for label in labels_of(part)))
+
+
+def all_of(questions: Sequence[Question]) -> Question:
+    """The question whether each of some holds. Raises `WrongQuestion` if they have too many conditions together."""
+    if sum(map(_conditions, questions)) > MOST:
+        raise WrongQuestion(f"a question has at most {MOST} conditions, all options together")
+    return questions[0] if len(questions) == 1 else All(tuple(questions))
+
+
+def _conditions(question: Question) -> int:
+    if isinstance(question, (With, Condition)):
+        return 1
+    return sum(map(_conditions, (question.question,) if isinstance(question, Not) else question.questions))
 
 
 def question_of(text: str) -> Question:
@@ -231,6 +246,8 @@ class _Reader:
             self._check_date(value)
         elif token.word in ORDERED:
             self._check_number(value)
+        elif token.word == "like" and len(value.text) > LONGEST_PATTERN:
+            self._fail(value._replace(end=value.start + 1), f"a pattern has at most {LONGEST_PATTERN:,} characters")
         if token.word == "!=":
             return Not(Condition(label, "=", value.text))
         return Condition(label, token.word, value.text)

@@ -21,7 +21,7 @@ import os
 import re
 import time
 from dataclasses import dataclass
-from typing import Callable, Dict, Iterable, Iterator, List, NamedTuple, NoReturn, Sequence, Tuple
+from typing import Callable, Dict, Iterable, Iterator, List, NamedTuple, NoReturn, Optional, Sequence, Tuple
 
 from ..model.errors import WrongUse
 from .labels import DATE, fields_by_label, label_of
@@ -41,6 +41,11 @@ _PREDICATES = {  # by their words
 }
 _PLACES = ("in", "except")
 MOST_RULES = 1000
+MOST_WORDS = 1_000_000  # of the texts that all rules together allow
+LONGEST_LINE = 100_000  # characters
+LONGEST_PATTERN = 1000  # characters of `like`, with which SQLite may compare at each place of a text
+_MOST_MISTAKES = 20  # that are listed
+_SHOWN = 100  # characters of a line that are listed before and after the start of a mistake
 
 
 class WrongRules(WrongUse):
@@ -87,28 +92,44 @@ def rules_of(text: str, words_of: Callable[[str], List[str]]) -> List[Rule]:
     """
     rules: List[Rule] = []
     mistakes: List[str] = []
+    words = 0
     for number, line in enumerate(text.splitlines(), 1):
         try:
-            tokens = list(_tokens(line))
-            if tokens:
-                rules.append(_Reader(number, line, tokens, words_of).read())
+            rule = _rule(number, line, words_of)
         except _Mistake as mistake:
-            mistakes += [
-                f"line {number}: {mistake.why}",
-                f"  {line}",
-                f"  {' ' * mistake.start}{'^' * max(1, mistake.end - mistake.start)}",
-            ]
+            mistakes += mistake.lines(number, line)
+            if len(mistakes) < 3 * _MOST_MISTAKES:
+                continue
+            raise WrongRules(*mistakes, "the lines below were not looked at") from None
+        if rule is not None:
+            rules.append(rule)
+            words += len(rule.values)
+        if len(rules) > MOST_RULES or words > MOST_WORDS:
+            raise WrongRules(f"at most {MOST_RULES:,} rules are checked, which together allow at most {MOST_WORDS:,} texts")
     if mistakes:
         raise WrongRules(*mistakes)
-    if len(rules) > MOST_RULES:
-        raise WrongRules(f"there are {len(rules):,} rules, and at most {MOST_RULES:,} are checked")
     return rules
+
+
+def _rule(number: int, line: str, words_of: Callable[[str], List[str]]) -> Optional[Rule]:
+    """The rule of a line, if it has one. Raises `_Mistake`."""
+    if len(line) > LONGEST_LINE:
+        raise _Mistake(f"a line has at most {LONGEST_LINE:,} characters; a file of words, after from, may have more", 0, 1)
+    tokens = list(_tokens(line))
+    return _Reader(number, line, tokens, words_of).read() if tokens else None
 
 
 class _Mistake(Exception):
     def __init__(self, why: str, start: int, end: int) -> None:
         super().__init__(why)
         self.why, self.start, self.end = why, start, end
+
+    def lines(self, number: int, line: str) -> List[str]:
+        """What is wrong with a line, and the line with a mark below it, or of a long one the part around it."""
+        first, last = max(0, self.start - _SHOWN), self.start + _SHOWN
+        shown = ".. " * (first > 0) + line[first:last] + " .." * (last < len(line))
+        mark = " " * (self.start - first + 3 * (first > 0)) + "^" * max(1, min(self.end, last) - self.start)
+        return [f"line {number}: {self.why}", f"  {shown}", f"  {mark}"]
 
 
 class _Token(NamedTuple):
@@ -198,8 +219,8 @@ class _Reader:
         name = " ".join(token.text for token in tokens)
         label = label_of(name)
         if label is None:
-            near = difflib.get_close_matches(name.casefold(), fields_by_label(), 1, 0.6)
-            self._fail(f"{name!r} is no label" + (f" (perhaps {near[0]} is meant)" if near else ""), *tokens)
+            near = difflib.get_close_matches(name[:_SHOWN].casefold(), fields_by_label(), 1, 0.6)
+            self._fail(f"{name[:_SHOWN]!r} is no label" + (f" (perhaps {near[0]} is meant)" if near else ""), *tokens)
         return label
 
     def _predicate(self, labels: Sequence[str]) -> Tuple[str, Tuple[str, ...]]:
@@ -223,6 +244,8 @@ class _Reader:
         while words == ("one", "of") and self._next.word == ",":
             self._at += 1
             values.append(self._value())
+        if kind == LIKE and len(values[0]) > LONGEST_PATTERN:
+            self._fail(f"a pattern has at most {LONGEST_PATTERN:,} characters", first)
         if words != ("from",):
             return tuple(values)
         try:
