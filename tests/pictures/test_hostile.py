@@ -83,7 +83,7 @@ class Hostile(WithPictures):
         write(self.path("b.jpg"), with_iptc(SMALL_JPEG, b"text:base64:HAIZAANvbmU="))
         write(self.path("c.jpg"), with_iptc(SMALL_JPEG, b"12345"))
         lines = self.asked("show", "a.jpg", "b.jpg", "c.jpg", status=2)
-        self.assertEqual([it for it in lines if not it.startswith("==")], ["IPTC: refused: UnknownKind at 0"] * 3)
+        self.assertEqual([it for it in lines if not it.startswith("==")], ["IPTC: refused: NoMarker at 0"] * 3)
 
     def test_cr3_is_refused_with_the_reason(self):
         write(self.path("a.cr3"), struct.pack(">I", 24) + b"ftypcrx \0\0\0\1crx isom" + struct.pack(">I", 8) + b"mdat")

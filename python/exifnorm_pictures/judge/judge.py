@@ -27,6 +27,9 @@ def judge(kind: str, block: bytes, packs: bool = False, at: FoundBlock = _BY_ITS
     octets = hashlib.sha256(block).hexdigest()
     if block.startswith(COMPRESSED):
         return _unreadable(kind, at, len(block), octets, "Compressed")
+    misplaced = _misplaced(kind, block)
+    if misplaced:
+        return Block(kind, *at[2:5], Status.REFUSED, None, misplaced, 0, len(block), octets)
     try:
         form = exifnorm.normal(block)
     except exifnorm.Refused as refused:
@@ -36,12 +39,19 @@ def judge(kind: str, block: bytes, packs: bool = False, at: FoundBlock = _BY_ITS
         return Block(kind, *at[2:5], Status.TOO_LONG, None, "NormalTooLong", None, len(block), octets)
     except MemoryError:
         return Block(kind, *at[2:5], Status.FAILED, None, "OutOfMemory", None, len(block), octets)
-    if (form[:1] == _DATASET) != (kind == IPTC):  # a block of the other kind is none here, as for the library's calls for pictures
-        return Block(kind, *at[2:5], Status.REFUSED, None, "NoMarker" if kind == IPTC else "UnknownKind", 0, len(block), octets)
     digest = octets if form == block else hashlib.sha256(form).hexdigest()
     return _with_fields(
         Block(kind, *at[2:5], Status.ACCEPTED, digest, None, None, len(block), octets), Fields(normal_form.fields_of_form, form), packs
     )
+
+
+def _misplaced(kind: str, block: bytes) -> str:
+    """The cause of a block that doesn't begin as its place in the picture shows that it must, as the library's calls for pictures have it; empty
+    if it does. A block of the other kind is none there."""
+    is_record = block.startswith(_DATASET)
+    if is_record == (kind == IPTC) or not block or len(block) > exifnorm.LIMIT:
+        return ""
+    return "NoMarker" if kind == IPTC else "UnknownKind"
 
 
 def _with_fields(block: Block, fields: Fields[Any], packs: bool) -> Block:
