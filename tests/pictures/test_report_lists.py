@@ -9,6 +9,7 @@ from typing import Any, Callable, Dict, List
 
 import pytest
 from made_blocks import BLOCKS, with_exif, with_iptc
+from made_files import app1_xmp, jpeg, xmp
 from studio import SMALL_JPEG
 
 from exifnorm_pictures.report import contents, rendering, templating
@@ -68,3 +69,19 @@ def test_a_page_counts_what_it_leaves_out(more: int) -> None:
     number = contents.MOST_GROUPS + more
     made = rendering.page(contents.Gathered(all_groups=(number, 2 * number)), "a title")
     assert (".. and 1 more groups" in made, ".. and 0 more" in made) == (more == 1, False)
+
+
+@pytest.mark.parametrize("most, left", [(5, 0), (4, 2), (2, 6)])
+def test_how_often_fields_differ_that_are_not_counted(called, folder, monkeypatch, most: int, left: int) -> None:
+    """Five fields differ in each of two pictures. The numbers of --json are those of all fields, and the page says that there are more."""
+    monkeypatch.setattr(contents, "MOST_COUNTED", most)
+    for side in ("one", "two"):
+        (folder / side).mkdir()
+        for name in ("a.jpg", "b.jpg"):
+            packet = xmp("".join(f"<dc:a{it}>{side}</dc:a{it}>" for it in range(5)))
+            (folder / side / name).write_bytes(jpeg(app1_xmp(packet)))
+        assert called("index", side, "--catalogue", side + ".c", "--quiet", "--jobs", "1")[0] == 0
+    words = ["report", "--catalogue", "two.c", "--since", "one.c", "--no-look"]
+    counts = next(it for it in map(json.loads, called(*words, "--json")[1].splitlines()) if "fields_not_counted" in it)
+    assert (len(counts["fields"]), set(counts["fields"].values()), counts["fields_not_counted"]) == (most, {2}, left)
+    assert sum(counts["fields"].values()) + left == 10

@@ -111,7 +111,8 @@ class Gathered:
     changed: List[EqualChanges] = field(default_factory=list)
     all_changed: int = 0  # different changes
     coded: "Counter[Coded]" = field(default_factory=Counter)  # what is known of the coded pictures of both catalogues
-    fields: "Counter[str]" = field(default_factory=Counter)
+    fields: "Counter[str]" = field(default_factory=Counter)  # the first ones, each with the number of its pictures
+    fields_left: int = 0  # how often a further one differs
     since: bool = False
     left_out: List[str] = field(default_factory=list)  # lines about what differs and is left out
     runs: List[Run] = field(default_factory=list)
@@ -221,7 +222,7 @@ def _gather_changes(contents: Gathered, about: About) -> None:
     for comparison in found_changes:
         if comparison.result.has_changed is False:
             continue
-        _count_fields(contents.fields, (change.name for change in comparison.changes))
+        contents.fields_left += _count_fields(contents.fields, (change.name for change in comparison.changes))
         to = f"to {shown_path(comparison.moved_to)}" if comparison.moved_to is not None else ""
         text = _text_of(comparison.result, comparison.note or to, [(one.name, *sides(one), one.note) for one in comparison.changes])
         equal.add(text, comparison.name, comparison.moved_to is not None)
@@ -245,11 +246,15 @@ def _text_of(result: Result, note: str, rows: List[Line]) -> str:
     return json.dumps([digest, result, shortened(note), len(rows), first])
 
 
-def _count_fields(counts: "Counter[str]", names: Iterable[str]) -> None:
-    """Counts one more picture for each of these fields. Of a field that isn't among the first ones nothing is counted."""
-    for name in set(map(shortened, names)):
+def _count_fields(counts: "Counter[str]", names: Iterable[str]) -> int:
+    """Counts one more picture for each of these fields. Returns how many of them aren't counted, because others were the first ones."""
+    left = 0
+    for name in sorted(set(map(shortened, names))):
         if name in counts or len(counts) < MOST_COUNTED:
             counts[name] += 1
+        else:
+            left += 1
+    return left
 
 
 def members(about: About) -> Iterator[Members]:
@@ -306,13 +311,14 @@ def _changed_members(about: About) -> Iterator[Members]:
     assert about.old is not None
     results: "Counter[Result]" = Counter()
     fields: "Counter[str]" = Counter()
+    not_counted = 0
     about.choice.left_out.clear()  # of the page
     for comparison in changed.changed(about.old, about.catalogue, results, about.only, session=about.session, choice=about.choice):
         if comparison.result.has_changed is False:
             continue
-        _count_fields(fields, (change.change_name for change in comparison.changes))
+        not_counted += _count_fields(fields, (change.change_name for change in comparison.changes))
         changes = [{"name": one.change_name, "before": bare(one.before), "after": bare(one.after)} for one in comparison.changes]
         moved = {} if comparison.moved_to is None else {"moved_to": path_members(comparison.moved_to)}
         yield {"changed": path_members(comparison.name), "result": comparison.result, "note": comparison.note, **moved, "fields": changes}
     left_out = {"left_out": about.choice.left_out} if about.choice.left_out else {}
-    yield {"results": dict(results), "fields": dict(fields), **left_out}
+    yield {"results": dict(results), "fields": dict(fields), "fields_not_counted": not_counted, **left_out}

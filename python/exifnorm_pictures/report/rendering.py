@@ -24,7 +24,6 @@ MOST = {
     "OPEN": 8,  # changes that are shown unfolded
     "CHANGES": limits.MOST_CHANGES,
     "CONTRADICTIONS": limits.MOST_CONTRADICTIONS,
-    "COUNTED": limits.MOST_COUNTED,
     "FIELDS": limits.MOST_FIELDS,
     "GROUPS": limits.MOST_GROUPS,
     "NAMES": limits.MOST_NAMES,
