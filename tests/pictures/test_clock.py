@@ -1,13 +1,16 @@
 """The clock of a picture ends whatever reads it, and the next picture is read."""
 
 import itertools
+import json
 import sqlite3
 import time
 
 import pytest
-from made_blocks import ASCII, entry, table, with_exif
+from made_blocks import ASCII, entry, segment, table, with_exif
 from made_files import app1, app1_xmp, exif, jpeg, xmp
 from studio import SMALL_JPEG
+from test_maker_notes import noted
+from test_repairs import REFUSED
 
 from exifnorm_pictures.extract import exiftool, programs
 from exifnorm_pictures.judge import repairs
@@ -46,21 +49,36 @@ def test_what_never_ends(name, called, folder, monkeypatch):
     assert first == "TooMuch" and second is None and digest, (first, second)
 
 
-# An ExifTool that has no end at a file called a.*: `name` is the file's, and `done` what ends an answer. It reads requests as ExifTool does.
+# An ExifTool that has no end at a file with this mark, in each of its calls or at one stage of `mend`. It reads requests as ExifTool does,
+# and otherwise its arguments.
+MARK = b"has no end"
 FAKE = """#!/usr/bin/python3
-import os, sys, time
+import json, os, re, sys, time
+STAGES = {"shown": "-all#", "free": "-PageName", "written": "=zz", "rebuilt": "-tagsfromfile"}
+def about(names, words):
+    if any(b"has no end" in open(name, "rb").read() for name in names) and any(STAGES.get(%r, "") in word for word in words):
+        %s
 if "-ver" in sys.argv:
     print(12.57)
-    sys.exit()
-name = ""
-for line in sys.stdin:
-    line = line.rstrip("\\n")
-    name = line if line.startswith(("/", "./")) else name
-    done = line if line.startswith("{done") else done if name else ""
-    if line == "-execute":
-        if os.path.basename(os.path.realpath(name)).startswith("a."):
-            %s
-        print('[{"SourceFile":"%%s","A:FileType":"EXV","A:MIMEType":"image/x-exv"}]' %% name, done, sep="\\n", flush=True)
+elif "-stay_open" not in sys.argv:
+    about([sys.argv[-1]], [word.replace("-IFD0:", "-") for word in sys.argv])
+else:
+    words = []
+    for line in sys.stdin:
+        words.append(line.rstrip("\\n"))
+        if words[-1] == "-execute":
+            names = [it for it in words if it.startswith(("/", "./"))]
+            about(names, words)
+            print(json.dumps([{"SourceFile": it, "A:FileType": "EXV", "A:MIMEType": "image/x-exv", "Canon:Owner": "x"} for it in names]))
+            print(next(it for it in words if it.startswith("{done")), flush=True)
+            words = []
+"""
+FAKE_EXIV2 = """#!/usr/bin/python3
+import os, sys, time
+if "--version" in sys.argv:
+    print("exiv2 0.27.6")
+elif b"has no end" in open(sys.argv[-1], "rb").read():
+    time.sleep(1000)
 """
 WITHOUT_END = {
     "silent": "time.sleep(1000)",
@@ -69,15 +87,24 @@ WITHOUT_END = {
     "deaf": "os.close(0), time.sleep(1000)",
 }
 NO_READER = b"\xff\x01Exiv2\xff\xd9"  # exiv2's own format
-TRAILER = jpeg(app1(exif(b"Abc")), behind=b"AXS!" + bytes(20) + b"AXS*" + bytes(8))
+TRAILERS = [jpeg(app1(exif(b"Abc")), behind=b"AXS!" + it.ljust(20, b"\0") + b"AXS*" + bytes(8)) for it in (MARK, b"")]
+COMMENT = segment(0xFE, MARK)
+
+
+def programs_of(folder, monkeypatch, end, stage="", exiv2=""):
+    """Puts an ExifTool, and perhaps an exiv2, on PATH."""
+    (folder / "bin").mkdir()
+    for name, text in (("exiftool", FAKE % (stage, end)), ("exiv2", exiv2)):
+        if text:
+            (folder / "bin" / name).write_text(text)
+            (folder / "bin" / name).chmod(0o755)
+    monkeypatch.setenv("PATH", f"{folder / 'bin'}")
+    programs.version.cache_clear()
 
 
 def asked(folder, monkeypatch, end, **pictures):
-    (folder / "bin").mkdir()
-    (folder / "bin" / "exiftool").write_text(FAKE % end)
-    (folder / "bin" / "exiftool").chmod(0o755)
-    monkeypatch.setenv("PATH", f"{folder / 'bin'}:/usr/bin:/bin")
-    programs.version.cache_clear()
+    """A folder of pictures, and an ExifTool that has no end at those with the mark."""
+    programs_of(folder, monkeypatch, end)
     (folder / "p").mkdir()
     for name, octets in pictures.items():
         (folder / "p" / name.replace("_", ".")).write_bytes(octets)
@@ -86,7 +113,7 @@ def asked(folder, monkeypatch, end, **pictures):
 @pytest.mark.parametrize("end", WITHOUT_END)
 def test_an_exiftool_without_end(end, called, folder, monkeypatch):
     """It costs the file at most the limit, whichever command asks it, and the next file is read."""
-    asked(folder, monkeypatch, WITHOUT_END[end], a_exv=NO_READER, b_exv=NO_READER)
+    asked(folder, monkeypatch, WITHOUT_END[end], a_exv=NO_READER + MARK, b_exv=NO_READER)
     began = time.monotonic()
     for words in (
         ["index", "p", "--catalogue", "c", "--quiet", "--jobs", "1"],
@@ -102,12 +129,47 @@ def test_an_exiftool_without_end(end, called, folder, monkeypatch):
 
 
 def test_an_exiftool_without_end_at_what_is_read_here(called, folder, monkeypatch):
-    """It is asked for a trailer's blocks, and for MakerNotes: the picture is read but for these."""
-    asked(folder, monkeypatch, WITHOUT_END["silent"], a_jpg=TRAILER, b_jpg=TRAILER)
+    """It is asked for a trailer's blocks: the picture is read but for these."""
+    asked(folder, monkeypatch, WITHOUT_END["silent"], a_jpg=TRAILERS[0], b_jpg=TRAILERS[1])
     called("index", "p", "--catalogue", "c", "--quiet", "--jobs", "1", "--limit", "1")
     with sqlite3.connect("c") as base:
         rows = list(base.execute("SELECT path, problem, exif != '', not_read IS NULL FROM pictures ORDER BY path"))
     assert [row[1:3] for row in rows] == [(None, 1), (None, 1)] and rows[0][3], rows
+
+
+@pytest.mark.parametrize("end", ("silent", "long"))
+def test_an_exiftool_without_end_at_maker_notes(end, called, folder, monkeypatch):
+    """The picture is one at which a program failed, which the next run asks again, and the MakerNote of the next one is read. `compare` knows
+    nothing of it."""
+    asked(folder, monkeypatch, WITHOUT_END[end], a_jpg=noted(more=[COMMENT]), b_jpg=noted())
+    assert called("index", "p", "--catalogue", "c", "--quiet", "--jobs", "1", "--limit", "1", "--maker-notes")[0] == 2
+    with sqlite3.connect("c") as base:
+        query = "SELECT problem, exif != '', readings IS NOT NULL FROM pictures LEFT JOIN maker_notes ON picture = id ORDER BY path"
+        assert list(base.execute(query)) == [("ToolFailed", None, 0), (None, 1, 1)]
+    for name, more in (("a", [COMMENT]), ("b", [])):
+        (folder / f"{name}.jpg").write_bytes(noted(moved=64, more=more))
+        status, printed, messages = called("compare", f"p/{name}.jpg", f"{name}.jpg", "--limit", "1")
+        assert status in (1, 2) and "internal" not in printed + messages, printed
+
+
+STAGES = ("shown", "free", "written", "rebuilt", "exiv2")
+
+
+@pytest.mark.parametrize("stage", STAGES)
+def test_mend_without_end(stage, called, folder, monkeypatch):
+    """At whichever step a program doesn't end: the picture isn't mended, nothing is written of it, and the next one is mended."""
+    programs_of(folder, monkeypatch, WITHOUT_END["silent"] if stage != "exiv2" else "pass", stage, FAKE_EXIV2 if stage == "exiv2" else "")
+    for name, block in (("a", b"II*\0\xff\xff\0\0" + MARK), ("b", REFUSED["unsorted"])):
+        (folder / f"{name}.jpg").write_bytes(with_exif(SMALL_JPEG, block))
+    (folder / "list").write_text("a.jpg\nb.jpg\n")
+    (folder / "out").mkdir()
+    calls, run = [], programs.run
+    monkeypatch.setattr(programs, "run", lambda *words: (calls.append(words), run(*words))[1])
+    status, printed, messages = called("mend", "--files-from", "list", "out", "--limit", "1", "--json")
+    first, second, _ = map(json.loads, printed.splitlines())
+    assert (status, first.get("problem"), second.get("step")) == (2, "TooSlow", "repair"), printed + messages
+    assert [it.name for it in (folder / "out").iterdir()] == ["b.jpg"]
+    assert len(calls) <= 12, "each call may take as long as the limit"
 
 
 def test_an_exiftool_that_leaves_its_input_in_the_pipe(folder, monkeypatch):
