@@ -181,10 +181,17 @@ def test_what_was_not_read_is_counted_apart(folder, called, asked):
     assert "1 more may fit" in called("list", "c", "--without", "title")[1]
 
 
+_PHOTOSHOP = "xmlns:photoshop='http://ns.adobe.com/photoshop/1.0/'"
+
+
 def test_texts_that_are_not_kept(folder, called, asked):
     """A text that is too long for the catalogue may have the word that is asked for."""
     put(
-        folder / "p", {"long.png": png(png_xmp(xmp(f"<photoshop:Source>{'x' * 70_000} clay</photoshop:Source>"))), "short.jpg": picture([])}
+        folder / "p",
+        {
+            "long.png": png(png_xmp(xmp(f"<photoshop:Source>{'x' * 70_000} clay</photoshop:Source>", outer=_PHOTOSHOP))),
+            "short.jpg": picture([]),
+        },
     )
     called("index", "p", "--catalogue", "c", "--quiet")
     assert asked("--where", "source has clay")[1:] == (2, {**asked()[2], "listed": 0, "not_known": 1})
@@ -321,9 +328,9 @@ def test_the_place_of_a_mistake_is_marked(folder, called):
 def test_a_question_visits_few_rows(folder, called):
     """A text is looked up, however many pictures have others: SQLite's steps at ten times as many pictures."""
     from exifnorm_pictures.catalogue.asking import Answer
+    from exifnorm_pictures.catalogue.label_texts import kept_text
     from exifnorm_pictures.catalogue.store import Catalogue, put_rows
     from exifnorm_pictures.fields.questions import question_of
-    from exifnorm_pictures.catalogue.label_texts import kept_text
     from exifnorm_pictures.model.records import Picture
 
     steps = {}
@@ -332,17 +339,17 @@ def test_a_question_visits_few_rows(folder, called):
         with Catalogue(name, make=True) as catalogue:
             run = catalogue.begin_run("2026-01-01T00:00:00Z")
             empty = {"exif": "", "iptc": "", "xmp": "", "not_read": "", "other_not_read": ""}
-            pictures = [
-                Picture(
-                    path=b"/p/%06d" % number,
-                    root=b"/p",
-                    **empty,
-                    texts=(kept_text("creator", f"Name {number}"), kept_text("title", "Vase")),
-                )
-                for number in range(count)
-            ]
+            pictures = [Picture(path=b"/p/%06d" % number, root=b"/p", **empty) for number in range(count)]
             with catalogue.transaction():
                 put_rows(catalogue.base, run, 1, pictures)
+                texts = (
+                    (number, at, *kept_text(*text))
+                    for number in range(1, count + 1)
+                    for at, text in enumerate((("creator", f"Name {number}"), ("title", "Vase")))
+                )
+                insert = "INSERT INTO texts (picture, number, label, text, head, folded) VALUES (?, ?, ?, ?, ?, ?)"
+                catalogue.base.executemany(insert, texts)
+                catalogue.set_prepared(count)
         with Catalogue(name) as catalogue:
             counted = 0
 

@@ -285,6 +285,7 @@ class Scale(WithPictures):
         call = "import sys; from exifnorm_pictures.cli.main import main; main(sys.argv[1:]); print(*sys.modules, file=sys.stderr)"
         reading = [f"exifnorm_pictures.{it}" for it in ("extract.extraction", "scan.looking")]
         names = (
+            "catalogue.label_texts",
             "comparison.changed",
             "comparison.groups",
             "extract.readers",

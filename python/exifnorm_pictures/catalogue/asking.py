@@ -15,10 +15,10 @@ from ..fields.labels import DATE, PRIVATE
 from ..fields.questions import All, Any, Condition, Not, Question, With, labels_of
 from ..model.problems import NOT_THERE, Problem
 from ..model.records import has
+from .kept_texts import Report, make_ready, say_nothing
 from .store import HEAD, Catalogue
 
-_LONG = f"length(head) = {HEAD}"  # as an index has it
-_WHOLE = "ifnull(folded, lower(text))"  # in SQL: a text of which the head isn't all
+_WHOLE = f"CASE WHEN length(head) < {HEAD} THEN head ELSE ifnull(folded, lower(text)) END"  # a text as it is compared
 _LAST = "\U0010ffff"  # sorts after each other character
 
 # Files that are no pictures, or that are gone, are none of the pictures that a question is about
@@ -54,16 +54,11 @@ def _condition(question: Question, is_sure: bool) -> _Part:
     if isinstance(question, (All, Any)):
         return _joined("AND" if isinstance(question, All) else "OR", [_condition(it, is_sure) for it in question.questions])
     texts = [_Part("label = ?", (question.label,))] if isinstance(question, With) else _compared(question)
-    found = _Part(f"p.id IN ({' UNION ALL '.join(map(_rows, texts))})", tuple(value for part in texts for value in part.values))
+    rows = " UNION ALL ".join(f"SELECT picture FROM texts WHERE {part.sql}" for part in texts)
+    found = _Part(f"p.id IN ({rows})", tuple(value for part in texts for value in part.values))
     if is_sure:
         return found
     return _Part(f"({found.sql} OR {OPEN}{f' OR {NOTE_NOT_READ}' * (question.label in PRIVATE)})", found.values)
-
-
-def _rows(texts: _Part) -> str:
-    """The pictures of some texts. SQLite wouldn't take the index of long texts by itself."""
-    index = " INDEXED BY long_texts_by_label" if _LONG in texts.sql else ""
-    return f"SELECT picture FROM texts{index} WHERE {texts.sql}"
 
 
 def _compared(question: Condition) -> List[_Part]:
@@ -86,19 +81,11 @@ def _equal(value: str) -> List[_Part]:
 
 
 def _has(value: str) -> List[_Part]:
-    return _in_all("instr({}, ?)", value)
+    return [_Part(f"instr({_WHOLE}, ?)", (value,))]
 
 
 def _like(value: str) -> List[_Part]:
-    return _in_all("{} GLOB ?", value.replace("[", "[[]"))
-
-
-def _in_all(test: str, value: str) -> List[_Part]:
-    """A test of whole texts. The index has short ones, so that their rows needn't be looked up."""
-    return [
-        _Part(f"length(head) < {HEAD} AND {test.format('head')}", (value,)),
-        _Part(f"{_LONG} AND {test.format(_WHOLE)}", (value,)),
-    ]
+    return [_Part(f"{_WHOLE} GLOB ?", (value.replace("[", "[[]"),))]
 
 
 _WORDS: Dict[str, Callable[[str], List[_Part]]] = {"=": _equal, "has": _has, "like": _like}
@@ -156,15 +143,16 @@ def _fitting(row: Tuple[int, bytes]) -> Fitting:
     return Fitting(*row)
 
 
-def _labelled(row: Tuple[str, str]) -> Tuple[str, str]:
+def _text(row: Tuple[str]) -> str:
     has(str, *row)
-    return row
+    return row[0]
 
 
 class Answer:
     """The answer of a catalogue to a question; without one, all pictures fit."""
 
-    def __init__(self, catalogue: Catalogue, question: Optional[Question], scope: Scope = Scope()) -> None:
+    def __init__(self, catalogue: Catalogue, question: Optional[Question], scope: Scope = Scope(), report: Report = say_nothing) -> None:
+        make_ready(catalogue, report)
         self._catalogue = catalogue
         self.labels = labels_of(question) if question else []  # that are asked for
         self._scope = scope.condition()
@@ -198,8 +186,8 @@ class Answer:
 
     def texts_of(self, picture: Fitting, labels: Sequence[str]) -> List[Tuple[str, ...]]:
         """The texts of a picture for some labels."""
-        rows = list(self._catalogue.rows("SELECT label, text FROM texts WHERE picture = ? ORDER BY number", (picture.id,), _labelled))
-        return [tuple(text for label, text in rows if label == wanted) for wanted in labels]
+        query = "SELECT text FROM texts WHERE label = ? AND picture = ? ORDER BY number"
+        return [tuple(self._catalogue.rows(query, (label, picture.id), _text)) for label in labels]
 
     def counted(self, label: str) -> "Iterator[Tuple[str, int, str]]":
         """The texts of a label with the number of pictures that have each, the most frequent first, and beside it those that are spelled

@@ -10,6 +10,7 @@ from ..fields.labels import PRIVATE
 from ..fields.rules import AFTER, BEFORE, LENGTH, LIKE, NEEDS, NEVER, VALUES, Rule
 from ..model.records import has
 from .asking import IN_SCOPE, LEFT_OUT, NOTE_NOT_READ, OPEN
+from .kept_texts import Report, make_ready, say_nothing
 from .store import Catalogue
 
 _DATED = "head GLOB '[0-9][0-9][0-9][0-9]*'"
@@ -28,7 +29,8 @@ class Broken(NamedTuple):
 class Checked:
     """The result of checking a catalogue's pictures by some rules. It is kept in a temporary table, however many pictures break a rule."""
 
-    def __init__(self, catalogue: Catalogue, rules: Sequence[Rule]) -> None:
+    def __init__(self, catalogue: Catalogue, rules: Sequence[Rule], report: Report = say_nothing) -> None:
+        make_ready(catalogue, report)
         self._catalogue = catalogue
         self.rules = rules
         base = catalogue.base

@@ -3,17 +3,26 @@
 from __future__ import annotations
 
 from itertools import chain
-from typing import Dict, Iterator, List, Mapping, Sequence, Tuple
+from typing import Dict, Iterator, List, Mapping, NamedTuple, Optional, Sequence, Tuple
 
 from ..fields.folding import folded
 from ..fields.labels import POSITION, PRIVATE, decoded
 from ..fields.field import Field
 from ..fields.listing import LONGEST_TEXT, is_rest
 from ..fields.places import position_of
-from ..model.records import Block, KeptText
-from ..model.xmp_values import texts_in
+from ..model.records import Block
+from ..model.xmp_values import Long, texts_in
 from .store import HEAD
-from .texts import texts_of
+from .texts import PictureTexts, texts_of
+
+
+class KeptText(NamedTuple):
+    """A text of a picture by its label, as questions compare it."""
+
+    label: str  # empty: some texts are too many or too long to be kept
+    text: str
+    head: str  # its beginning in small letters, composed, with single spaces
+    folded: Optional[str]  # all of it so; None: `head` is all, or SQLite's `lower`, which knows ASCII alone, gives it
 
 
 def kept_text(label: str, text: str) -> KeptText:
@@ -40,8 +49,10 @@ def rows_of(blocks: Sequence[Tuple[Block, List[Field]]], maker_notes: Mapping[st
     """
     known: Dict[Tuple[str, str], KeptText] = {}
     left = _MOST_CHARACTERS
-    has_more = any(is_rest(field.directory, field.tag) for _, fields in blocks for field in fields)
-    for label, text in chain(_texts(blocks), _of_maker_notes(maker_notes)):
+    labelled = texts_of(blocks)
+    fields = [field for _, of_block in blocks for field in of_block]
+    has_more = bool(labelled.missing) or any(is_rest(field.directory, field.tag) or _is_long(field) for field in fields)
+    for label, text in chain(_texts(labelled, fields), _of_maker_notes(maker_notes)):
         if not text or (label, text) in known:
             continue
         left -= len(text)
@@ -52,11 +63,17 @@ def rows_of(blocks: Sequence[Tuple[Block, List[Field]]], maker_notes: Mapping[st
     return (*known.values(), MORE) if has_more else tuple(known.values())
 
 
-def _texts(blocks: Sequence[Tuple[Block, List[Field]]]) -> Iterator[Tuple[str, str]]:
-    for labelled in texts_of(blocks).texts:
-        if not labelled.is_own:
-            yield from ((labelled.label, text) for text in labelled.texts)
-    fields = [field for _, of_block in blocks for field in of_block]
+def _is_long(field: Field) -> bool:
+    """Whether a serial number or an owner is too long to be kept."""
+    if (field.directory, field.tag) not in _PRIVATE:
+        return False
+    return isinstance(field.content, Long) or (field.directory == "xmp" and any(isinstance(value, Long) for value in field.content))
+
+
+def _texts(labelled: PictureTexts, fields: Sequence[Field]) -> Iterator[Tuple[str, str]]:
+    for texts in labelled.texts:
+        if not texts.is_own:
+            yield from ((texts.label, text) for text in texts.texts)
     place = position_of(fields)
     if place is not None:
         yield POSITION, place.text

@@ -29,8 +29,23 @@ VERSION = 6
 CACHE = 32_000  # kB of a catalogue that is written to: digests go into its index in no order
 PATIENCE = 200  # milliseconds that closing waits for other programs; while they read, the write-ahead log stays
 WAIT = 10  # seconds for other processes that set the journal's mode
+SHORT_WAIT = 2  # seconds for other runs, where there is a way without writing
 
 HEAD = 40  # characters of a text that its index has
+
+
+def texts_table(name: str, reference: str = "") -> str:
+    """The statement that makes a table of texts. Those of a label are beside each other, so that a question reads no others."""
+    return f"""CREATE TABLE {name} (
+    label TEXT NOT NULL,            -- a label of captions; position, serial or owner; empty: some texts are too many or too long to be kept
+    picture INTEGER NOT NULL{reference},
+    number INTEGER NOT NULL,        -- the order of the texts of a picture
+    text TEXT NOT NULL,             -- a text of the picture; those that cameras write by themselves are left out
+    head TEXT NOT NULL,             -- the first {HEAD} characters of the text in small letters, composed, with single spaces
+    folded TEXT,                    -- all of a longer text so; NULL: it is lower(text)
+    PRIMARY KEY (label, picture, number)
+) WITHOUT ROWID;"""
+
 
 _TABLES = f"""
 CREATE TABLE runs (
@@ -55,17 +70,12 @@ CREATE TABLE maker_notes (
     picture INTEGER PRIMARY KEY REFERENCES pictures(id) ON DELETE CASCADE,
     readings BLOB NOT NULL          -- what ExifTool reads of its MakerNotes: JSON, compressed by zlib
 );
-CREATE TABLE texts (
-    picture INTEGER NOT NULL REFERENCES pictures(id) ON DELETE CASCADE,
-    number INTEGER NOT NULL,
-    label TEXT NOT NULL,            -- a label of captions; position, serial or owner
-    text TEXT NOT NULL,             -- a text of the picture; those that cameras write by themselves are left out
-    head TEXT NOT NULL,             -- the first {HEAD} characters of the text in small letters, composed, with single spaces
-    folded TEXT,                    -- all of a longer text so; NULL: it is lower(text)
-    PRIMARY KEY (picture, number)
-) WITHOUT ROWID;
-CREATE INDEX texts_by_label ON texts (label, head);
-CREATE INDEX long_texts_by_label ON texts (label) WHERE length(head) = {HEAD};
+{texts_table("texts", " REFERENCES pictures(id) ON DELETE CASCADE")}
+CREATE TABLE prepared (
+    picture INTEGER NOT NULL        -- the texts of the pictures up to this number are there, and no other picture gets such a number
+);
+CREATE INDEX texts_by_head ON texts (label, head);
+CREATE INDEX texts_by_picture ON texts (picture);
 CREATE INDEX pictures_by_content ON pictures (exif, iptc, xmp, not_read) WHERE problem IS NULL;
 CREATE INDEX pictures_by_coded_picture ON pictures (coded_picture) WHERE coded_picture != '';
 CREATE INDEX pictures_by_other_exif ON pictures (other_exif) WHERE other_exif != '';
@@ -82,7 +92,6 @@ _ADD_ROWS = (
     f"INSERT INTO main.blocks (picture, number, {BLOCK_COLUMNS}) SELECT picture + :pictures, number, {BLOCK_COLUMNS} FROM {{other}}.blocks",
     "INSERT INTO main.not_read SELECT picture + :pictures, number, what, digest FROM {other}.not_read",
     "INSERT INTO main.maker_notes SELECT picture + :pictures, readings FROM {other}.maker_notes",
-    "INSERT INTO main.texts SELECT picture + :pictures, number, label, text, head, folded FROM {other}.texts",
 )
 # The same tables without keys, for rows that are only written and read once
 _ROWS = (
@@ -90,7 +99,6 @@ _ROWS = (
     f"CREATE TABLE blocks (picture, number, {BLOCK_COLUMNS})",
     "CREATE TABLE not_read (picture, number, what, digest)",
     "CREATE TABLE maker_notes (picture, readings)",
-    "CREATE TABLE texts (picture, number, label, text, head, folded)",
 )
 
 # when it began and ended, the library's version, ExifTool's, exiv2's
@@ -244,16 +252,19 @@ def check_schema(base: sqlite3.Connection, name: str, schema: str = "main") -> N
 class Catalogue:
     """A catalogue that is open. Use it in a `with`."""
 
-    def __init__(self, name: str, make: bool = False) -> None:
-        """Opens a catalogue to read it, or with `make` to write to it; then a missing one is made. Raises `NoCatalogue`."""
+    def __init__(self, name: str, make: bool = False, adds: bool = False) -> None:
+        """Opens a catalogue to read it, or with `make` to write to it; then a missing one is made. With `adds` one that is there is written to,
+        if other runs that have it open allow it within `SHORT_WAIT`. Raises `NoCatalogue`."""
         self.name = name
-        self._made = make
+        self._made = make or adds
         _check_head(name, make)
         with self.guarded():
-            self.base = connect(address(name, "rwc" if make else "ro"))
+            self.base = connect(address(name, "rwc" if make else "rw" if adds else "ro"))
             try:
-                if make:
-                    self._prepare()
+                if adds:
+                    self.base.execute(f"PRAGMA busy_timeout = {SHORT_WAIT * 1000}")
+                if make or adds:
+                    self._prepare(SHORT_WAIT if adds else WAIT)
                     self._file = _identity(name)
                 else:
                     check_schema(self.base, name)
@@ -261,7 +272,7 @@ class Catalogue:
                 self.base.close()
                 raise
 
-    def _prepare(self) -> None:
+    def _prepare(self, wait: float = WAIT) -> None:
         """Creates missing tables; if two runs begin at once, one of them does."""
         self.base.execute("BEGIN IMMEDIATE")
         if not self.base.execute("SELECT count(*) FROM sqlite_master").fetchone()[0]:
@@ -271,13 +282,13 @@ class Catalogue:
                 self.base.execute(statement)
         check_schema(self.base, self.name)
         self.base.execute("COMMIT")
-        self._set_journal("DELETE" if mounts.is_on_network(self.name) else "WAL")
+        self._set_journal("DELETE" if mounts.is_on_network(self.name) else "WAL", wait)
         self.base.execute("PRAGMA synchronous = FULL")
         self.base.execute(f"PRAGMA cache_size = -{CACHE}")
 
-    def _set_journal(self, mode: str) -> None:
+    def _set_journal(self, mode: str, wait: float) -> None:
         """Sets the journal's mode. SQLite doesn't wait for another process that sets it at the same time, so this tries again."""
-        end = time.monotonic() + WAIT
+        end = time.monotonic() + wait
         while True:
             try:
                 self.base.execute(f"PRAGMA journal_mode = {mode}")
@@ -378,7 +389,7 @@ class Catalogue:
                 for other in names:
                     self.add_rows(other, run)
                 new = [it for it in {it.path: it for it in entries}.values() if not self._is_kept(run, it)]
-                put_rows(self.base, run, 1 + self.greatest("pictures"), new)
+                put_rows(self.base, run, 1 + self.last_number(), new)
 
     @contextlib.contextmanager
     def attached(self, file: str, other: str) -> Iterator[str]:
@@ -394,15 +405,31 @@ class Catalogue:
     def add_rows(self, other: str, runs: int) -> None:
         """Adds the pictures of an attached file, by SQLite alone; they replace those with the same paths.
 
-        Their numbers are raised by the greatest one here, so that no row is looked up by itself, and those of their runs by `runs`.
+        Their numbers are raised by the last one here, so that no row is looked up by itself, and those of their runs by `runs`.
         """
-        offsets = {"pictures": self.greatest("pictures"), "runs": runs}
+        offsets = {"pictures": self.last_number(), "runs": runs}
         for step in _ADD_ROWS:
             self.base.execute(step.format(other=other), offsets)
 
     def greatest(self, table: str) -> int:
         """The greatest number of a row. Raises `Damaged` if it is none that a catalogue has."""
-        number = int(self.base.execute(f"SELECT ifnull(max(id), 0) FROM main.{table}").fetchone()[0])
+        return self._number(f"SELECT ifnull(max(id), 0) FROM main.{table}")
+
+    def prepared(self) -> int:
+        """The number of a picture: the texts of the pictures up to it are kept."""
+        return self._number("SELECT ifnull(max(picture), 0) FROM main.prepared")
+
+    def set_prepared(self, number: int) -> None:
+        """Keeps that the texts of the pictures up to this number are there, in a transaction."""
+        self.base.execute("DELETE FROM prepared")
+        self.base.execute("INSERT INTO prepared VALUES (?)", (number,))
+
+    def last_number(self) -> int:
+        """The greatest number of a picture that is or was there when texts were kept: a new one with an earlier number would seem to have texts."""
+        return max(self.greatest("pictures"), self.prepared())
+
+    def _number(self, query: str) -> int:
+        number = int(self.base.execute(query).fetchone()[0])
         if number > ROW_NUMBER:
             raise Damaged(f"{number} is no number of a row")
         return number
@@ -562,8 +589,6 @@ def put_rows(base: sqlite3.Connection, run: int, first: int, entries: Iterable[P
     base.executemany("INSERT INTO maker_notes VALUES (?, ?)", [(number, it.notes) for number, it in numbered if it.notes])
     parts = [(number, at, part.what, part.digest) for number, it in numbered for at, part in enumerate(it.unread)]
     base.executemany("INSERT INTO not_read VALUES (?, ?, ?, ?)", parts)
-    texts = [(number, at, *row) for number, it in numbered for at, row in enumerate(it.texts)]
-    base.executemany("INSERT INTO texts VALUES (?, ?, ?, ?, ?, ?)", texts)
 
 
 def root_of_row(row: Tuple[bytes]) -> bytes:

@@ -50,7 +50,7 @@ def run(arguments: argparse.Namespace) -> int:
     notes = _Notes(arguments, pictures)
     with contextlib.ExitStack() as open_:
         _go_on_with_sidecars(arguments)
-        before, after = (open_.enter_context(catalogue_of(it, arguments, texts=False)) for it in (arguments.before, arguments.after))
+        before, after = (open_.enter_context(catalogue_of(it, arguments)) for it in (arguments.before, arguments.after))
         choice = choice_of(arguments)
         refuse_unknown(choice, itertools.chain(listings_of(before), listings_of(after)))
         comparisons = changes.changed(

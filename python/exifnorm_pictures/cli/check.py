@@ -12,7 +12,7 @@ from ..fields.rules import MOST_WORDS, WrongRules, rules_of
 from ..files import opening, signals
 from ..model.texts import Members, escaped, path_members, shown_path
 from .exit_codes import DIFFERENCE, SUCCESS, UNKNOWN
-from .looking import catalogue_of, refuse_for_catalogues
+from .looking import Preparing, catalogue_for_questions, refuse_for_catalogues
 from .objects import print_object
 from .output import print_line, table_of
 from .parser import refuse
@@ -32,8 +32,8 @@ def run(arguments: argparse.Namespace) -> int:
     rules = rules_of(_text_of(arguments.rules), lambda name: _words_of(os.path.join(os.path.dirname(arguments.rules), name)))
     if not rules:
         raise WrongRules(f"{escaped(arguments.rules)} has no rule")
-    with catalogue_of(source, arguments) as catalogue, catalogue.reading():
-        checked = Checked(catalogue, rules)
+    with catalogue_for_questions(source, arguments) as catalogue, catalogue.reading():
+        checked = Checked(catalogue, rules, Preparing(arguments).report)
         table = table_of(arguments, ["picture", "line", "rule", "label", "text"])
         if table:
             _print_table(arguments, table, checked)

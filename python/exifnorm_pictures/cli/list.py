@@ -18,7 +18,7 @@ from ..fields.questions import Not, Question, With, WrongQuestion, all_of, given
 from ..files import signals
 from ..model.texts import Members, escaped, path_members, shown_path
 from .exit_codes import SUCCESS, UNKNOWN
-from .looking import catalogue_of, refuse_for_catalogues
+from .looking import Preparing, catalogue_for_questions, refuse_for_catalogues
 from .objects import print_object
 from .output import print_line, table_of
 from .parser import refuse
@@ -38,8 +38,8 @@ def run(arguments: argparse.Namespace) -> int:
     scope = Scope(_since(arguments.since) if arguments.since else None)
     source = _source(arguments)
     refuse_for_catalogues(arguments, source)
-    with catalogue_of(source, arguments) as catalogue, catalogue.reading():
-        answer = Answer(catalogue, question, scope)
+    with catalogue_for_questions(source, arguments) as catalogue, catalogue.reading():
+        answer = Answer(catalogue, question, scope, Preparing(arguments).report)
         if counted is not None:
             _print_counts(arguments, answer, counted)
         else:

@@ -372,6 +372,7 @@ def _captions_arguments(parser: argparse.ArgumentParser) -> None:
 
 def _list_arguments(parser: argparse.ArgumentParser) -> None:
     _example(parser, "list my.catalogue --without credit --columns title")
+    parser.description = f"{parser.description}\n\n{_FIRST}"
     parser.add_argument("source", nargs="?", type=_name, metavar="CATALOGUE", help="a catalogue, or a folder, which is read then")
     parser.add_argument("--catalogue", type=_name, metavar="FILE", help="the same, as other commands have it")
     asked = parser.add_argument_group("the question", _QUESTIONS)
@@ -391,6 +392,8 @@ def _list_arguments(parser: argparse.ArgumentParser) -> None:
     _many_arguments(parser)
 
 
+_FIRST = """The first list or check after index reads the texts of new pictures from the
+catalogue, and keeps them in it."""
 _QUESTIONS = """A label of captions, or position, serial or owner. A question compares labels
 by =, !=, has, like (with * and ?), and dates and numbers by <, <=, >, >=, and
 joins that by and, or, not and brackets:
@@ -402,7 +405,7 @@ must hold. The text of a camera is none."""
 
 def _check_arguments(parser: argparse.ArgumentParser) -> None:
     _example(parser, "check museum.rules my.catalogue")
-    parser.description = f"{parser.description}\n\n{_RULES}"
+    parser.description = f"{parser.description}\n\n{_RULES}\n\n{_FIRST}"
     parser.add_argument("rules", type=_name, metavar="RULES", help="a file with a rule in each line")
     parser.add_argument("source", nargs="?", type=_name, metavar="CATALOGUE", help="a catalogue, or a folder, which is read then")
     parser.add_argument("--catalogue", type=_name, metavar="FILE", help="the same, as other commands have it")

@@ -59,7 +59,7 @@ def _with_fields(block: Block, fields: Fields[Any], packs: bool) -> Block:
     if not packs:
         return block._replace(fresh=fields)
     kept = packed(fields.all())
-    return block._replace(fields=kept.octets, but_note=kept.but_note, fresh=fields)
+    return block._replace(fields=kept.octets, but_note=kept.but_note)
 
 
 def _repaired(refused: Block, block: bytes, packs: bool, budget: Optional[Budget]) -> Block:
@@ -122,7 +122,6 @@ def judge_all(blocks: Blocks, packs: bool = False) -> List[Block]:
             if at.kind == EXIF and (block.digest or block.repaired):
                 block = _with_notes(block, at, blocks)
         if many:  # pages of a TIFF can share a value
-            block = block._replace(fresh=None) if packs else block
             blocks.budget.check_time()
             known[at.kind, at.data] = block
         kept += len(block.fields or b"")
@@ -133,7 +132,7 @@ def judge_all(blocks: Blocks, packs: bool = False) -> List[Block]:
 
 def _within(block: Block, kept: int) -> Block:
     """A block without its packed fields, if so many bytes are kept of a picture: its pages may share one long text."""
-    return block if kept <= KEPT_BYTES or block.fields is None else block._replace(fields=left_out(block.fields), fresh=None)
+    return block if kept <= KEPT_BYTES or block.fields is None else block._replace(fields=left_out(block.fields))
 
 
 def _all_within(blocks: List[Block]) -> List[Block]:

@@ -124,15 +124,6 @@ def is_marked_as(now: Stamp, marks: Sequence[Optional[int]]) -> bool:
     return tuple(now[:4]) == tuple(marks) if marks[2] != RACY else (now[0], now[1], now[3]) == (marks[0], marks[1], marks[3])
 
 
-class KeptText(NamedTuple):
-    """A text of a picture by its label, as questions compare it."""
-
-    label: str  # empty: some texts are too many or too long to be kept
-    text: str
-    head: str  # its beginning in small letters, composed, with single spaces
-    folded: Optional[str]  # all of it so; None: `head` is all, or SQLite's `lower`, which knows ASCII alone, gives it
-
-
 class Picture(NamedTuple):
     """A picture and what is known of it: after it was looked at, or as a catalogue keeps it."""
 
@@ -171,7 +162,6 @@ class Picture(NamedTuple):
     blocks: Tuple[Block, ...] = ()
     unread: Tuple[NotRead, ...] = ()
     notes: Optional[bytes] = None  # what ExifTool reads of its MakerNotes, if it was asked
-    texts: Tuple[KeptText, ...] = ()  # for questions
     is_known: bool = False  # whether it had the same problem when it was looked at before
 
     @classmethod
@@ -234,8 +224,8 @@ class Picture(NamedTuple):
 
     @property
     def kept_bytes(self) -> int:
-        """About how many bytes its fields and texts have, if it was looked at just now."""
-        return sum(len(block.fields or b"") for block in self.blocks) + sum(len(text.text) for text in self.texts)
+        """About how many bytes its fields have, if it was looked at just now."""
+        return sum(len(block.fields or b"") for block in self.blocks)
 
     @property
     def state(self) -> str:

@@ -34,7 +34,6 @@ class How:
     room: str = ""  # a folder for temporary files
     debug: bool = False  # print tracebacks
     lines: Optional[Lines] = None  # makes the lines that are printed about a picture
-    texts: bool = True  # keep the texts by label, for questions
 
     @property
     def processes(self) -> int:

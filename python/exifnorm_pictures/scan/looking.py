@@ -10,13 +10,12 @@ from exifnorm import LibraryMissing
 
 from ..extract import extraction, programs, sidecars
 from ..extract.formats.streams import digest_of_file
-from ..fields.block_fields import fields_of
 from ..files.session import Session
 from ..judge import judge
 from ..model.budgets import WHOLE_FILE, TooMuch
 from ..model.found import Blocks
 from ..model.problems import NO_BYTES, Problem
-from ..model.records import RACY, Block, KeptText, Picture, Stamp
+from ..model.records import RACY, Block, Picture, Stamp
 from ..model.texts import reason
 from .batches import How
 from .walk import FoundFile
@@ -48,7 +47,6 @@ def _look(file: FoundFile, how: How, session: Session, packs: bool) -> Picture:
         if file.sidecars:
             whole_file = sidecars.with_sidecars(whole_file, file.path, file.sidecars)
         reading = _maker_notes(session, file.path, judged) if how.maker_notes else None
-        texts, judged = _kept(judged, reading, how.texts) if packs else ((), judged)
         pixels = _pixels(file.path, blocks) if how.pixels else (None, "", "", None)
     except LibraryMissing:  # an OSError too, but not of this file
         raise
@@ -64,7 +62,7 @@ def _look(file: FoundFile, how: How, session: Session, packs: bool) -> Picture:
         return Picture.found(file.path, file.root, file.stamp, extraction.failed_here(error, session))
     coded, beside, damage, whole = pixels
     notes = None if reading is None else _packed(reading)
-    more = {"texts": texts, "notes": notes, "coded_picture": coded, "beside": beside, "damage": damage, "sha256": whole, "sidecars": marks}
+    more = {"notes": notes, "coded_picture": coded, "beside": beside, "damage": damage, "sha256": whole, "sidecars": marks}
     return Picture.found(file.path, file.root, _unless_changed(file, began), blocks, judged, file=whole_file, **more)
 
 
@@ -81,16 +79,6 @@ def _read(file: FoundFile, how: How, session: Session, packs: bool) -> Tuple[Blo
         return extraction.too_much(why), []
     except programs.TooSlow as error:
         return Blocks(problem=Problem.TOO_SLOW, detail=str(error)), []
-
-
-def _kept(judged: Sequence[Block], reading: "Optional[NotesReading]", has_texts: bool) -> Tuple[Tuple[KeptText, ...], List[Block]]:
-    """The texts by label, for a catalogue that has them, and the blocks without the fields that were made of them."""
-    texts: Tuple[KeptText, ...] = ()
-    if has_texts:
-        from ..catalogue import label_texts  # which takes long to import
-
-        texts = label_texts.rows_of([(block, fields_of(block)) for block in judged], reading.values if reading else {})
-    return texts, [block._replace(fresh=None) for block in judged]
 
 
 def _maker_notes(session: Session, path: bytes, judged: Sequence[Block]) -> "Optional[NotesReading]":

@@ -29,8 +29,10 @@ def duration(seconds: float) -> str:
 class Progress:
     """On a terminal one line that changes, elsewhere a line now and then."""
 
-    def __init__(self, total: int, stream: Optional[TextIO] = None, quiet: bool = False) -> None:
+    def __init__(self, total: int, stream: Optional[TextIO] = None, quiet: bool = False, what: str = "") -> None:
+        """`what` precedes the numbers: what is done with the pictures, if they aren't looked at."""
         self.total = total
+        self.what = what
         self.stream = stream or sys.stderr
         self.quiet = quiet
         self.began = time.monotonic()
@@ -83,8 +85,9 @@ class Progress:
         >>> Progress(1000).text(1000, 10.0)
         '1000 of 1000 pictures, 100 a second'
         """
+        so_far = f"{self.what}{count:,} of {self.total:,} pictures" if self.what else f"{count} of {self.total} pictures"
         if count >= self.total:
-            return f"{count} of {self.total} pictures, {count / max(seconds, 0.001):.0f} a second"
+            return f"{so_far}, {count / max(seconds, 0.001):.0f} a second"
         rate = self.rate()
         left = f", {rate:.0f} a second, {duration((self.total - count) / rate)} left" if rate else ""
-        return f"{count} of {self.total} pictures{left}"
+        return f"{so_far}{left}"

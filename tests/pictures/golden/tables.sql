@@ -18,7 +18,6 @@ CREATE TABLE blocks (
     fields BLOB,                    -- its fields: JSON, compressed by zlib if it is long; of a refused block, those after repair
     PRIMARY KEY (picture, number)
 ) WITHOUT ROWID;
-CREATE INDEX long_texts_by_label ON texts (label) WHERE length(head) = 40;
 CREATE TABLE maker_notes (
     picture INTEGER PRIMARY KEY REFERENCES pictures(id) ON DELETE CASCADE,
     readings BLOB NOT NULL          -- what ExifTool reads of its MakerNotes: JSON, compressed by zlib
@@ -65,6 +64,9 @@ CREATE TABLE pictures (
 CREATE INDEX pictures_by_coded_picture ON pictures (coded_picture) WHERE coded_picture != '';
 CREATE INDEX pictures_by_content ON pictures (exif, iptc, xmp, not_read) WHERE problem IS NULL;
 CREATE INDEX pictures_by_other_exif ON pictures (other_exif) WHERE other_exif != '';
+CREATE TABLE prepared (
+    picture INTEGER NOT NULL        -- the texts of the pictures up to this number are there, and no other picture gets such a number
+);
 CREATE TABLE runs (
     id INTEGER PRIMARY KEY,
     started TEXT NOT NULL,          -- UTC
@@ -75,12 +77,13 @@ CREATE TABLE runs (
     sidecars INTEGER NOT NULL       -- 1: XMP files beside pictures are blocks of them
 );
 CREATE TABLE texts (
+    label TEXT NOT NULL,            -- a label of captions; position, serial or owner; empty: some texts are too many or too long to be kept
     picture INTEGER NOT NULL REFERENCES pictures(id) ON DELETE CASCADE,
-    number INTEGER NOT NULL,
-    label TEXT NOT NULL,            -- a label of captions; position, serial or owner
+    number INTEGER NOT NULL,        -- the order of the texts of a picture
     text TEXT NOT NULL,             -- a text of the picture; those that cameras write by themselves are left out
     head TEXT NOT NULL,             -- the first 40 characters of the text in small letters, composed, with single spaces
     folded TEXT,                    -- all of a longer text so; NULL: it is lower(text)
-    PRIMARY KEY (picture, number)
+    PRIMARY KEY (label, picture, number)
 ) WITHOUT ROWID;
-CREATE INDEX texts_by_label ON texts (label, head);
+CREATE INDEX texts_by_head ON texts (label, head);
+CREATE INDEX texts_by_picture ON texts (picture);

@@ -1,0 +1,93 @@
+"""The texts of a catalogue's pictures by label. The first question derives them from the fields that the catalogue has, and keeps them in it;
+later questions add those of pictures that are new since. So `index` and `merge` do nothing for them.
+
+A picture that is put into a catalogue gets a greater number than all before it, so one number tells which pictures have their texts.
+"""
+
+from __future__ import annotations
+
+import os
+from contextlib import suppress
+from typing import Callable, Iterator, List, Tuple
+
+from ..fields.block_fields import with_fields
+from ..model.records import Picture
+from .label_texts import rows_of
+from .store import Catalogue, NoCatalogue, texts_table
+
+Report = Callable[[int, int], None]  # is told of how many pictures the texts were added, and how many had none
+
+AT_ONCE = 1000  # pictures of a transaction
+_OTHERS = "temp.other_texts"
+_WRITERS = 0o222  # the rights to write to a file
+
+
+def say_nothing(_added: int, _due: int) -> None:
+    """Reports nothing."""
+
+
+def keep(name: str, report: Report = say_nothing) -> None:
+    """Adds the texts that a catalogue lacks. It does nothing if the catalogue can't be written, or another run writes to it."""
+    with Catalogue(name) as catalogue:
+        due = lacking(catalogue)
+        if not due or not os.stat(name).st_mode & _WRITERS:
+            return
+    with suppress(NoCatalogue, OSError), Catalogue(name, adds=True) as catalogue:
+        done = 0
+        while True:
+            with catalogue.transaction():
+                numbers = _add(catalogue, "main.texts", catalogue.prepared())  # another run may have added some meanwhile
+                if numbers:
+                    catalogue.set_prepared(numbers[-1])
+            if not numbers:
+                break
+            done += len(numbers)
+            report(done, due)
+
+
+def lacking(catalogue: Catalogue) -> int:
+    """How many pictures have no texts yet."""
+    return int(next(catalogue.rows("SELECT count(*) FROM main.pictures WHERE id > ?", (catalogue.prepared(),)))[0])
+
+
+def make_ready(catalogue: Catalogue, report: Report = say_nothing) -> None:
+    """Makes the name `texts` stand for the texts of all pictures: if the catalogue lacks some, these are in a temporary table."""
+    due = lacking(catalogue)
+    with catalogue.guarded():
+        for statement in ("DROP VIEW IF EXISTS temp.texts", f"DROP TABLE IF EXISTS {_OTHERS}"):
+            catalogue.base.execute(statement)
+        if not due:
+            return
+        catalogue.base.execute(texts_table(_OTHERS))
+        catalogue.base.execute("CREATE INDEX temp.other_texts_by_head ON other_texts (label, head)")
+        catalogue.base.execute(f"CREATE TEMP VIEW texts AS SELECT * FROM main.texts UNION ALL SELECT * FROM {_OTHERS}")
+    done, last = 0, catalogue.prepared()
+    while done < due:
+        numbers = _add(catalogue, _OTHERS, last)
+        done, last = done + len(numbers), numbers[-1]
+        report(done, due)
+
+
+def _add(catalogue: Catalogue, table: str, after: int) -> List[int]:
+    """Adds the texts of some pictures to a table: of the next ones after a number. Returns their numbers."""
+    query = "SELECT id FROM main.pictures WHERE id > ? ORDER BY id LIMIT ?"
+    numbers = [row[0] for row in catalogue.rows(query, (after, AT_ONCE))]
+    with catalogue.guarded():
+        catalogue.base.executemany(
+            f"INSERT INTO {table} (picture, number, label, text, head, folded) VALUES (?, ?, ?, ?, ?, ?)",
+            (row for number in numbers for row in _rows(catalogue, number)),
+        )
+    return numbers
+
+
+def _rows(catalogue: Catalogue, number: int) -> Iterator[Tuple[object, ...]]:
+    """The texts of a picture as rows."""
+    picture = Picture(number)
+    blocks = with_fields(catalogue.blocks_of(picture))
+    reading = None
+    if any(block.note is not None for block, _ in blocks):
+        from ..judge.maker_notes import unpacked_reading  # which takes long to import
+
+        reading = catalogue.maker_notes(picture, unpacked_reading)
+    for at, text in enumerate(rows_of(blocks, reading.values if reading else {})):
+        yield (number, at, *text)
