@@ -232,6 +232,12 @@ class Picture:
         return tuple(self._reading.not_read)
 
     @property
+    def damage(self) -> str:
+        """Where the file is cut off, as "the file ends inside the segment at 2000": what is missing may have metadata. Empty if that wasn't seen
+        while it was read; `compare` also finds a file that ends inside its picture."""
+        return self._reading.damage
+
+    @property
     def blocks(self) -> Tuple[Block, ...]:
         """The blocks, in the order of the file."""
         if self._blocks is None:
@@ -281,7 +287,8 @@ class Picture:
             return self._record()
         (coded, beside, damage), sha256, _ = self._whole
         file = "" if all(it.digest for it in self._reading.read.not_read) else sha256
-        return self._record()._replace(coded_picture=coded, beside=beside, damage=damage, sha256=sha256, file=file)
+        known = self._record()
+        return known._replace(coded_picture=coded, beside=beside, damage=known.damage or damage, sha256=sha256, file=file)
 
     def _is_unchanged(self) -> bool:
         """Whether the file is the one that was read."""
@@ -480,12 +487,13 @@ class Difference(NamedTuple):
 class Comparison(NamedTuple):
     """Two pictures compared.
 
-    - `same`: True, False, or None if it isn't known: a block is refused, a part was not read, or only the place of a MakerNote differs
+    - `same`: True, False, or None if it isn't known: a file is damaged and no difference is known, a block is refused, a part was not read, or
+      only the place of a MakerNote differs
     - `result`: the word that `changed` prints
     - `note`: a sentence about each kind of block
     - `differences`: the fields that differ
-    - `picture`: "the same", "other", "damaged" or "damaged before and after", by the data from which the pixels are decoded; "not compared"
-      if there is no reader for these, the formats differ, or the file isn't there any more
+    - `picture`: "the same", "other", "damaged", "damaged before" or "damaged before and after", by the data from which the pixels are decoded;
+      "not compared" if there is no reader for these, the formats differ, or the file isn't there any more
     - `proved`: what the proved comparison of `exifnorm.jpeg_same` says of the Exif and IPTC in the heads of two JPEGs: "same", "different", or
       "not wholly read" (the same as far as they were read); None if it has no answer, because one is no JPEG, its head is damaged, or a block
       is refused, or if a file isn't there any more

@@ -24,6 +24,8 @@ from exifnorm_pictures.extract.formats import jpeg_tail
 from exifnorm_pictures.model import budgets
 from exifnorm_pictures.model.found import Broken, LeftToOthers
 
+CUT = "the rest of a damaged file (the file ends before its first scan, at {})"
+
 
 def named(blocks):
     return [(it.kind, it.name, it.data) for it in blocks.found]
@@ -70,10 +72,10 @@ class Found(unittest.TestCase):
     def test_a_picture_without_a_scan(self):
         head = b"\xff\xd8" + app1(A)
         for rest, unread in (
-            (b"", []),
+            (b"", [CUT.format(len(head))]),
             (b"\xff\xd9", []),
             (b"\xff\xd9trailer", ["trailer of 7 bytes"]),
-            (segment(0xFE, b"c"), []),
+            (segment(0xFE, b"c"), [CUT.format(len(head) + 5)]),
         ):
             found = found_in(head + rest)
             self.assertEqual((named(found), [it.what for it in found.not_read]), ([("exif", "Exif", A)], unread), rest)

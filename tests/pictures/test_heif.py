@@ -167,7 +167,7 @@ def test_exiv2(tmp_path):
 AT = heif(*ONE).index(b"mdat") - 4  # where boxes are that are put at the end of the meta box
 EXIF_ITEM = b"infe\2\0\0\0\0\2"
 BROKEN = {
-    "no picture": (heif(*ONE)[: heif(*ONE).index(b"mdat") - 4], "the file has no picture"),
+    "no picture": (heif(*ONE)[: heif(*ONE).index(b"mdat") - 4], "the file ends before its picture"),
     "only pixels": (box(b"ftyp", b"heic\0\0\0\0") + box(b"mdat", b"x"), "the file has no picture"),
     "two meta boxes": (heif(*ONE, behind=full(b"meta", 0)), "the file has two meta boxes"),
     "no length": (heif(*ONE, in_meta=struct.pack(">I4s", 0, b"free")), f"the box at {AT} has a wrong length"),
@@ -189,7 +189,7 @@ BROKEN = {
     "another construction": (heif(*ONE, Item(b"abcd", b"x", method=3)), "item 4 has no certain place"),
     "iref of version 2": (heif(*ONE).replace(b"iref\0", b"iref\2"), "the iref box has another form"),
     "a name without end": (heif(*ONE).replace(RDF, RDF.replace(b"\0", b"x")), "the infe box has a text without end"),
-    "after the file": (heif(*ONE).replace(struct.pack(">I", len(T)), struct.pack(">I", len(T) + 1)), "item 3 isn't in the file"),
+    "after the file": (heif(*ONE).replace(struct.pack(">I", len(T)), struct.pack(">I", len(T) + 1)), "the file ends inside item 3"),
     "after idat": (IN_IDAT[0].replace(struct.pack(">I", len(T)), struct.pack(">I", len(T) + 1)), "item 3 isn't in the file"),
     "many pictures": (heif(*[PICTURE] * 10, of_exif(A, tuple(range(2, 11)))), "item 11 describes more than 8 pictures"),
 }

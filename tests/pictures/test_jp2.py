@@ -61,8 +61,8 @@ LEFT = {
 }
 DEEP = box(b"jplh", box(b"jplh", box(b"jplh", box(b"jplh", E))))
 BROKEN = {
-    "no picture": (jp2(E, pixels=b""), "the file has no picture"),
-    "cut": (jp2(E)[:-1], f"the box at {len(jp2(E)) - len(SMALL_J2C) - 8} has a wrong length"),
+    "no picture": (jp2(E, pixels=b""), "the file ends before its picture"),
+    "cut": (jp2(E)[:-1], f"the file ends inside the box at {len(jp2(E)) - len(SMALL_J2C) - 8}"),
     "too deep": (jp2(box(b"jplh", DEEP)), "more than 4 boxes in one another"),
     "a box in a box": (jp2(in_header=b"\0\0\0\x09new "), "the box at 77 has a wrong length"),
     "a box without a length in a box": (jp2(in_header=b"\0\0\0\0new "), "the box at 77 has a wrong length"),

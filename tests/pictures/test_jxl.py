@@ -55,8 +55,8 @@ LEFT = {
     "zeros": (jxl(E, X, behind=bytes(40)), []),
 }
 BROKEN = {
-    "no picture": (jxl(E, X, pixels=b""), "the file has no picture"),
-    "cut": (jxl(E, X)[:-1], f"the box at {len(jxl(E, X)) - 11} has a wrong length"),
+    "no picture": (jxl(E, X, pixels=b""), "the file ends before its picture"),
+    "cut": (jxl(E, X)[:-1], f"the file ends inside the box at {len(jxl(E, X)) - 11}"),
     "another brand": (jxl(E, brand=b"jpx "), "the JPEG XL has the brand of another format"),
     "a short brand": (
         jxl().replace(b"\0\0\0\x14ftypjxl \0\0\0\0jxl ", b"\0\0\0\x0bftypjxl"),

@@ -60,7 +60,7 @@ def test_each_pair(folder, called, checks):
             (folder / "after" / name).write_bytes(whole[:-20])
     status, printed, _ = called("changed", "before", "after", "--pixels", "--all", "--json", "--no-exiftool")
     found = {it["path"]: it for it in map(json.loads, printed.splitlines()) if "path" in it}
-    assert status == 1 and found.keys() == pairs.keys()
+    assert status == 2 and found.keys() == pairs.keys()  # of a picture that is cut, and not edited otherwise, no difference is known
     for name, (metadata, edit) in pairs.items():
         one, is_edited, expected = found[name], METADATA[metadata][1], PICTURE[edit]
         differs = "different" in one["kinds"].values()
@@ -71,4 +71,5 @@ def test_each_pair(folder, called, checks):
         other = json.loads(printed.splitlines()[-1])
         if not other["identical_files"]:
             checks.equal(f"{metadata}, {edit}: compare", (other["result"], other["coded_picture"]), (one["result"], one["coded_picture"]))
-        checks.equal(f"{metadata}, {edit}: status", status, int(is_edited or expected != "the same"))
+        is_open = expected == "damaged" and not is_edited
+        checks.equal(f"{metadata}, {edit}: status", status, 2 if is_open else int(is_edited or expected != "the same"))

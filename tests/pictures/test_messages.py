@@ -456,6 +456,7 @@ class OfPictures(unittest.TestCase):
             for one, cause in (("failed", "OutOfMemory"), ("too long", "NormalTooLong"))
         )
         parts = (NotRead("a trailer", ""), NotRead("a chunk", "1" * 64))
+        cut = "the rest of a damaged file (the file ends inside the segment at 20)"
         common = {"kind": "exif", "name": "second Exif", "length": 100}
         for more, printed, members in (
             ({}, [], {"blocks": [], "not_read": []}),
@@ -471,6 +472,16 @@ class OfPictures(unittest.TestCase):
                 {"problem": "Unreadable", "detail": "why", "blocks": [], "not_read": []},
             ),
             ({"unread": parts}, [], {"blocks": [], "not_read": ["a trailer", "a chunk"]}),
+            (
+                {"unread": (NotRead(cut, ""),), "blocks": (good,)},
+                [f"not wholly read: {cut}"],
+                {
+                    "blocks": [{"kind": "iptc", "name": "IPTC", "status": "accepted", "digest": digest, "length": 7}],
+                    "not_read": [cut],
+                    "damage": "the file ends inside the segment at 20",
+                    "not_known": ["exif", "xmp"],
+                },
+            ),
             (
                 {"blocks": (at_0, good, packet), "unread": parts[:1]},
                 ["Exif: refused: Overlap at 0", "XMP: unreadable: NoRDF"],
@@ -504,7 +515,7 @@ class OfPictures(unittest.TestCase):
                 "path_hex": "2f610aff",
                 "type": "JPEG",
             }
-            expected = {**shape, "problem": None, "detail": None, **members}
+            expected = {**shape, "problem": None, "detail": None, "damage": None, "not_known": [], **members}
             expected["blocks"] = [{"digest": None, "cause": None, "offset": None, **block} for block in members["blocks"]]
             self.assertEqual([json.loads(line) for line in objects.record_lines(it)], [expected])
 

@@ -17,8 +17,9 @@ CASES = {
     "captioned": (MASTER, EDITED, "different", "different", "the same", 1, 1),
     "replaced": (MASTER, REPLACED, "same", "other picture, the same metadata", "other", 0, 1),
     "replaced and captioned": (MASTER, BOTH, "different", "different", "other", 1, 1),
-    "cut": (MASTER, CUT, "same", "damaged", "damaged", 0, 1),
-    "mended": (CUT, MASTER, "same", "other picture, the same metadata", "other", 0, 1),
+    "cut": (MASTER, CUT, "same", "damaged", "damaged", 0, 2),
+    "mended": (CUT, MASTER, "same", "damaged before", "damaged before", 0, 2),
+    "cut and captioned": (MASTER, EDITED[:-20], "different", "damaged and different", "damaged", 1, 1),
     "cut before too": (CUT, CUT, "same", "same", "damaged before and after", 0, 0),
     "another format": (gif(), gif() + b"", "same", "same", "the same", 0, 0),
 }
@@ -53,7 +54,7 @@ def test_what_the_report_says(folder, called):
         called("report", "--catalogue", after, "--since", before, "--html", f"{after}.html")
     plain, page = ((folder / it).read_text(encoding="utf-8") for it in ("b.html", "d.html"))
     assert "Only metadata was compared: index --pixels" in plain and "<b>0</b> changed since" in plain
-    assert "<b>2</b> changed since" in page and "1 the same, 1 other, 1 damaged" in page and "the file ends inside its picture" in page
+    assert "<b>1</b> changed since" in page and "1 the same, 1 other, 1 damaged" in page and "the file ends inside its picture" in page
 
 
 def test_only_some_fields(folder, called):

@@ -386,7 +386,7 @@ class Readers(unittest.TestCase):
         self.assertEqual(found.type, "WEBP")
         self.seen(webp(*((kind, b"1") for kind in (b"VP8 ", b"VP8L", b"VP8X", b"ALPH", b"ANIM", b"ANMF", b"ICCP")), behind=bytes(3)), [])
         whole = webp((b"EXIF", A))
-        self.broken(whole[:-1], "the file is shorter than its header says")
+        self.broken(whole[:-1], "the file ends before its header says")
         for behind in (b"", bytes(100)):
             self.broken(whole[:16] + struct.pack("<I", len(A) + 1) + whole[20:] + behind, "the chunk at 12 is longer than the file")
         with mock.patch.dict(budgets.LIMITS, {budgets.CHUNKS: 3, budgets.CHUNK_BYTES: 100}):

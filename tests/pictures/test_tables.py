@@ -784,7 +784,10 @@ class Statuses(unittest.TestCase):
             "the same file": 0,
             "other picture, the same metadata": 1,
             "other picture": 1,
-            "damaged": 1,
+            "damaged": 2,
+            "damaged before": 2,
+            "damaged and different": 1,
+            "not known": 2,
         }
         self.assertEqual({*expected, "absent", "left out"}, set(Result))  # which only a kind of block has
         for one, status in expected.items():

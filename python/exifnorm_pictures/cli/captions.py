@@ -9,13 +9,14 @@ from typing import TYPE_CHECKING, Iterator, List
 from ..comparison.conflicts import best, conflicts, own_texts
 from ..fields.labels import LABEL_WORDS, LabelText
 from ..judge.reading import Reading
-from ..model.found import each_kind
+from ..model.found import damage
 from ..model.texts import Members, escaped, shown_path
 from .columns import width
 from .each_block import status_of_reading
 from .exit_codes import SUCCESS
 from .labelled import is_of_many, members, not_read, origins, pictures, refused, together
 from .names import is_list
+from .not_read import OF_DAMAGED, no_block, unread
 from .objects import print_object
 from .output import print_line, table_of
 
@@ -48,8 +49,8 @@ def _row(reading: Reading) -> List[Cell]:
     known = conflicts(reading.texts)
     texts = [best([one for one in reading.texts if one.label == word], known) for word in LABEL_WORDS]
     problem = [f"{reading.problem}: {reading.detail}"] if reading.problem else []
-    unread = "; ".join([*problem, *refused(reading), *each_kind(not_read(reading))])
-    return [reading.name, *texts, "; ".join(own_texts(reading.texts)), "; ".join(one.label for one in known if one.is_real), unread]
+    rest = "; ".join([*problem, *refused(reading), *unread(reading, not_read(reading))])
+    return [reading.name, *texts, "; ".join(own_texts(reading.texts)), "; ".join(one.label for one in known if one.is_real), rest]
 
 
 def _lines(reading: Reading) -> Iterator[str]:
@@ -66,11 +67,11 @@ def _lines(reading: Reading) -> Iterator[str]:
             note = f"   <- {_OWN}" if any(one.is_own for one in ours) else mark if is_compared else ""
             yield f"{_padded(word)} {escaped(ours[0].line)}   [{origins(ours)}]{note}"
     if not reading.blocks:
-        yield "no Exif, IPTC or XMP block"
+        yield no_block(reading)
     elif not refused(reading) and all(one.is_empty for one in reading.texts):
-        yield "no title, caption, name, keyword or rights"
+        yield "no title, caption, name, keyword or rights" + OF_DAMAGED * bool(damage(reading.not_read))
     if not_read(reading):
-        yield f"not wholly read: {', '.join(each_kind(not_read(reading)))}"
+        yield f"not wholly read: {', '.join(unread(reading, not_read(reading)))}"
 
 
 def _padded(word: str) -> str:

@@ -67,6 +67,7 @@ def _members(comparison: Compared) -> Members:
     """A picture that was compared."""
     members: Members = {**path_members(comparison.name), "result": comparison.result, "note": comparison.note or None}
     members["coded_picture"] = comparison.picture
+    members["damage"] = {word: damage or None for word, damage in zip(("before", "after"), comparison.damage)}
     members["moved_to"] = None if comparison.moved_to is None else path_members(comparison.moved_to)
     members["kinds"] = {one.kind: one.result for one in comparison.verdicts}
     members["maker_note"] = None

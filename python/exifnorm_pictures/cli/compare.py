@@ -7,7 +7,7 @@ import os
 import shutil
 from typing import TYPE_CHECKING, Iterator, List, Optional, Sequence
 
-from ..comparison.coded import Coded
+from ..comparison.coded import Coded, coded_result
 from ..comparison.proved import head_of_file
 from ..comparison.two_pictures import ComparedPair, FieldRow, compare, read, rows_of, with_position
 from ..comparison.wording import NONE, tag_of
@@ -24,7 +24,7 @@ from .choice import choice_of, note_absent, other_name, refuse_unknown
 from .columns import columns
 from .exit_codes import SUCCESS, UNKNOWN, status_of_results
 from .names import refuse_folders
-from .objects import picture_object, print_object
+from .objects import picture_object, print_object, unread_members
 from .output import print_line, table_of
 
 if TYPE_CHECKING:
@@ -87,7 +87,7 @@ def _lines(comparison: ComparedPair, rows: Sequence[FieldRow], names: Sequence[b
     if any(it.problem for it in comparison.records):
         yield from (f"{shown_path(name)}: {it.problem}: {it.detail}" for name, it in zip(names, comparison.records) if it.problem)
         return
-    note = comparison.found.note
+    note = comparison.found.note.removeprefix(f"{coded_result(*comparison.records).note}; ")  # which `_of_pictures` says of a damaged file
     yield f"{note[:1].upper()}{note[1:]}. {_of_pictures(comparison, names)}".rstrip()
     if any(not it.is_accepted for record in comparison.records for it in record.blocks):
         yield "More about a block that isn't accepted: exifnorm-pictures explain PICTURE"
@@ -103,8 +103,6 @@ def _sentence(comparison: ComparedPair, rows: Sequence[FieldRow]) -> str:
         return "The two files are identical, byte for byte."
     if comparison.is_empty:
         return "Nothing to compare: neither picture has Exif, IPTC or XMP."
-    if comparison.result == Result.DAMAGED:
-        return "Both pictures are damaged." if comparison.records[0].damage else comparison.result.sentence
     if comparison.result.sentence:
         return comparison.result.sentence
     equal = sum(it.is_equal_number for it in rows)
@@ -176,8 +174,7 @@ def _print_table(table: Table, comparison: ComparedPair, rows: Sequence[FieldRow
 def _members(comparison: ComparedPair, rows: Sequence[FieldRow], names: Sequence[bytes], choice: Choice) -> Members:
     pictures = []
     for name, picture in zip(names, comparison.records):
-        unread = [part.what for part in picture.unread]
-        about = {"type": picture.type or None, "not_read": unread, "damage": picture.damage or None}
+        about = {"type": picture.type or None, **unread_members(picture)}
         pictures.append({**picture_object(name, picture.problem, picture.detail), **about})
     whole: Members = {"pictures": pictures, "result": comparison.result, "identical_files": comparison.is_identical}
     whole["coded_picture"] = Coded.SAME if comparison.is_identical else comparison.found.picture

@@ -17,6 +17,7 @@ from .captions import text_members
 from .exit_codes import DIFFERENCE, SUCCESS, UNKNOWN
 from .labelled import members, origins, pictures, refused, together
 from .objects import print_object
+from .not_read import unread
 from .output import print_line, table_of
 
 if TYPE_CHECKING:
@@ -92,8 +93,13 @@ def _print_rows(table: Table, reading: Reading, conflicts: Sequence[Conflict]) -
         table.row(reading.name, conflict.label, conflict.kind, conflict.detail, *_texts(conflict))
     if reading.problem:
         table.row(reading.name, None, "not read", f"{reading.problem}: {reading.detail}", *(None for _ in STANDARDS))
-    for what in (*refused(reading), *damage(reading.not_read)):
+    for what in (*refused(reading), *([_unread(reading)] if damage(reading.not_read) else [])):
         table.row(reading.name, None, "not read", what, *(None for _ in STANDARDS))
+
+
+def _unread(reading: Reading) -> str:
+    """What is left of a damaged file."""
+    return ", ".join(unread(reading, damage(reading.not_read)))
 
 
 def _texts(conflict: Conflict) -> List[Cell]:
@@ -144,8 +150,8 @@ def _print(reading: Reading, conflicts: Sequence[Conflict]) -> None:
             print_line(f"    {name:<{width}}  {text if len(text) <= LONGEST else f'{text[: LONGEST - 10]}.. ({len(text):,} characters)'}")
     if reading.problem:
         print_line(f"{shown_path(reading.name)}: {reading.problem}: {reading.detail}")
-    for what in damage(reading.not_read):
-        print_line(f"{shown_path(reading.name)}: not wholly read: {what}")
+    if damage(reading.not_read):
+        print_line(f"{shown_path(reading.name)}: not wholly read: {_unread(reading)}")
 
 
 def _summary(counts: _Counts, every: bool) -> Iterator[str]:

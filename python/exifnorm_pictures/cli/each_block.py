@@ -8,11 +8,12 @@ from typing import Callable, Iterator, List, Tuple
 
 from ..extract.named import blocks_of_named
 from ..judge.reading import Reading
-from ..model.found import FoundBlock, each_kind
+from ..model.found import FoundBlock
 from ..model.records import Block
 from ..model.texts import Members, escaped, path_members, shown_path
 from .exit_codes import SUCCESS, UNKNOWN
 from .names import each_name, is_list
+from .not_read import damage_members, no_block, unread
 from .output import block_members, output
 
 
@@ -33,13 +34,27 @@ def each_picture(arguments: argparse.Namespace) -> Iterator[Reading]:
     )
 
 
-def each_block(arguments: argparse.Namespace, describer: Callable[[], Describe], refused_too: bool = False) -> int:
-    """Prints something about each block of each picture, for which `describer` is called once. Returns the greatest status."""
+def _nothing(_: Reading) -> Described:
+    return [], {}
+
+
+def each_block(
+    arguments: argparse.Namespace,
+    describer: Callable[[], Describe],
+    refused_too: bool = False,
+    of_rest: Callable[[Reading], Described] = _nothing,
+) -> int:
+    """Prints something about each block of each picture, for which `describer` is called once, and what `of_rest` says of one that was not
+    wholly read. Returns the greatest status."""
     worst = SUCCESS
     has_heads = is_list(arguments, arguments.pictures)
     for reading in each_picture(arguments):
         worst = max(worst, status_of_reading(reading))
         _print(arguments, reading, [f"== {shown_path(reading.name)}"] if has_heads else [], describer(), refused_too)
+        if reading.not_read and not reading.problem:
+            lines, members = of_rest(reading)
+            rest = {**path_members(reading.name), "not_read": reading.not_read, **damage_members(reading), **members}
+            output(arguments, [*lines, f"not wholly read: {', '.join(unread(reading, reading.not_read))}"], rest)
     return worst
 
 
@@ -57,10 +72,7 @@ def _print(arguments: argparse.Namespace, reading: Reading, head: List[str], des
             output(arguments, [*head, *lines], {**names, "name": block.name, **members})
             head = []
     if not read.found:
-        output(arguments, [*head, "no Exif, IPTC or XMP block"], {**names, "kind": None})
-    if read.not_read:
-        what = [one.what for one in read.not_read]
-        output(arguments, [f"not wholly read: {', '.join(each_kind(what))}"], {**names, "not_read": what})
+        output(arguments, [*head, no_block(reading)], {**names, "kind": None})
 
 
 def _of_folder(command: str, name: bytes) -> str:

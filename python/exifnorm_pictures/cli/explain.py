@@ -16,7 +16,7 @@ from ..model.found import EXIF, XMP, FoundBlock
 from ..model.records import Block
 from ..model.texts import Members
 from ..model.sides import Status
-from ..refusals import explain, mend
+from ..refusals import damage, explain, mend
 from .each_block import Described, each_block
 from .output import block_members
 
@@ -35,7 +35,7 @@ def run(arguments: argparse.Namespace) -> int:
         members = {**explained.members(), "repair": [one._asdict() for one in block.steps], "mend": _members(mended)}
         return [line, *explained.lines()[1:], *_repair(block), *_lines(mended)], members
 
-    return each_block(arguments, lambda: describe, refused_too=True)
+    return each_block(arguments, lambda: describe, True, lambda reading: (damage.lines(reading), damage.members(reading)))
 
 
 def _tried(session: Session, name: bytes) -> Optional[mend.Mended]:

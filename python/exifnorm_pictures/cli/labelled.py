@@ -18,6 +18,7 @@ from ..model.texts import Members
 from ..model.sides import REACHED
 from ..scan.walk import Unlisted, below
 from .names import each_name
+from .not_read import damage_members
 from .objects import picture_object
 
 
@@ -97,7 +98,8 @@ def not_read(reading: Reading) -> List[str]:
 
 def members(reading: Reading) -> Members:
     """The beginning of a JSON object."""
-    return {**picture_object(reading.name, reading.problem, reading.detail), "refused": refused(reading), "not_read": reading.not_read}
+    known = {"refused": refused(reading), "not_read": reading.not_read, **damage_members(reading)}
+    return {**picture_object(reading.name, reading.problem, reading.detail), **known}
 
 
 # The fields of texts

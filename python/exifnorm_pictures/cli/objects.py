@@ -41,6 +41,12 @@ def picture_object(path: bytes, problem: Optional[str], detail: str) -> Members:
     return {**path_members(path), "problem": problem or None, "detail": detail or None}
 
 
+def unread_members(picture: Picture) -> Members:
+    """What was not read of a picture that was looked at just now, and what isn't known of a damaged one."""
+    parts = [one.what for one in picture.unread]
+    return {"not_read": parts, "damage": picture.damage or None, "not_known": picture.not_known}
+
+
 def block_object(block: Block) -> Members:
     """A block."""
     return {
@@ -57,5 +63,5 @@ def block_object(block: Block) -> Members:
 def record_lines(picture: Picture) -> List[str]:
     """The line for a picture that `index` looked at."""
     about = {**picture_object(picture.path, picture.problem, picture.detail), "type": picture.type or None}
-    unread = [one.what for one in picture.unread]
-    return [line_of("index", "picture", {**about, "blocks": [block_object(one) for one in picture.blocks], "not_read": unread})]
+    blocks = [block_object(one) for one in picture.blocks]
+    return [line_of("index", "picture", {**about, "blocks": blocks, **unread_members(picture)})]

@@ -12,12 +12,13 @@ from ..fields.typed import typed
 from ..judge.reading import Reading
 from ..model import steps
 from ..model.budgets import SHOWN_CHARACTERS, SHOWN_FIELDS
-from ..model.found import PROGRAMS, FoundBlock, each_kind
+from ..model.found import PROGRAMS, FoundBlock
 from ..model.records import Block
 from ..model.texts import Members, escaped
 from .columns import width
 from .each_block import Described, each_block, each_picture, status_of_reading
 from .exit_codes import SUCCESS
+from .not_read import damage_members, no_block, unread
 from .objects import block_object, picture_object, print_object
 from .output import table_of
 
@@ -134,8 +135,8 @@ def _notes(reading: Reading) -> Iterator[str]:
     if reading.problem:
         yield f"{reading.problem}: {reading.detail}"
     elif not reading.read.found:
-        yield "no Exif, IPTC or XMP block"
-    yield from (f"not read: {what}" for what in each_kind(reading.not_read))
+        yield no_block(reading)
+    yield from (f"not read: {what}" for what in unread(reading, reading.not_read))
 
 
 # --json
@@ -145,7 +146,7 @@ def _members(reading: Reading) -> Members:
     shown = _Shown()
     blocks = [{**block_object(one), **_block_members(one, shown)} for one in reading.blocks]
     about = {**picture_object(reading.name, reading.problem, reading.detail), "type": reading.read.type or None}
-    return {**about, "blocks": blocks, "not_read": reading.not_read}
+    return {**about, "blocks": blocks, "not_read": reading.not_read, **damage_members(reading)}
 
 
 def _block_members(block: Block, shown: _Shown) -> Members:

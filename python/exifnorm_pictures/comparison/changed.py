@@ -19,7 +19,7 @@ from ..files.session import Session
 from ..judge.sides import Sides
 from ..model import steps
 from ..model.budgets import WAITING_BYTES
-from ..model.found import EXIF, NAMES, OWN, PROGRAMS
+from ..model.found import EXIF, NAMES, OWN, PROGRAMS, cut
 from ..model.problems import Problem
 from ..model.records import Block, Picture, is_same_file
 from ..model.results import Result
@@ -28,6 +28,7 @@ from ..model.steps import Step
 from ..model.verdicts import Verdict, left_open, result_of, sentence_of_verdicts, verdicts
 from .coded import Coded, coded_result as result_of_coded
 from .differing import Difference, differences
+from .missing import Missing
 from .pairs import AFTER, BEFORE, Pair, Pairs
 
 if TYPE_CHECKING:
@@ -48,6 +49,7 @@ class Compared:
     repairs: List[Tuple[str, Tuple[Step, ...], Tuple[Step, ...]]] = field(default_factory=list)  # of each block, before and after
     left_out: List[str] = field(default_factory=list)  # fields and kinds that differ and don't count
     picture: Coded = Coded.UNKNOWN  # what is known of the coded picture
+    damage: Tuple[str, str] = ("", "")  # of the file before and after
 
 
 def changed(
@@ -82,14 +84,15 @@ def changed(
 
 
 def compared(pair: Pair, pairs: Sides, session: Optional[Session], choice: Choice = EVERYTHING) -> Compared:
-    """Compares one picture before and after. Its coded picture counts, unless only some fields do."""
+    """Compares one picture before and after. Its coded picture counts, unless only some fields do; that a file is damaged is always said."""
     comparison = _compared(pair, pairs, session, choice)
     coded_picture = result_of_coded(pair.old, pair.new)
     comparison.picture = coded_picture.result
-    if choice.only or pair.place is not None:
+    comparison.damage = (pair.old.damage if pair.old else "", pair.new.damage if pair.new else "")
+    if pair.place is not None or (choice.only and not coded_picture.result.is_damaged):
         return comparison
-    if coded_picture.result == Coded.DAMAGED:
-        comparison.result = Result.DAMAGED
+    if coded_picture.result in _DAMAGED and not choice.only:
+        comparison.result = Result.DAMAGED_DIFFERENT if comparison.result.has_changed else _DAMAGED[coded_picture.result]
     elif coded_picture.result == Coded.OTHER and not comparison.result.has_changed:
         comparison.result = Result.OTHER_PICTURE_ALONE if comparison.result.is_equal else Result.OTHER_PICTURE
     elif coded_picture.result == Coded.OTHER:
@@ -98,6 +101,7 @@ def compared(pair: Pair, pairs: Sides, session: Optional[Session], choice: Choic
     return comparison
 
 
+_DAMAGED = {Coded.DAMAGED: Result.DAMAGED, Coded.DAMAGED_BEFORE: Result.DAMAGED_BEFORE}
 # The results of a kind for which the fields of both pictures are compared
 _LOOKED_AT = (Result.DIFFERENT, Result.REFUSED, Result.UNREADABLE, Result.SAME_REPAIRED, Result.DIFFERENT_REPAIRED)
 
@@ -113,13 +117,16 @@ def _compared(pair: Pair, pairs: Sides, session: Optional[Session], choice: Choi
             if comparison.result.is_open and place is None and is_same_file(old, new)
             else comparison
         )
-    by_kind = verdicts(old.sides(), new.sides())
-    parts: List[str] = []
-    if old.not_read is None or old.not_read != new.not_read:
-        parts = left_open(pairs.not_read(BEFORE, old), pairs.not_read(AFTER, new))
+    sides = old.sides(), new.sides()
+    by_kind, parts, missing = verdicts(*sides), [], Missing()  # type: List[Verdict], List[str], Missing
+    is_alike = old.not_read is not None and old.not_read == new.not_read
+    if not is_alike or old.damage or new.damage:
+        unread = pairs.not_read(BEFORE, old), pairs.not_read(AFTER, new)
+        parts, missing = left_open(*unread), Missing((old, new), unread, is_alike)
+        by_kind = missing.judged(by_kind, *sides)
     comparison = Compared(name, result_of(by_kind, parts), "", [], by_kind)
     if comparison.result.is_open and place is None and is_same_file(old, new):
-        return Compared(name, Result.SAME_FILE, _sentence(tuple(by_kind), tuple(parts)), [], by_kind)
+        return Compared(name, Result.SAME_FILE, _sentence(tuple(by_kind), _named_parts(parts)), [], by_kind)
     parts = _leave_out_kinds(comparison, old, new, parts, choice)
     by_kind = comparison.verdicts
     looked_at = any(it.result in _LOOKED_AT for it in by_kind)
@@ -127,10 +134,10 @@ def _compared(pair: Pair, pairs: Sides, session: Optional[Session], choice: Choi
         blocks = [pairs.blocks(BEFORE, old), pairs.blocks(AFTER, new)]
         comparison.note += _extracted(block for side in blocks for block in side)
         if looked_at:
-            _add_details(comparison, blocks, pairs, parts, choice)
+            _add_details(comparison, blocks, pairs, parts, choice, missing)
     if not choice.leaves_out_maker_notes:
         parts = _judge_maker_notes(comparison, old, new, pairs, parts, session)
-    comparison.note = _sentence(tuple(comparison.verdicts), tuple(parts)) + comparison.note
+    comparison.note = _sentence(tuple(comparison.verdicts), _named_parts(parts)) + comparison.note
     if place is not None:
         comparison.result = Result.MOVED if comparison.result.has_changed is False else Result.MOVED_EDITED
         comparison.moved_to, comparison.note = place, f"the coded picture is the same; {comparison.note}"
@@ -237,20 +244,29 @@ _OF_EXIF = ("main", "exif", "interop", "gps", "thumb")
 _sentence = functools.lru_cache(maxsize=1000)(sentence_of_verdicts)  # an archive's pictures have few different ones
 
 
+def _named_parts(parts: Sequence[str]) -> Tuple[str, ...]:
+    """The parts that a sentence has: the end of a file that is cut off is named before it."""
+    return tuple(it for it in parts if not cut([it]))
+
+
 def _extracted(blocks: Iterable[Block]) -> str:
     """Which programs extracted blocks that no reader here reads."""
     used = {it.extractor for it in blocks}
     return "".join(f"; extracted by {PROGRAMS[it]}" for it in PROGRAMS if it in used)
 
 
-def _add_details(comparison: Compared, blocks: List[Sequence[Block]], pairs: Sides, parts: List[str], choice: Choice) -> None:
+def _add_details(
+    comparison: Compared, blocks: List[Sequence[Block]], pairs: Sides, parts: List[str], choice: Choice, missing: Missing
+) -> None:
     """Adds the fields that differ, and the causes of refusals."""
     left = _Left(choice)
     only_notes = True
-    out = [one.kind for one in comparison.verdicts if one.result == Result.LEFT_OUT]
+    out = [one.kind for one in comparison.verdicts if one.result in (Result.LEFT_OUT, Result.NOT_KNOWN)]
     first, second = ({(block.kind, block.name): block for block in side if block.kind not in out} for side in blocks)
     for key in dict.fromkeys([*first, *second]):
         old, new = first.get(key), second.get(key)
+        if missing.has(key[0], old, new):
+            continue
         if all(block is None or block.is_accepted or block.repair for block in (old, new)):
             comparison.note += _repairs_of(comparison, key[1], old, new)
             if old and new and old.digest == new.digest and (old.digest or old.octets == new.octets):
@@ -258,15 +274,19 @@ def _add_details(comparison: Compared, blocks: List[Sequence[Block]], pairs: Sid
             fields = pairs.fields(BEFORE, old), pairs.fields(AFTER, new)
             block = "" if key[1] == NAMES[key[0]] else key[1]
             is_equal = bool(old and new and old.meaning and old.meaning == new.meaning)
-            kept, lost = _known(differences(*fields, block), old, new)
+            every, lost = _known(differences(*fields, block), old, new)
             comparison.note += lost
-            changes = left.without(key[0], kept, is_equal)
+            kept = missing.without(key[0], every, is_equal, old, new)
+            changes = left.without(key[0], kept, is_equal or len(kept) < len(every))
             is_of_note = bool(changes and old and new) and all(change[:2] == MAKER_NOTE for change in changes)
             only_notes = only_notes and (is_of_note or key[0] != EXIF or (is_equal and not changes))
             comparison.changes += changes if old and new else [change._replace(part=key[1]) for change in changes]
         if not any(block and block.repair for block in (old, new)):
             comparison.note += _report_of(key[1], old, new)
     left.settle(comparison, parts)
+    settled = missing.settled(comparison.verdicts)
+    if settled != comparison.verdicts:
+        comparison.verdicts, comparison.result = settled, result_of(settled, parts)
     if (
         comparison.result == Result.DIFFERENT
         and only_notes
@@ -335,8 +355,9 @@ def _leave_out_kinds(comparison: Compared, picture: Picture, other: Picture, par
     for at, verdict in enumerate(comparison.verdicts):
         if verdict.kind not in choice.kinds and verdict.result not in (Result.SAME, Result.ABSENT) and not verdict.same_bytes:
             comparison.verdicts[at] = Verdict(verdict.kind, Result.LEFT_OUT)
-            comparison.left_out.append(NAMES[verdict.kind])
-            choice.see_kind(verdict.kind)
+            if verdict.result != Result.NOT_KNOWN:
+                comparison.left_out.append(NAMES[verdict.kind])
+                choice.see_kind(verdict.kind)
     if choice.leaves_out_maker_notes:
         left = [part for part in parts if not part.endswith(REACHED)]
         has_moved = bool(picture.maker_notes and other.maker_notes) and picture.maker_notes != other.maker_notes

@@ -20,19 +20,25 @@ class Coded(Word):
         coded.sentence = sentence
         return coded
 
+    @property
+    def is_damaged(self) -> bool:
+        """Whether a file is damaged."""
+        return self in (Coded.DAMAGED, Coded.DAMAGED_BEFORE, Coded.DAMAGED_BOTH)
+
     SAME = ("the same", "The pictures are the same: the data from which their pixels are decoded are equal.")
     OTHER = (
         "other",
         "The pictures differ in the data from which their pixels are decoded: one may be edited, smaller, or only saved again.",
     )
     DAMAGED = ("damaged",)
+    DAMAGED_BEFORE = ("damaged before",)
     DAMAGED_BOTH = ("damaged before and after",)
     UNKNOWN = ("not compared", "Only metadata was compared: there is no reader here for pictures of this format.")
 
 
 # The same as `coded_result`, for the rows `old` and `new` of two catalogues
 SQL = f"""CASE WHEN new.damage != '' AND old.damage = '' THEN '{Coded.DAMAGED}' WHEN new.damage != '' THEN '{Coded.DAMAGED_BOTH}'
-    WHEN old.type != new.type THEN '{Coded.UNKNOWN}' WHEN old.damage != '' THEN '{Coded.OTHER}' WHEN old.coded_picture != '' AND new.coded_picture != ''
+    WHEN old.damage != '' THEN '{Coded.DAMAGED_BEFORE}' WHEN old.type != new.type THEN '{Coded.UNKNOWN}' WHEN old.coded_picture != '' AND new.coded_picture != ''
     THEN CASE WHEN old.coded_picture = new.coded_picture THEN '{Coded.SAME}' ELSE '{Coded.OTHER}' END
     WHEN old.sha256 != '' AND old.sha256 = new.sha256 THEN '{Coded.SAME}' ELSE '{Coded.UNKNOWN}' END"""
 
@@ -45,17 +51,19 @@ class CodedResult(NamedTuple):
 
 
 def coded_result(picture: Optional[Picture], other: Optional[Picture]) -> CodedResult:
-    """Whether two files have the same coded picture. One that is damaged later on is no other picture, and isn't the same either."""
+    """Whether two files have the same coded picture. One that is damaged is no other picture than a whole one, and isn't the same either."""
     if picture is None or other is None:
         return CodedResult()
     if other.damage and picture.damage:
-        return CodedResult(Coded.DAMAGED_BOTH, f"{Coded.DAMAGED_BOTH}: {other.damage}")
+        both = dict.fromkeys([picture.damage, other.damage])
+        return CodedResult(Coded.DAMAGED_BOTH, f"{Coded.DAMAGED_BOTH}: {', and then '.join(both)}")
     if other.damage:
-        return CodedResult(Coded.DAMAGED, other.damage + ("" if picture.coded_picture else ", and whether it was so before isn't known"))
+        is_known = bool(picture.coded_picture) or other.coded_picture is None  # of the file's head it is always known
+        return CodedResult(Coded.DAMAGED, other.damage + ("" if is_known else ", and whether it was so before isn't known"))
+    if picture.damage:
+        return CodedResult(Coded.DAMAGED_BEFORE, f"{Coded.DAMAGED_BEFORE}: {picture.damage}")
     if picture.type != other.type:  # the data of two formats can't be equal, even if the pictures are
         return CodedResult()
-    if picture.damage:
-        return CodedResult(Coded.OTHER, f"before it was damaged: {picture.damage}")
     if picture.coded_picture and other.coded_picture:
         return CodedResult(Coded.SAME if picture.coded_picture == other.coded_picture else Coded.OTHER)
     return CodedResult(Coded.SAME if picture.sha256 and picture.sha256 == other.sha256 else Coded.UNKNOWN)
@@ -65,6 +73,7 @@ def sentence_of_coded(counts: "Counter[Coded]", pixels: str = "index --pixels") 
     """What was compared of some pictures, in a sentence; nothing without any."""
     if not sum(counts.values()):
         return ""
-    if sum(counts.values()) == counts[Coded.UNKNOWN]:
-        return f"Only metadata was compared: {pixels} compares the pictures, too."
+    if not counts[Coded.SAME] + counts[Coded.OTHER] and counts[Coded.UNKNOWN]:
+        damaged = ", ".join(f"{count:,} {it}" for it, count in counts.items() if it != Coded.UNKNOWN and count)
+        return f"The files: {damaged}. " * bool(damaged) + f"Only metadata was compared: {pixels} compares the pictures, too."
     return f"The coded pictures: {', '.join(f'{counts[it]:,} {it}' for it in Coded if counts[it])}."

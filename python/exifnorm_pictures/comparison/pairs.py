@@ -202,11 +202,16 @@ class Pairs:
             f"FROM before.pictures AS old JOIN after.pictures AS new ON new.path = {self._other_path(BEFORE)}"
             f" WHERE old.problem IS NULL AND new.problem IS NULL AND {self._is_chosen(BEFORE)}"
         )
-        known = [f"SELECT 1 FROM {base}.pictures WHERE coded_picture != '' OR sha256 != '' LIMIT 1" for base in _BASES]
         result = f"'{Coded.UNKNOWN}'"
-        if all(next(self._rows(it, bool), False) for it in known):
+        if any(self._has(base, "damage != ''") for base in _BASES) or all(
+            self._has(base, "coded_picture != '' OR sha256 != ''") for base in _BASES
+        ):
             result = SQL
         return Counter(dict(self._rows(f"SELECT {result}, count(*) {pictures} GROUP BY 1", lambda row: (Coded(row[0]), int(row[1])))))
+
+    def _has(self, base: str, condition: str) -> bool:
+        """Whether a picture of a side is so."""
+        return next(self._rows(f"SELECT 1 FROM {base}.pictures WHERE {condition} LIMIT 1", bool), False)
 
     def blocks(self, side: int, picture: Picture) -> List[Block]:
         """A picture's blocks."""

@@ -189,7 +189,7 @@ def _webp(stream: Stream, coded: "hashlib.blake2b", budget: Budget, beside: "has
     end = 8 + int.from_bytes(read_at(stream, 4, 4), "little")
     at, flags = 12, _ALPHA
     if end > size_of(stream):
-        raise Broken("the file is shorter than its header says")
+        raise Broken("the file ends before its header says")
     while at + 8 <= end:
         budget.spend(CHUNKS)
         head = read_at(stream, at, 8)

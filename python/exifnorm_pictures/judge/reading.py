@@ -8,7 +8,7 @@ from typing import TYPE_CHECKING, List, Optional
 from ..extract.extraction import too_much
 from ..fields.block_fields import fields_of
 from ..model.budgets import TooMuch
-from ..model.found import EXIF, NAMES, Blocks, FoundBlock, damage
+from ..model.found import EXIF, NAMES, Blocks, FoundBlock, cut, damage, not_known
 from ..model.records import Block
 from .judge import judge_all
 
@@ -47,6 +47,16 @@ class Reading:
     def not_read(self) -> List[str]:
         """The parts that were not read."""
         return [it.what for it in self.read.not_read]
+
+    @property
+    def damage(self) -> str:
+        """Where the file is cut off; empty if it isn't."""
+        return cut(self.not_read)
+
+    @property
+    def not_known(self) -> List[str]:
+        """The kinds of which no block is left in a damaged file, and one may be missing."""
+        return not_known(self.read.type, self.not_read, (block.kind for block in self.blocks))
 
     @property
     def is_damaged(self) -> bool:

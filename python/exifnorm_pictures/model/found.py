@@ -5,7 +5,7 @@ from __future__ import annotations
 import hashlib
 from collections import Counter
 from dataclasses import dataclass, field
-from typing import Dict, Iterable, List, NamedTuple, Optional
+from typing import Dict, Iterable, List, NamedTuple, Optional, Tuple
 
 from .budgets import BLOCKS, NOT_READ, Budget
 
@@ -18,6 +18,8 @@ PROGRAMS = {EXIFTOOL: "ExifTool", EXIV2: "exiv2"}
 
 REST = "the rest of a damaged file"  # how a part begins that has such a file from its fault on
 BROKEN = "broken: "  # how the reason begins for which a damaged file was left to ExifTool
+CUT = "the file ends "  # how a fault begins that is the end of a file, after which bytes are missing
+_WITHOUT_IPTC = frozenset(("WEBP", "Extended WEBP", "HEIC", "HEIF", "AVIF", "CR3", "JXL"))  # formats, by the words of readers and ExifTool
 UNREAD_TRAILER = "blocks of the trailer, for which ExifTool is needed"  # a part that is read once ExifTool is there
 
 _ORDINALS = ("first", "second", "third", "fourth", "fifth", "sixth", "seventh", "eighth", "ninth")
@@ -87,6 +89,40 @@ def damage(parts: Iterable[str]) -> List[str]:
     ['the rest of a damaged file (no marker at 2)']
     """
     return [what for what in parts if what.startswith(REST) or f"({BROKEN}" in what]
+
+
+def cut(parts: Iterable[str]) -> str:
+    """Where a file is cut off, by its parts that were not read; empty if it isn't.
+
+    >>> cut(["second picture", "the rest of a damaged file (the file ends inside the segment at 20)"]), cut(["second picture"])
+    ('the file ends inside the segment at 20', '')
+    """
+    for what in damage(parts):
+        _, word, rest = what.partition(CUT)
+        if word:
+            return CUT + rest.rpartition(")")[0]
+    return ""
+
+
+def lost_kinds(type: str, parts: Iterable[str]) -> Tuple[str, ...]:
+    """The kinds of blocks that may be missing of a damaged file of this format.
+
+    >>> lost_kinds("JPEG", ["the rest of a damaged file (no marker at 2)"]), lost_kinds("JPEG", ["second picture"])
+    (('exif', 'iptc', 'xmp'), ())
+    """
+    if not damage(parts):
+        return ()
+    return (EXIF, XMP) if type in _WITHOUT_IPTC else KINDS
+
+
+def not_known(type: str, parts: Iterable[str], kinds: Iterable[str]) -> List[str]:
+    """The kinds that may be missing of a damaged file, in which blocks of some kinds are left.
+
+    >>> not_known("JPEG", ["the rest of a damaged file (no marker at 20)"], ["exif"])
+    ['iptc', 'xmp']
+    """
+    there = set(kinds)
+    return [kind for kind in lost_kinds(type, parts) if kind not in there]
 
 
 def each_kind(parts: Iterable[str]) -> List[str]:

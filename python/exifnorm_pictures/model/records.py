@@ -10,7 +10,7 @@ from typing import Annotated, Any, Dict, Iterable, List, NamedTuple, Optional, S
 
 from .budgets import ROW_BYTES
 from .columns import LONGEST, Columns, Damaged, Is, check
-from .found import EXIF, EXIFTOOL, KINDS, PROGRAMS, XMP, Blocks, NotRead
+from .found import EXIF, EXIFTOOL, KINDS, PROGRAMS, XMP, Blocks, NotRead, cut, not_known
 from .steps import Step, loses, unpacked
 from .sides import REACHED, Side, Status, joined, side_of
 
@@ -155,7 +155,7 @@ class Picture(NamedTuple):
     file: Annotated[str, "SHA-256 of the whole file, if nothing else of it can be compared; else empty"] = ""
     coded_picture: Annotated[Optional[str], "BLAKE2b of the coded picture; empty: not known of this file; NULL: not requested"] = None
     beside: Annotated[str, "BLAKE2b of its colour profiles and comments; empty: there is none, or not known"] = ""
-    damage: Annotated[str, "what is damaged in the coded picture; empty: nothing, or not known"] = ""
+    damage: Annotated[str, "where the file is cut off, or its coded picture is damaged; empty: nowhere, or not known"] = ""
     sha256: Annotated[Optional[str], "SHA-256 of the whole file; empty: it can't be read; NULL: not requested"] = None
     sidecars: Annotated[str, Is("names, sizes, times and inodes of its XMP sidecars; empty if there is none", longest=_EACH)] = ""
     # What other tables of a catalogue have, and what it doesn't have, if the picture was looked at just now
@@ -180,6 +180,8 @@ class Picture(NamedTuple):
     ) -> "Picture":
         """A picture that was looked at. Several processes do that, and one writes, so what is compared is made here."""
         about: Dict[str, Any] = {"type": type, "extractor": extractor, "problem": problem, "detail": detail, **_marks(stamp), **others}
+        if fault := cut(part.what for part in unread):
+            about["damage"] = fault
         return cls(path=path, root=root, blocks=tuple(blocks), unread=tuple(unread), **_compared(problem, blocks, unread), **about)
 
     @classmethod
@@ -206,6 +208,11 @@ class Picture(NamedTuple):
         """The other programs that have read something of it, if it was looked at just now."""
         names = {self.extractor, *[block.extractor for block in self.blocks]}
         return {name for name in names if name in PROGRAMS} | ({EXIFTOOL} if self.notes else set())
+
+    @property
+    def not_known(self) -> List[str]:
+        """The kinds of which a block may be missing, since the file is damaged, if it was looked at just now."""
+        return not_known(self.type, [part.what for part in self.unread], (block.kind for block in self.blocks))
 
     @property
     def marks(self) -> Tuple[Optional[int], ...]:

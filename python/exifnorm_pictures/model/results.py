@@ -48,7 +48,9 @@ class Result(Word):
     MOVED_EDITED = ("moved and edited", True)  # which the digest of its coded picture shows
     OTHER_PICTURE_ALONE = ("other picture, the same metadata", True, "The same metadata, and another picture.")
     OTHER_PICTURE = ("other picture", True, "Another picture, and no difference of the metadata is known.")
-    DAMAGED = ("damaged", True, "The second picture is damaged.")  # whatever its metadata are
+    DAMAGED = ("damaged", None, "The second picture is damaged.")  # and no difference of the metadata is known
+    DAMAGED_BEFORE = ("damaged before", None, "The first picture is damaged.")
+    DAMAGED_DIFFERENT = ("damaged and different", True)
     MISSING_BEFORE = ("missing before", True)
     MISSING_AFTER = ("missing after", True)
     ONLY_REACHED = (
@@ -76,6 +78,7 @@ class Result(Word):
         True,
         True,
     )
+    NOT_KNOWN = ("not known", None, "The metadata can't be compared wholly: a file is damaged, and what is missing may have some.")
     NOT_WHOLLY_READ = ("not wholly read", None, "No field differs, but not everything was read.")
     FILE_SAME = ("not read, the same bytes", False, "The same bytes, in a format that isn't read.")
     NO_PICTURE_SAME = ("no picture, the same bytes", False, "The same bytes, and no pictures.", False)

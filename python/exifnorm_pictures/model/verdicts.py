@@ -22,8 +22,8 @@ class Verdict(NamedTuple):
 
     @property
     def is_open(self) -> bool:
-        """Whether the result is unknown: a block is refused or unreadable, and its bytes are not the same."""
-        return self.result in _SAME_BYTES and not self.same_bytes
+        """Whether the result is unknown: a block is refused or unreadable, or may be missing, and its bytes are not the same."""
+        return (self.result == Result.NOT_KNOWN or self.result in _SAME_BYTES) and not self.same_bytes
 
 
 _OF_STATUS = {Status.REFUSED: Result.REFUSED, Status.UNREADABLE: Result.UNREADABLE}
@@ -84,6 +84,7 @@ _IN_SENTENCE = (  # in the order of the clauses
     Result.DIFFERENT_REPAIRED,
     Result.REFUSED,
     Result.UNREADABLE,
+    Result.NOT_KNOWN,
     Result.LEFT_OUT,
 )
 
@@ -138,7 +139,7 @@ def result_of(verdicts: Sequence[Verdict], open_parts: Sequence[str] = ()) -> Re
     for result in (Result.DIFFERENT, Result.DIFFERENT_REPAIRED):
         if result in results:
             return result
-    for result in _SAME_BYTES:
+    for result in (*_SAME_BYTES, Result.NOT_KNOWN):
         if any(it.result == result and it.is_open for it in verdicts):
             return result
     if open_parts:

@@ -56,7 +56,7 @@ CREATE TABLE pictures (
     file TEXT NOT NULL,             -- SHA-256 of the whole file, if nothing else of it can be compared; else empty
     coded_picture TEXT,             -- BLAKE2b of the coded picture; empty: not known of this file; NULL: not requested
     beside TEXT NOT NULL,           -- BLAKE2b of its colour profiles and comments; empty: there is none, or not known
-    damage TEXT NOT NULL,           -- what is damaged in the coded picture; empty: nothing, or not known
+    damage TEXT NOT NULL,           -- where the file is cut off, or its coded picture is damaged; empty: nowhere, or not known
     sha256 TEXT,                    -- SHA-256 of the whole file; empty: it can't be read; NULL: not requested
     sidecars TEXT NOT NULL,         -- names, sizes, times and inodes of its XMP sidecars; empty if there is none
     run INTEGER NOT NULL REFERENCES runs(id)

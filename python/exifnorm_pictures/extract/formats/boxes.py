@@ -10,8 +10,8 @@ import re
 from typing import Callable, Iterator, List, NamedTuple, Set
 
 from ...model.budgets import BOXES, BOX_BYTES, budget_of
-from ...model.found import XMP, Blocks, Broken
-from .streams import Stream, leave, leave_rest, read_at, size_of
+from ...model.found import CUT, REST, XMP, Blocks, Broken, NotRead
+from .streams import Stream, digest_of_rest, leave, leave_rest, read_at, size_of
 
 _LONGEST_HEAD = 32
 XMP_UUID = bytes.fromhex("be7acfcb97a942e89c71999491e3afac")  # XMP part 3, 1.1.4
@@ -54,7 +54,8 @@ def boxes(stream: Stream, start: int, end: int, is_file: bool = False) -> Iterat
         uuid = head[begin : begin + 16] if kind == b"uuid" else b""
         begin += 16 if kind == b"uuid" else 0
         if not begin <= length <= end - at:
-            raise Broken(f"the box at {at} has a wrong length")
+            is_cut = is_file and length > end - at and kind.strip().isalnum()
+            raise Broken(f"the file ends inside the box at {at}" if is_cut else f"the box at {at} has a wrong length")
         yield Box(at, kind, at + begin, at + length, uuid)
         at += length
 
@@ -68,13 +69,26 @@ def boxes_of_file(blocks: Blocks, stream: Stream, is_whole: Callable[[Set[bytes]
     try:
         for box in boxes(stream, 0, size_of(stream), is_file=True):
             every.append(box)
-    except Broken:
+    except Broken as why:
         if not is_whole({it.kind for it in every}):
             raise
-        leave_rest(blocks, stream, every[-1].end)
+        _leave_rest(blocks, stream, every[-1].end, str(why))
     if not is_whole({it.kind for it in every}):
-        raise Broken("the file has no picture")
+        raise Broken("the file has no picture" if any(it.kind in _PIXELS for it in every) else f"{CUT}before its picture")
     return every
+
+
+_PIXELS = frozenset((b"mdat", b"jxlc", b"jxlp", b"jp2c"))
+# Boxes of which a part at the end of a file is no trailer
+_OFTEN_LAST = _PIXELS | frozenset((b"uuid", b"xml ", b"Exif", b"brob", b"meta", b"moov"))
+
+
+def _leave_rest(blocks: Blocks, stream: Stream, at: int, why: str) -> None:
+    """Names what follows the last whole box. Raises `TooMuch`."""
+    if why.startswith(CUT) and read_at(stream, at + 4, 4) in _OFTEN_LAST:
+        blocks.name(NotRead(f"{REST} ({why})", digest_of_rest(stream, at, size_of(stream)) or ""))
+    else:
+        leave_rest(blocks, stream, at)
 
 
 def content(stream: Stream, box: Box) -> bytes:

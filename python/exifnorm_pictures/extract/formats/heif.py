@@ -131,7 +131,7 @@ class _Reader:
             return None  # all of the file or of idat
         ranges = [(start + offset, start + offset + length) for offset, length in place.extents]
         if any(stop > end for _, stop in ranges):
-            raise Broken(f"item {item.number} isn't in the file")
+            raise Broken(f"the file ends inside item {item.number}" if place.method == 0 else f"item {item.number} isn't in the file")
         return ranges
 
     def _data(self, ranges: List[Tuple[int, int]]) -> bytes:

@@ -54,6 +54,9 @@ def read(stream: Stream, whole: bool = False) -> Blocks:
             raise
         blocks.not_read.append(NotRead(f"{REST} ({why})", digest_of(stream, head.end, end)))
         return blocks
+    if head.is_open:
+        blocks.not_read.append(NotRead(f"{REST} (the file ends before its first scan, at {end})", digest_of(stream, end, end)))
+        return blocks
     starts = _further(stream, head, end)
     whole = whole or head.index_is_wrong
     _read_after(stream, head, (starts + [end])[0], whole)
@@ -73,6 +76,7 @@ class _Head:
         self.of = f" of {part}" if part else ""
         self.end = 0  # after the header of the first scan, after the end mark, or after the last whole segment
         self.has_scan = False
+        self.is_open = False  # whether the file ends before the first scan
         self.indexes: List[Tuple[int, bytes]] = []  # MPF indexes, each with the offset of its header
         self.index_is_wrong = False
         self._exif: List[Tuple[str, bytes]] = []  # the position of each block, and its bytes
@@ -91,7 +95,7 @@ class _Head:
             elif not kind and APP0 <= marker <= APP15:
                 self._segment(marker, start + at - 4, head.octets[at : at + size])
         self._put_together()
-        self.end = head.end
+        self.end, self.is_open = head.end, head.is_open
         if head.fault:
             raise Broken(head.fault)
         self.has_scan = bool(head.parts) and head.parts[-1][0] == SOS

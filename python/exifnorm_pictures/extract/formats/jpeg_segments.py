@@ -46,6 +46,7 @@ class Head(NamedTuple):
     parts: List[PartRow]  # each with its marker, the number of its kind, whether a block begins with it, its offset and its size
     end: int  # in the file, after the last part
     fault: str = ""  # why the head isn't whole
+    is_open: bool = False  # whether the file ends after a whole segment, before a scan and the end mark
 
 
 def read_head(stream: Stream, start: int, budget: Budget) -> Head:
@@ -67,7 +68,7 @@ def read_head(stream: Stream, start: int, budget: Budget) -> Head:
     budget.spend(SEGMENTS, len(parts))
     budget.spend(SEGMENT_BYTES, end)
     if not cause or (cause == "JpegCut" and place == len(octets)):
-        return Head(octets, parts, start + end)
+        return Head(octets, parts, start + end, is_open=bool(cause))
     marker = start + max(len(octets) - len(octets[place:].lstrip(b"\xff")) - 1, place)  # after bytes FF that fill
     return Head(octets, parts, start + end, f"{_FAULTS[cause]} at {marker}")
 

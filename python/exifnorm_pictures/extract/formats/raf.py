@@ -35,7 +35,7 @@ def read(stream: Stream, whole: bool = False) -> Blocks:
     head = read_at(stream, 0, _HEADER)
     jpeg, length = _place(head, _JPEG)
     if jpeg < _JPEG + 8 or not length or jpeg + length > size:
-        raise Broken("the JPEG of the RAF isn't in the file")
+        raise Broken("the file ends inside the JPEG of the RAF" if jpeg + length > size else "the JPEG of the RAF isn't in the file")
     add_jpeg(blocks, stream, jpeg, length, "", whole)
     end = jpeg + length
     for at in (_SEVERAL, *_DIRECTORIES, *_TIFFS):
@@ -47,7 +47,7 @@ def read(stream: Stream, whole: bool = False) -> Blocks:
             continue
         end = max(end, start + length)
         if start + length > size:
-            raise Broken(f"the part at {start} ends after the RAF")
+            raise Broken(f"the file ends inside the part at {start}")
         elif at in _DIRECTORIES:
             digest = digest_of_rest(stream, start, start + length)
             blocks.name(NotRead("Fujifilm's directory of the raw data", digest or ""))

@@ -14,12 +14,12 @@ from typing import Deque, Dict, Iterator, List, NamedTuple, Optional, Set, Tuple
 from exifnorm import LIMIT
 
 from ...model.budgets import DIRECTORIES, STRIPS
-from ...model.found import EXIF, IPTC, XMP, Blocks, Broken, NotRead, length_of
+from ...model.found import CUT, EXIF, IPTC, REST, XMP, Blocks, Broken, NotRead, length_of
 from ...model.tiff_types import HEADS, IFD, LONG
 from ..structure import counted, placed
 from . import photoshop
 from .private import RW2_HEAD, Private
-from .streams import Stream, digest_of_rest, pieces
+from .streams import Stream, digest_of, digest_of_rest, pieces
 from .tiff_block import Layout, Table, is_directory
 from .tiff_directories import Directories, Directory
 from .tiff_entries import IN_ENTRY, PIXELS, SUB_IFDS, Entry
@@ -90,6 +90,7 @@ class Reader:
         length = 16 if self.blocks.type == "CR2" else directories.variant.header
         self._covered: List[Tuple[int, int]] = [(0, length)]  # all these parts
         self._has_note = False
+        self._cut = ""  # where the file ends, if a value isn't wholly in it
         self._notes: Set[int] = set()  # where the MakerNotes begin whose places are compared
         self._end: Optional[int] = length  # after all parts that the directories point to; None if it is unknown
         self._private = Private(directories, self.blocks, self._reaches, whole)
@@ -132,12 +133,17 @@ class Reader:
         if any(entry.tag == _DNG_VERSION for entry in directory.entries):
             self.blocks.type = "DNG"
         self._reaches(directory.end, at)
-        for entry in directory.entries:
+        self._values_reach(directory.entries)
+        self._pixels_reach(directory)
+        return directory
+
+    def _values_reach(self, entries: List[Entry]) -> None:
+        for entry in entries:
             place = self.directories.place_of(entry) if entry.size > IN_ENTRY else None
             if place:
                 self._reaches(place[1], place[0])
-        self._pixels_reach(directory)
-        return directory
+            elif not self._cut and self.directories.is_cut(entry):
+                self._cut = f"{CUT}inside the value of tag {entry.tag:04x}"
 
     def _reaches(self, end: int, start: Optional[int] = None) -> None:
         self._covered.append((end if start is None else start, end))
@@ -165,7 +171,8 @@ class Reader:
             if entry.tag in self._private.tags and self._private.takes(entry, page.part or "page 1"):
                 continue
             if (entry.tag in self._pixels or entry.tag == SUB_IFDS) and not self.directories.is_list(entry):
-                raise Broken(f"the list of tag {entry.tag:04x} of {page.part or 'page 1'} isn't whole")
+                of = f"the list of tag {entry.tag:04x} of {page.part or 'page 1'}"
+                raise Broken(f"{CUT}inside {of}" if self.directories.is_cut(entry) else f"{of} isn't whole")
             if entry.tag in self._pixels:
                 left_out.add(self._pixels[entry.tag])
             elif entry.tag == SUB_IFDS:
@@ -213,10 +220,7 @@ class Reader:
                 self._reaches(directory.end, directory.at)
                 self._has_note = self._has_note or any(one.tag == _MAKER_NOTE and one.size > IN_ENTRY for one in directory.entries)
                 below[entry.tag] = self._table(directory.entries, pointers[entry.tag])
-        for entry in entries:
-            place = self.directories.place_of(entry) if entry.size > IN_ENTRY else None
-            if place:
-                self._reaches(place[1], place[0])
+        self._values_reach(entries)
         return Table(entries, below)
 
     def rest(self) -> None:
@@ -224,6 +228,8 @@ class Reader:
         if self._has_note:
             self._between()
         stream, size = self.directories.stream, self.directories.size
+        if self._cut:
+            self.blocks.not_read.append(NotRead(f"{REST} ({self._cut})", digest_of(stream, size, size)))
         digest = digest_of_rest(stream, self._end, size) if self._end is not None and self._end < size else None
         if self._end is not None and digest is not None:
             self.blocks.not_read.append(NotRead(f"trailer of {length_of(size - self._end)}", digest))

@@ -54,7 +54,7 @@ class Directories:
         """The directory at an offset. Raises `Broken`."""
         start = at + self.variant.number
         if self.variant is BIG and start > self.size:  # it may be beyond all that a system can seek
-            raise Broken(f"the directory at {at} is outside the file")
+            raise Broken(f"the file ends before the directory at {at}")
         number = self.number(read_at(self.stream, at, self.variant.number))
         length = self._row.size * number
         end = start + length + self.variant.offset
@@ -95,6 +95,10 @@ class Directories:
         """The range of a value of more than `IN_ENTRY` bytes; None if the file doesn't contain all of it."""
         start = self.number(entry.last)
         return (start, start + entry.size) if self.variant.header <= start and start + entry.size <= self.size else None
+
+    def is_cut(self, entry: Entry) -> bool:
+        """Whether the file ends inside the value of an entry, or before it."""
+        return entry.size > IN_ENTRY and self.number(entry.last) + entry.size > self.size
 
     def value(self, entry: Entry) -> bytes:
         """The value of an entry; no bytes if the file doesn't contain all of it. Raises `Broken`."""

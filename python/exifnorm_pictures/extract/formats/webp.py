@@ -29,7 +29,7 @@ def read(stream: Stream, whole: bool = False) -> Blocks:
     size = size_of(stream)
     end = 8 + int.from_bytes(read_at(stream, 4, 4), "little")
     if end > size:
-        raise Broken("the file is shorter than its header says")
+        raise Broken("the file ends before its header says")
     at = 12
     while True:
         budget.spend(CHUNKS)

@@ -1,0 +1,25 @@
+"""What is known of a file that is cut off or damaged, and where to get what is missing."""
+
+from __future__ import annotations
+
+from typing import List
+
+from ..judge.reading import Reading
+from ..model.found import NAMES, damage
+from ..model.texts import Members
+
+REMEDY = "another copy of the file, as from a backup. What is missing can't be made of this one."
+
+
+def lines(reading: Reading) -> List[str]:
+    """What may be missing, and the remedy; nothing for a whole file."""
+    if not damage(reading.not_read):
+        return []
+    kinds = " and ".join(NAMES[kind] for kind in reading.not_known) or "further blocks"
+    what = f"cut off: {reading.damage}" if reading.damage else "damaged"
+    return [f"The file is {what}. What is missing may have {kinds}.", f"  Remedy: {REMEDY}"]
+
+
+def members(reading: Reading) -> Members:
+    """The remedy for a JSON object."""
+    return {"remedy": REMEDY if damage(reading.not_read) else None}

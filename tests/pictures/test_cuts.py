@@ -1,0 +1,136 @@
+"""Files that are cut off: no answer takes what may be behind the cut for removed, added, missing or the same, and each names the cut. Files of
+all formats are cut before, in and after each of their blocks, and compared with the whole ones in both directions."""
+
+import csv
+import io
+import json
+
+import pytest
+from made_blocks import ASCII, UNDEFINED, segment
+from made_boxes import XMP_UUID, PICTURE, Item, box, cr3, heif, item_exif, jp2, jxl, mime
+from made_files import A, K, SIX, T, app1, app1_xmp, chunk, jpeg, page, png, png_xmp, profile, raf, resource, tiff, webp, with_record
+from made_more_files import application, gif, gif_xmp, psd
+from made_raw import inner
+from studio import needs
+
+from exifnorm_pictures.model.results import Result
+
+IPTC_UUID = bytes.fromhex("33c7a4d2b81d4723a0baf1a3e097ad38")
+COMMENT = segment(0xFE, b"a comment of some length")
+PIXELS = box(b"jxlc", b"\xff\x0a" + bytes(20))
+PAGE = page((0x013B, ASCII, b"Anna\0"), (0x83BB, UNDEFINED, K), (0x02BC, 1, T))
+# Whole files by their names, and the bytes of each block that their format can have: a cut before the last of them loses the block
+FILES = {
+    "a.jpg": (jpeg(app1(A), with_record(K), app1_xmp(T), COMMENT), {"exif": app1(A), "iptc": with_record(K), "xmp": app1_xmp(T)}),
+    "b.jpg": (jpeg(COMMENT, app1_xmp(T), with_record(K), app1(A)), {"exif": app1(A), "iptc": with_record(K), "xmp": app1_xmp(T)}),
+    "a.png": (
+        png(chunk(b"eXIf", A), profile(b"iptc", K), png_xmp(T)),
+        {"exif": chunk(b"eXIf", A), "iptc": profile(b"iptc", K), "xmp": png_xmp(T)},
+    ),
+    "a.webp": (webp((b"VP8 ", bytes(10)), (b"EXIF", A), (b"XMP ", T)), {"exif": A, "xmp": T}),
+    "a.gif": (gif(application(b"MGKIPTC0000", K), gif_xmp(T)), {"iptc": application(b"MGKIPTC0000", K), "xmp": gif_xmp(T)}),
+    "a.psd": (psd(resource(0x0404, K), resource(0x0422, A), resource(0x0424, T)), {"exif": A, "iptc": K, "xmp": T}),
+    "a.tif": (tiff(PAGE), {"iptc": K, "xmp": T}),
+    "a.heic": (heif(PICTURE, Item(b"Exif", item_exif(A), describes=(1,)), mime(T, (1,))), {"exif": A, "xmp": T}),
+    "a.cr3": (cr3(box(b"CMT1", A), packet=T), {"exif": A, "xmp": T}),
+    "a.jxl": (jxl(box(b"Exif", bytes(4) + A), box(b"xml ", T)), {"exif": A, "xmp": T}),
+    "b.jxl": (jxl(PIXELS, box(b"Exif", bytes(4) + A), box(b"xml ", T), pixels=b""), {"exif": A, "xmp": T}),
+    "a.jp2": (
+        jp2(box(b"uuid", b"JpgTiffExif->JP2", SIX + A), box(b"uuid", IPTC_UUID, K), box(b"uuid", XMP_UUID, T)),
+        {"exif": A, "iptc": K, "xmp": T},
+    ),
+    "a.raf": (raf(inner(b"Anna"), pixels=b"\x77" * 50), {"exif": b"Anna\0", "xmp": b"<?xpacket end='w'?>"}),
+}
+HEADERS = {"b.jxl": 8}  # bytes of a box's header after a whole picture: a cut in one leaves a whole file and a trailer of some bytes
+
+
+def cuts(name):
+    """Where a file is cut: before, in and after each of its blocks, and elsewhere."""
+    octets, blocks = FILES[name]
+    places = {len(octets) * part // 5 for part in range(1, 5)} | {len(octets) - 1}
+    for data in blocks.values():
+        start = octets.index(data)
+        places |= {start, start + 5, start + len(data) // 2, start + len(data) - 1, start + len(data)}
+    return sorted(place for place in places if 30 < place < len(octets) and not looks_whole(name, place))
+
+
+def looks_whole(name, place):
+    """Whether what is left is a whole picture, after which nothing is known to be missing."""
+    octets, at = FILES[name][0], 0
+    while name in HEADERS and at < len(octets):
+        if at > 50 and at <= place < at + HEADERS[name]:
+            return True
+        at += int.from_bytes(octets[at : at + 4], "big")
+    return False
+
+
+def lost(name, place):
+    """The kinds of which a block isn't wholly before a place."""
+    octets, blocks = FILES[name]
+    return [kind for kind, data in blocks.items() if octets.index(data) + len(data) > place]
+
+
+CASES = {f"{place:05}-{name}": (name, place) for name in FILES for place in cuts(name)}
+OPEN = ("not known", "refused", "unreadable", "the same after repair")
+
+
+@pytest.fixture(scope="module")
+def archives(session_folder):
+    """Two folders with the whole files and the cut ones, and catalogues of them without digests of pictures."""
+    from exifnorm_pictures.cli import main
+
+    top = session_folder / "cuts"
+    for side in ("before", "after"):
+        (top / side).mkdir(parents=True)
+    for case, (name, place) in CASES.items():
+        octets = FILES[name][0]
+        (top / "before" / case).write_bytes(octets)
+        (top / "after" / case).write_bytes(octets[:place])
+    for side in ("before", "after"):
+        main._run(["index", str(top / side), "--catalogue", str(top / f"{side}.catalogue"), "--quiet"])
+    return top
+
+
+@pytest.fixture
+def asked(archives, called, monkeypatch):
+    """Runs a command beside the catalogues: its status, and its lines."""
+    monkeypatch.chdir(archives)
+
+    def call(*words):
+        status, printed, _ = called(*words)
+        return status, printed.splitlines()
+
+    return call
+
+
+def check(checks, case, found, side):
+    """What is said of a whole file and a cut one, which is on this side."""
+    name, place = CASES[case]
+    kinds = found["kinds"]
+    checks.equal(f"{case}: has changed", Result(found["result"]).has_changed in (None, False), True)
+    checks.equal(f"{case}: is open", Result(found["result"]).has_changed is None or not lost(name, place), True)
+    for kind in lost(name, place) if kinds else ():
+        checks.equal(f"{case}: {kind}", kinds[kind] in OPEN, True)
+    gone = [it["name"] for it in found["fields"] if it[side] is None]
+    checks.equal(f"{case}: fields that are said to be missing", gone, [])
+    if kinds and lost(name, place):
+        checks.equal(f"{case}: the cut is named once in {found['note']}", found["note"].count("the file ends "), 1)
+
+
+@needs("exiftool", "exiv2")
+@pytest.mark.parametrize("side", ["after", "before"], ids=["cut later", "cut before"])
+def test_changed(asked, checks, side):
+    words = ["changed", *("before.catalogue", "after.catalogue")[:: 1 if side == "after" else -1], "--no-exiftool"]
+    status, lines = asked(*words, "--all", "--json")
+    objects = [json.loads(it) for it in lines]
+    found = {it["path"]: it for it in objects if "path" in it}
+    assert status == 2 and found.keys() == CASES.keys()
+    for case, it in found.items():
+        check(checks, case, it, side)
+    rows = {row["picture"]: row for row in csv.DictReader(io.StringIO("\n".join(asked(*words, "--all", "--csv")[1])))}
+    text = "\n".join(asked(*words, "--all")[1])
+    for case, it in found.items():
+        checks.equal(f"{case}: a table", (rows[case]["result"], rows[case]["note"] or None), (it["result"], it["note"]))
+        checks.equal(f"{case}: text", f"{case}: {it['result']}" + (f" ({it['note']})" if it["note"] else "") in text, True)
+    summary = "\n".join(asked(*words)[1])
+    assert "removed" not in summary and "added" not in summary and "none changed" not in summary, summary
