@@ -7,7 +7,7 @@
 #   make wheel                            a Python wheel with the library, in out/wheel
 #   make wasm                             the library as WebAssembly, in out/wasm
 #   make npm                              a JavaScript package with it, in out/npm
-#   make page                             a web page with it, in out/page
+#   make page                             a web page with it, in out/page and docs/exifnorm.html
 #   make c-source                         the library as C source for other machines, in out/c
 #   make sdist                            the Python packages as source, which compile it, in out/sdist
 #   make aarch64                          the program and libexifnorm for aarch64 Linux, proved for it, in out/aarch64
@@ -201,6 +201,7 @@ page: wasm
 	rm -f out/page/*.html
 	python3 packaging/page.py out/wasm/exifnorm.wasm out/page/exifnorm-$(VERSION).html
 	@python3 build/guard.py out/page/exifnorm-$(VERSION).html
+	cp out/page/exifnorm-$(VERSION).html docs/exifnorm.html
 
 c-source: $(proved)
 	@python3 packaging/c_source.py $(VERSION) $(epoch) out/c

@@ -643,6 +643,12 @@ def test_the_same_sources_make_the_same_page(wasm, file):
     assert page.page(octets).encode() == file.read_bytes()
 
 
+def test_the_page_in_docs_is_made_of_these_sources(file):
+    if guard.refused(file):
+        pytest.skip("the library is not proved")
+    assert (TOP / "docs/exifnorm.html").read_bytes() == file.read_bytes(), "docs/exifnorm.html is not of these sources: call `make page`"
+
+
 @pytest.mark.parametrize("module, is_refused", [(b"1.0.0", False), (b"1.0.0-unproved", True)])
 def test_a_page_without_proofs_is_refused(folder, module, is_refused):
     (folder / "page.html").write_text(page.page(module), encoding="utf-8")
