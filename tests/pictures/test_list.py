@@ -301,6 +301,8 @@ def test_since(folder, called, asked, monkeypatch):
         (["--where", "(title = A"], ")"),
         (["--where", 'title = "A'], "quotes"),
         (["--where", "date created < spring"], "date"),
+        (["--where", "title == A"], "comparisons"),
+        (["--where", "title <> A"], "comparisons"),
         (["--where", ""], "empty"),
         (["--where", "(" * 200], "brackets"),
         (["--with", "nothing"], "labels are"),

@@ -20,6 +20,7 @@ from .labels import DATE, fields_by_label, label_of
 
 COMPARISONS = ("=", "!=", "has", "like", "<", "<=", ">", ">=")
 ORDERED = ("<", "<=", ">", ">=")
+_SIGNS = ("=", "!=", *ORDERED)
 DEEPEST = 20  # brackets and `not` inside each other, each of which takes places in the stack of SQLite's parser, of which it has 100
 LONGEST = 4000  # characters of a question
 LONGEST_PATTERN = 1000  # characters of `like`, with which SQLite may compare at each place of a text
@@ -258,6 +259,10 @@ class _Reader:
         if self._next.is_quoted:
             self._at += 1
             return self._tokens[first]
+        if self._next.word in _SIGNS:  # as in == and <>, which other programs have
+            self._fail(
+                self._next, f"expected: a value. The comparisons are {' '.join(COMPARISONS)}; a value that begins so stands in quotes"
+            )
         while self._next.word not in (*_JOINING, "(") and not self._next.is_quoted:
             self._at += 1
         tokens = self._tokens[first : self._at]
