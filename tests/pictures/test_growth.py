@@ -43,6 +43,7 @@ COMMANDS = {
     "captions": ["P", "C --json"],
     "list": ["C --without credit", "P --json --where title=x --jobs 1 --quiet", "C --count keywords"],
     "check": ["rules C --json"],
+    "nightly": ["P --catalogue nights --rules rules --jobs 1 --json"],
     "conflicts": ["P --all", "C --json"],
     "explain": ["A"],
     "report": ["--catalogue D --since C --html written.html"],
@@ -87,8 +88,9 @@ class Archive:
         """The counts of `index`, which makes the catalogues."""
         for side, catalogue in (("P", "C"), ("Q", "D")):
             work = self.run(f"index {side} --catalogue {catalogue} --quiet --jobs 1 --pixels --sidecars")
-        for name in ("kept", "moving"):
-            shutil.copy(self.folder / "C", self.folder / name)
+        for name, catalogue in (("kept", "C"), ("moving", "C"), ("nights", "D")):
+            shutil.copy(self.folder / catalogue, self.folder / name)
+        self.run("relocate nights Q P")  # all of P is changed since
         return work.out.decode().strip()
 
     def works(self, commands):

@@ -20,7 +20,7 @@ from made_files import app1_xmp, chunk, exif, page, png, tiff, title
 from studio import SMALL_JPEG, TOP, WithPictures, needs, read, tool, write
 
 from exifnorm_pictures.catalogue.store import Catalogue, NoCatalogue
-from exifnorm_pictures.cli import main, mend as mend_cli, report as report_cli, same
+from exifnorm_pictures.cli import main, mend as mend_cli, page_file, same
 from exifnorm_pictures.comparison import differing
 from exifnorm_pictures.extract import exiftool, programs
 from exifnorm_pictures.extract.formats import png as png_
@@ -259,7 +259,7 @@ class Printed(unittest.TestCase):
             (b" <!DOCTYPE html>", False),
             (b"", False),
         ):
-            self.assertEqual(report_cli._is_page(head), is_one, head)
+            self.assertEqual(page_file._is_page(head), is_one, head)
 
 
 class Pieces(unittest.TestCase):

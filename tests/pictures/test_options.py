@@ -29,6 +29,7 @@ COMMANDS = {
     "captions": LISTED,
     "list": ("p",),
     "check": ("rules", "p"),
+    "nightly": ("p", "--catalogue", "nights", "--html", "page"),
     "conflicts": LISTED,
     "explain": LISTED,
     "report": (*LISTED, "--catalogue", "c", "--html", "page"),

@@ -11,7 +11,7 @@ from ..fields.rules import AFTER, BEFORE, LENGTH, LIKE, NEEDS, NEVER, VALUES, Ru
 from ..model.records import has
 from .asking import IN_SCOPE, LEFT_OUT, NOTE_NOT_READ, OPEN
 from .kept_texts import Report, make_ready, say_nothing
-from .store import Catalogue
+from .store import Catalogue, root_of_row
 
 _DATED = "head GLOB '[0-9][0-9][0-9][0-9]*'"
 _LAST = "\U0010ffff"  # sorts after each other character
@@ -99,9 +99,16 @@ class Checked:
 
     def not_known(self) -> int:
         """How many of them were not wholly read, so that they may break further rules."""
+        return self._number(f"SELECT count(*) {self._unread()}", LEFT_OUT)
+
+    def paths_not_known(self) -> Iterator[bytes]:
+        """These pictures."""
+        yield from self._catalogue.rows(f"SELECT p.path {self._unread()}", LEFT_OUT, root_of_row)
+
+    def _unread(self) -> str:
         asks_for_private = any(label in PRIVATE for rule in self.rules for label in rule.labels)
         unread = f"({OPEN} OR {NOTE_NOT_READ})" if asks_for_private else OPEN
-        return self._number(f"SELECT count(*) FROM pictures p WHERE {IN_SCOPE} AND {unread}", LEFT_OUT)
+        return f"FROM pictures p WHERE {IN_SCOPE} AND {unread}"
 
     def _number(self, query: str, values: Sequence[object] = ()) -> int:
         return int(next(self._catalogue.rows(query, values))[0])

@@ -8,7 +8,7 @@ from itertools import groupby
 from typing import TYPE_CHECKING, Dict, List
 
 from ..catalogue.checking import Broken, Checked
-from ..fields.rules import MOST_WORDS, WrongRules, rules_of
+from ..fields.rules import MOST_WORDS, Rule, WrongRules, rules_of
 from ..files import opening, signals
 from ..model.texts import Members, escaped, path_members, shown_path
 from .exit_codes import DIFFERENCE, SUCCESS, UNKNOWN
@@ -29,9 +29,7 @@ def run(arguments: argparse.Namespace) -> int:
         refuse(arguments.command, "give the rules, and one catalogue or folder")
     source = arguments.source or arguments.catalogue
     refuse_for_catalogues(arguments, source)
-    rules = rules_of(_text_of(arguments.rules), lambda name: _words_of(os.path.join(os.path.dirname(arguments.rules), name)))
-    if not rules:
-        raise WrongRules(f"{escaped(arguments.rules)} has no rule")
+    rules = rules_of_file(arguments.rules)
     with catalogue_for_questions(source, arguments) as catalogue, catalogue.reading():
         checked = Checked(catalogue, rules, Preparing(arguments).report)
         table = table_of(arguments, ["picture", "line", "rule", "label", "text"])
@@ -45,6 +43,14 @@ def run(arguments: argparse.Namespace) -> int:
         _print_end(arguments, checked)
         status = DIFFERENCE if checked.rules_broken() else SUCCESS
         return UNKNOWN if checked.not_known() else status
+
+
+def rules_of_file(name: str) -> List[Rule]:
+    """The rules of a file, one at least. Raises `OSError` and `WrongRules`."""
+    rules = rules_of(_text_of(name), lambda words: _words_of(os.path.join(os.path.dirname(name), words)))
+    if not rules:
+        raise WrongRules(f"{escaped(name)} has no rule")
+    return rules
 
 
 def _text_of(name: str) -> str:

@@ -5,7 +5,6 @@ from __future__ import annotations
 import argparse
 import contextlib
 import os
-from datetime import datetime, timezone
 from typing import Iterator
 
 from ..catalogue.store import Catalogue
@@ -16,7 +15,7 @@ from ..model.texts import Members, escaped, path_members, shown_path
 from .changed_tables import field_members
 from .exit_codes import DIFFERENCE, SUCCESS, UNKNOWN
 from .objects import print_object
-from .output import print_line
+from .output import local_time, print_line
 
 
 def run(arguments: argparse.Namespace) -> int:
@@ -42,7 +41,7 @@ def _status(state: State) -> int:
 
 
 def _lines(state: State) -> Iterator[str]:
-    head = f"{_local(state.when)}  {escaped(state.catalogue)}: "
+    head = f"{local_time(state.when)}  {escaped(state.catalogue)}: "
     if state.comparison is None:
         yield head + (f"first seen as {shown_path(state.path)}" if state.path is not None else "not there")
         return
@@ -55,19 +54,6 @@ def _result(comparison: Compared, path: "bytes | None") -> str:
     to = f" to {shown_path(path)}" if comparison.moved_to is not None and path is not None else ""
     note = f" ({comparison.note})" if comparison.note else ""
     return ("gone" if path is None else comparison.result) + to + note
-
-
-def _local(when: str) -> str:
-    """A time of a catalogue in the local time zone.
-
-    >>> len(_local("2026-03-31T12:00:00Z"))
-    16
-    """
-    try:
-        moment = datetime.strptime(when, "%Y-%m-%dT%H:%M:%SZ").replace(tzinfo=timezone.utc)
-        return moment.astimezone().strftime("%Y-%m-%d %H:%M")
-    except (ValueError, OverflowError):
-        return "no time"
 
 
 def _members(state: State) -> Members:

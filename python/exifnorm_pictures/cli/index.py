@@ -5,12 +5,12 @@ from __future__ import annotations
 import argparse
 import os
 import shlex
-import shutil
 from collections import Counter
 from typing import Iterator, List, Sequence
 
-from ..catalogue.store import Catalogue, NoCatalogue, head_is_ours
-from ..files import atomic, signals
+from ..catalogue.nights import copy_over
+from ..catalogue.store import Catalogue, NoCatalogue
+from ..files import signals
 from ..model.errors import WrongUse
 from ..model.problems import COUNTED, NOT_READABLE
 from ..model.records import AS_BEFORE
@@ -28,13 +28,11 @@ class NoSidecars(WrongUse):
     """A catalogue can't have XMP sidecars."""
 
 
-def _check_sidecars(arguments: argparse.Namespace, catalogue: Catalogue) -> None:
+def go_on_with_sidecars(arguments: argparse.Namespace, catalogue: Catalogue) -> None:
     """Goes on with XMP sidecars in a catalogue that has them. Raises `NoSidecars`."""
     if arguments.sidecars and not catalogue.has_sidecars() and not catalogue.is_empty():
         raise NoSidecars(f"{catalogue.name} was made without --sidecars: make a new catalogue")
     arguments.sidecars = arguments.sidecars or catalogue.has_sidecars()
-    if arguments.sidecars and arguments.scheduler:
-        raise NoSidecars("XMP sidecars are read here only, not on the workers of a cluster: leave out --scheduler")
 
 
 class NoScheduler(WrongUse):
@@ -56,8 +54,10 @@ def run(arguments: argparse.Namespace) -> int:
         raise NothingThere(f"there is no folder or file {', '.join(map(shown_path, names))}")
     with Catalogue(arguments.catalogue, make=True) as catalogue:
         if arguments.keep_old:
-            keep_old(catalogue, arguments.keep_old, arguments.session.room)
-        _check_sidecars(arguments, catalogue)
+            copy_over(catalogue, arguments.keep_old, arguments.session.room)
+        go_on_with_sidecars(arguments, catalogue)
+        if arguments.sidecars and arguments.scheduler:
+            raise NoSidecars("XMP sidecars are read here only, not on the workers of a cluster: leave out --scheduler")
         arguments.pixels = arguments.pixels or catalogue.has_digests()  # of the pictures that changed, too
         lines = objects.record_lines if arguments.json else None if arguments.quiet else record_lines
         excluded = Excluded(arguments.exclude)
@@ -135,15 +135,3 @@ def _parts(catalogue: Catalogue) -> List[str]:
         return []
     head = f"{len(pictures):,} picture{'s' * (len(pictures) > 1)} not wholly read; they are the same as others only where these parts have the same bytes:"
     return [head, *(f"  {count:>6,}  {what}" for what, count in kinds.most_common(12)), *["  .."] * (len(kinds) > 12)]
-
-
-def keep_old(catalogue: Catalogue, name: str, room: str) -> None:
-    """Copies a catalogue to a new file or over an earlier copy. Raises `NotReplaced` for any other file."""
-    copy = os.path.join(room, "old")
-    catalogue.copy_to(copy)
-    with open(copy, "rb") as source:
-        try:
-            atomic.replace(os.fsencode(name), lambda file: shutil.copyfileobj(source, file), head_is_ours, (catalogue.name,))
-        except atomic.NotReplaced as error:
-            raise atomic.NotReplaced(atomic.not_written(name, error)) from None
-    os.unlink(copy)

@@ -19,6 +19,7 @@ _VERSIONS = {
     "history": 1,
     "index": 1,
     "list": 1,
+    "nightly": 1,
     "relocate": 1,
     "same": 1,
     "show": 1,

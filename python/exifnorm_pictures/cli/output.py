@@ -6,6 +6,7 @@ import json
 import re
 import shutil
 import sys
+from datetime import datetime, timezone
 from typing import TYPE_CHECKING, List, Optional, Sequence
 
 from ..model.found import damage
@@ -101,3 +102,16 @@ def block_members(block: Block) -> Members:
         "place": block.place,
     }
     return {**{name: value for name, value in known.items() if value is not None}, "length": block.length}
+
+
+def local_time(when: str) -> str:
+    """A time of a catalogue in the local time zone.
+
+    >>> len(local_time("2026-03-31T12:00:00Z"))
+    16
+    """
+    try:
+        moment = datetime.strptime(when, "%Y-%m-%dT%H:%M:%SZ").replace(tzinfo=timezone.utc)
+        return moment.astimezone().strftime("%Y-%m-%d %H:%M")
+    except (ValueError, OverflowError):
+        return "no time"

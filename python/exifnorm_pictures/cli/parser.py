@@ -21,8 +21,8 @@ _STATUSES = """Statuses:
        repair, was moved or is missing; same: MakerNotes of a group differ in
        bytes; verify: a file is damaged, missing or has another picture;
        conflicts: a picture contradicts itself; check: a rule is broken;
-       relocate: a file isn't there, or has another size or time; mend: the
-       copy differs in a printed value)
+       nightly: there is news; relocate: a file isn't there, or has another size
+       or time; mend: the copy differs in a printed value)
   2    it can't be decided wholly (changed, compare, history, show, captions,
        conflicts, explain: a block is refused or unreadable, a file is damaged,
        or a picture wasn't read; changed, compare, history: or a part of one
@@ -30,9 +30,10 @@ _STATUSES = """Statuses:
        or but for a MakerNote; same: or they may be so; list: pictures that
        weren't wholly read may fit; check: or may break a rule; index: a picture
        that should be readable isn't, or a program failed at it, and not so at
-       the last run; verify: a file can't be read, or has no digest; mend: no
-       remedy worked, the file is damaged, or the picture wasn't read)
-  3    bad arguments; index: no name leads to a folder or a file
+       the last run; nightly: what could be decided last night can't be, or a
+       folder isn't there; verify: a file can't be read, or has no digest; mend:
+       no remedy worked, the file is damaged, or the picture wasn't read)
+  3    bad arguments; index, nightly: no name leads to a folder or a file
   4    the command itself failed: the catalogue, a stream, an output file, the
        disk or the memory
   130  stopped by the keyboard; what was reported is kept
@@ -148,7 +149,7 @@ def parsers(only: Optional[str] = None) -> "Tuple[_Parser, Dict[str, _Parser]]":
             forms.add_argument("--xlsx", type=_name, metavar="FILE", help=words)
         forms.add_argument("--json", action="store_true", help="print one JSON object for each line")
         parser.add_argument("--debug", action="store_true", help="print the traceback of an internal error, as EXIFNORM_DEBUG=1 does")
-        if name not in ("merge", "compare", "history", "list", "check", "relocate"):
+        if name not in ("merge", "compare", "history", "list", "check", "nightly", "relocate"):
             parser.add_argument(
                 "--files-from", metavar="LIST", help="read names from the file LIST, - for standard input: one for each line"
             )
@@ -223,18 +224,9 @@ def _index_arguments(parser: argparse.ArgumentParser) -> None:
     parser.add_argument("folders", nargs="*", type=_name, metavar="FOLDER", help="a folder, with all below it, or a picture")
     parser.add_argument("--catalogue", required=True, type=_name, metavar="FILE", help="the catalogue; created if it is missing")
     parser.add_argument("--keep-old", type=_name, metavar="OLD", help="first copy the catalogue to OLD, for changed and report --since")
-    parser.add_argument(
-        "--exclude",
-        action="append",
-        default=[],
-        type=_name,
-        metavar="PATTERN",
-        help="pass over files and folders with this name or path below FOLDER; * and ? are wildcards",
-    )
+    parser.add_argument("--exclude", action="append", default=[], type=_name, metavar="PATTERN", help=_EXCLUDE)
     parser.add_argument("--again", action="store_true", help="look at all pictures, even if they haven't changed")
-    parser.add_argument(
-        "--maker-notes", action="store_true", help="also keep what ExifTool reads of MakerNotes, so that changed needs no earlier files"
-    )
+    parser.add_argument("--maker-notes", action="store_true", help=_MAKER_NOTES)
     _more_arguments(parser)
     parser.add_argument("--scheduler", metavar="tcp://HOST:PORT", help="look at the pictures on the workers of this Dask cluster")
     parser.add_argument("--elsewhere", type=_name, metavar="PATH", help="the path of FOLDER on the workers")
@@ -427,6 +419,30 @@ _RULES = """Rules:
   date created not after today"""
 
 
+def _nightly_arguments(parser: argparse.ArgumentParser) -> None:
+    _example(parser, "nightly /archive --catalogue my.catalogue --rules my.rules")
+    parser.description = f"{parser.description}\n\n{_NIGHTLY}"
+    parser.add_argument("folders", nargs="*", type=_name, metavar="FOLDER", help="a folder, with all below it")
+    words = (
+        "the catalogue of the last night; created if it is missing. Two more are kept beside it, with .before and .tonight in their names"
+    )
+    parser.add_argument("--catalogue", required=True, type=_name, metavar="FILE", help=words)
+    parser.add_argument("--rules", type=_name, metavar="RULES", help="a file of rules, as for check: what breaks one newly is news")
+    parser.add_argument("--html", type=_name, metavar="PAGE", help="if there is news, also write the report about it")
+    parser.add_argument("--exclude", action="append", default=[], type=_name, metavar="PATTERN", help=_EXCLUDE)
+    parser.add_argument("--maker-notes", action="store_true", help=_MAKER_NOTES)
+    _more_arguments(parser)
+    _looking_arguments(parser)
+    _jobs_argument(parser)
+
+
+_NIGHTLY = """Without news it prints nothing and ends with 0, for cron. A folder that is empty
+or gone is taken for a disk that isn't mounted: its pictures stay as known until
+it is back, or until forget."""
+_EXCLUDE = "pass over files and folders with this name or path below FOLDER; * and ? are wildcards"
+_MAKER_NOTES = "also keep what ExifTool reads of MakerNotes, so that changed needs no earlier files"
+
+
 def _conflicts_arguments(parser: argparse.ArgumentParser) -> None:
     _example(parser, "conflicts pictures")
     parser.set_defaults(block=False)
@@ -491,6 +507,7 @@ _COMMANDS: Tuple[Tuple[str, str, Callable[[argparse.ArgumentParser], None]], ...
     ("compare", "compare two pictures: what differs, side by side, in plain words", _compare_arguments),
     ("list", "list the pictures whose captions, names, keywords or rights fit a question", _list_arguments),
     ("check", "list the pictures that break your own rules", _check_arguments),
+    ("nightly", "look at an archive, and print a letter if there is news since the last night", _nightly_arguments),
     ("show", "print the fields of pictures", _show_arguments),
     ("captions", "print captions, names, keywords and rights of pictures, each with its fields", _captions_arguments),
     ("conflicts", "list pictures whose Exif, IPTC and XMP contradict each other", _conflicts_arguments),

@@ -55,6 +55,7 @@ class IndexOptions:
     excluded: Excluded = field(default_factory=Excluded)
     moved_line: Optional[Callable[[bytes, bytes, int], str]] = None  # makes one line for all pictures that moved with their folder
     lines: Optional[Lines] = None  # makes the lines about folders that can't be read and names without a file; that of `how` by default
+    own: Sequence[str] = ()  # files that aren't looked at, besides the catalogue's
 
 
 @dataclass
@@ -120,7 +121,8 @@ def _work(options: IndexOptions, catalogue: Catalogue) -> Work:
     if not first:
         work.unfinished.update(_unfinished(catalogue))
     sidecars = work.sidecars if options.how.sidecars else None
-    for file in below(options.names, work.unlisted.append, _own_files(catalogue.name), sidecars, options.excluded):
+    own = [path for name in (catalogue.name, *options.own) for path in _own_files(name)]
+    for file in below(options.names, work.unlisted.append, own, sidecars, options.excluded):
         if many:
             if file.path in named:
                 continue

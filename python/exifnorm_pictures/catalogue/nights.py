@@ -1,0 +1,157 @@
+"""The files of a nightly run. Of a catalogue `archive.catalogue` they are
+
+    archive.catalogue           what the last whole night has found; no other name is needed by other commands
+    archive.before.catalogue    the state with which the last letter compared it
+    archive.tonight.catalogue   what a run has found so far, while it works and after it was killed
+    archive.catalogue.lock      the lock, with what tonight's catalogue was made from
+
+A catalogue gets its name when it is whole and closed.
+"""
+
+from __future__ import annotations
+
+import contextlib
+import fcntl
+import os
+import shutil
+from typing import IO, Iterator, List, Optional, Tuple
+
+from ..files import atomic
+from ..model.errors import Failure
+from ..model.texts import shown_path
+from .store import Catalogue, head_is_ours
+
+_SQLITES = ("-wal", "-shm", "-journal")  # files that SQLite keeps beside a catalogue
+
+
+class NotAlone(Failure):
+    """Another run works on the catalogue, or has written to it meanwhile."""
+
+
+class Nights:
+    """The catalogues of an archive by night. Use it in a `with`, which holds the lock."""
+
+    def __init__(self, name: str, about: str) -> None:
+        """`about` says what the run looks at: a run that was killed is only gone on with if it looked at the same."""
+        self.last = os.path.realpath(name) if os.path.islink(name) else name  # a file that is replaced is the one that a link leads to
+        stem, ending = os.path.splitext(self.last)
+        self.before, self.tonight = f"{stem}.before{ending}", f"{stem}.tonight{ending}"
+        self._about = about
+        self._lock: Optional[IO[str]] = None
+        self._mark = ""
+
+    @property
+    def names(self) -> Tuple[str, ...]:
+        """The names of all files, also of those that SQLite makes."""
+        catalogues = (self.last, self.before, self.tonight)
+        return (*(name + ending for name in catalogues for ending in ("", *_SQLITES)), self._lock_name)
+
+    @property
+    def _lock_name(self) -> str:
+        return f"{self.last}.lock"
+
+    @property
+    def is_first(self) -> bool:
+        """Whether there was no night before."""
+        return not os.path.lexists(self.last)
+
+    def __enter__(self) -> "Nights":
+        # The lock is this process's own: one that it has started and that outlives it doesn't hold it, as it would with flock
+        file = open(self._lock_name, "a+", encoding="utf-8", errors="surrogateescape")
+        try:
+            fcntl.lockf(file, fcntl.LOCK_EX | fcntl.LOCK_NB)
+        except OSError:
+            file.close()
+            raise NotAlone(f"another nightly run works on {shown_path(self.last)}") from None
+        self._lock = file
+        return self
+
+    def __exit__(self, *_: object) -> None:
+        if self._lock:
+            self._lock.close()
+
+    def begin(self, room: str) -> None:
+        """Makes tonight's catalogue a copy of the last one, or goes on with that of a run that was killed."""
+        self._mark = f"{self._about}\n{_mark(self.last)}"
+        if os.path.lexists(self.tonight) and self._noted() == self._mark:
+            return
+        _refuse_others(self.tonight)
+        for ending in ("", *_SQLITES):
+            with contextlib.suppress(FileNotFoundError):
+                os.unlink(self.tonight + ending)
+        if not self.is_first:
+            with Catalogue(self.last) as catalogue:
+                copy_over(catalogue, self.tonight, room)
+        self._note(self._mark)
+
+    def keep(self, has_news: bool) -> None:
+        """Makes tonight's catalogue the last one, and with news the last one that of before. Raises `NotAlone`."""
+        if f"{self._about}\n{_mark(self.last)}" != self._mark:
+            raise NotAlone(f"{shown_path(self.last)} was written while the nightly run worked, so its results are not kept")
+        if os.path.lexists(f"{self.tonight}-wal"):
+            raise NotAlone(f"{shown_path(self.tonight)} is open in another program, so its results are not kept")
+        if has_news and not self.is_first:
+            _refuse_others(self.before)
+            self._replace_before()
+        os.replace(self.tonight, self.last)
+
+    def _replace_before(self) -> None:
+        """Gives the last catalogue a second name, so that it has one at each moment."""
+        beside = f"{self.before}.new"
+        with contextlib.suppress(FileNotFoundError):
+            os.unlink(beside)
+        try:
+            os.link(self.last, beside)
+        except OSError:  # a file system without links
+            shutil.copyfile(self.last, beside)
+        os.replace(beside, self.before)
+
+    def _noted(self) -> str:
+        assert self._lock
+        self._lock.seek(0)
+        return self._lock.read()
+
+    def _note(self, text: str) -> None:
+        assert self._lock
+        self._lock.truncate(0)
+        self._lock.write(text)
+        self._lock.flush()
+
+
+def _mark(name: str) -> Optional[List[int]]:
+    """What shows that a file was written or replaced; None if there is none."""
+    try:
+        now = os.stat(name)
+    except OSError:
+        return None
+    return [now.st_ino, now.st_size, now.st_mtime_ns]
+
+
+def _refuse_others(name: str) -> None:
+    """Raises `NotReplaced` if a name is that of a file which is no catalogue."""
+    if os.path.lexists(name) and not (os.path.isfile(name) and _is_ours(name)):
+        raise atomic.NotReplaced(atomic.not_written(shown_path(name), "it is there, and is a file of another kind"))
+
+
+def _is_ours(name: str) -> bool:
+    with open(name, "rb") as file:
+        head = file.read(100)
+    return not head or head_is_ours(head)
+
+
+def copy_over(catalogue: Catalogue, name: str, room: str) -> None:
+    """Copies a catalogue to a new file or over an earlier copy. Raises `NotReplaced` for any other file."""
+    with _copied(catalogue, room) as copy, open(copy, "rb") as source:
+        try:
+            atomic.replace(os.fsencode(name), lambda file: shutil.copyfileobj(source, file), head_is_ours, (catalogue.name,))
+        except atomic.NotReplaced as error:
+            raise atomic.NotReplaced(atomic.not_written(name, error)) from None
+
+
+@contextlib.contextmanager
+def _copied(catalogue: Catalogue, room: str) -> Iterator[str]:
+    """A copy of a catalogue in a temporary folder."""
+    copy = os.path.join(room, "old")
+    catalogue.copy_to(copy)
+    yield copy
+    os.unlink(copy)

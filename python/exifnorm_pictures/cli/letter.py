@@ -1,0 +1,139 @@
+"""The letter of `nightly`: what is new, on at most 30 lines of 80 columns."""
+
+from __future__ import annotations
+
+from itertools import groupby
+from typing import Iterator, List, Sequence
+
+from ..comparison.news import Kind, Named, News
+from ..model.texts import escaped, shown_path
+from .columns import width
+
+LINES, COLUMNS = 30, 80
+OF_KIND = 5  # lines of one kind of news
+
+# What is said of one picture, and of several; {} is what the news is about
+_WORDS = {
+    Kind.LOST: ("lost its {}", "lost their {}"),
+    Kind.POSITION: ("shows where it was taken", "show where they were taken"),
+    Kind.DAMAGED: ("is damaged", "are damaged"),
+    Kind.RULE: ("breaks {}", "break {}"),
+    Kind.OTHER_PICTURE: ("has another picture", "have another picture"),
+    Kind.UNREADABLE: ("can't be read", "can't be read"),
+    Kind.OPEN: ("can't be compared wholly", "can't be compared wholly"),
+    Kind.UNREAD: ("was not wholly read, and may break a rule", "were not wholly read, and may break a rule"),
+    Kind.CHANGED: ("has another {}", "have another {}"),
+    Kind.ADDED: ("now has a {}", "now have a {}"),
+    Kind.OTHER: ("has other fields changed", "have other fields changed"),
+    Kind.WRITTEN: ("was written to, and isn't read", "were written to, and aren't read"),
+    Kind.MOVED_FOLDER: ("moved with its folder", "moved with their folder"),
+    Kind.MOVED: ("moved", "moved"),
+    Kind.GONE: ("is gone", "are gone"),
+    Kind.NEW: ("is new", "are new"),
+    Kind.READABLE: ("can be read again", "can be read again"),
+}
+_PLURAL = {"keywords": "keywords", "instructions": "instructions", "usage terms": "usage terms"}  # which have no article
+
+
+def letter(head: str, news: Sequence[News], end: Sequence[str]) -> Iterator[str]:
+    """The lines: a head, the news, and what stands below them. If there are too many news, the last ones are counted."""
+    lines = [*_of_folders(news), *_of_pictures([it for it in news if it.kind not in _OF_FOLDERS])]
+    room = LINES - 3 - len(end)
+    yield cut(head)
+    yield from [""] * bool(lines)
+    yield from lines[: room if len(lines) <= room else room - 1]
+    if len(lines) > room:
+        yield f"  .. and {len(lines) - room + 1:,} more lines, which changed --each has"
+    if end:
+        yield ""
+        yield from end
+
+
+_OF_FOLDERS = (Kind.ABSENT, Kind.CLOSED)
+
+
+def _of_folders(news: Sequence[News]) -> Iterator[str]:
+    """A line for each folder that isn't there."""
+    for entry in news:
+        if entry.kind in _OF_FOLDERS:
+            why = "can't be read." if entry.kind == Kind.CLOSED else "is empty or gone (mounted?)."
+            kept = f" {why} Its {_pictures(entry.count)} stay{'s' * (entry.count == 1)} as known."
+            yield "  " + _from_behind(shown_path(entry.names[0].path), COLUMNS - 2 - len(kept)) + kept
+
+
+def _pictures(count: int) -> str:
+    return f"{count:,} picture{'s' * (count != 1)}"
+
+
+def _of_pictures(news: Sequence[News]) -> Iterator[str]:
+    """A line for each kind of news, with the first names for which it has room."""
+    digits = max([len(f"{it.count:,}") for it in news], default=0)
+    for _, group in groupby(news, lambda it: it.kind):
+        entries = list(group)
+        shown = entries if len(entries) <= OF_KIND else entries[: OF_KIND - 1]
+        for entry in shown:
+            count = 1 if entry.kind == Kind.MOVED_FOLDER else entry.count  # there are no further names of a folder
+            yield with_names(f"  {entry.count:>{digits},} {words_of(entry)}", [_name(it) for it in entry.names], count)
+        if len(shown) < len(entries):
+            yield f"  {'..':>{digits}} and {len(entries) - len(shown):,} more lines like these"
+
+
+def words_of(news: News) -> str:
+    """What is said of the pictures.
+
+    >>> words_of(News(Kind.LOST, "copyright", 3)), words_of(News(Kind.ADDED, "keywords", 1))
+    ('lost their copyright', 'now has keywords')
+    """
+    words = _WORDS[news.kind][news.count != 1]
+    if news.about in _PLURAL:
+        words = words.replace("a {}", "{}").replace("another {}", "other {}")
+    return words.format(escaped(news.about))
+
+
+def _name(named: Named) -> str:
+    return shown_path(named.path) + (f" to {shown_path(named.to)}" if named.to is not None else "")
+
+
+def with_names(text: str, names: Sequence[str], count: int) -> str:
+    """A text with as many names as a line has room for, one at least.
+
+    >>> with_names("  2 are new", ["a.jpg", "b.jpg"], 2), with_names("  9 are new", ["a.jpg"], 9)
+    ('  2 are new: a.jpg, b.jpg', '  9 are new: a.jpg ..')
+    """
+    if not names:
+        return cut(text)
+    text = cut(text, COLUMNS - 20)
+    first = _from_behind(names[0], COLUMNS - width(text) - 5)
+    shown = [first]
+    for name in names[1:]:
+        if width(f"{text}: {', '.join([*shown, name])} ..") > COLUMNS:
+            break
+        shown.append(name)
+    return f"{text}: {', '.join(shown)}{' ..' * (count > len(shown))}"
+
+
+def cut(text: str, columns: int = COLUMNS) -> str:
+    """The beginning of a text that is too long for a line."""
+    if width(text) <= columns:
+        return text
+    while width(text) > columns - 3:
+        text = text[:-1]
+    return f"{text} .."
+
+
+def _from_behind(text: str, columns: int) -> str:
+    """The end of a name that is too long for a line, which tells more than its beginning."""
+    if width(text) <= columns:
+        return text
+    while width(text) > columns - 2:
+        text = text[1:]
+    return f"..{text}"
+
+
+def command(before: str, last: str) -> List[str]:
+    """The command that shows all, in as few lines as have room for the names."""
+    words = "exifnorm-pictures changed --each"
+    for lines in ([f"All of it: {words} {before} {last}"], ["All of it:", f"  {words} {before} {last}"]):
+        if max(map(width, lines)) <= COLUMNS:
+            return lines
+    return ["All of it:", f"  {words} \\", f"  {before} \\", f"  {last}"]

@@ -1,0 +1,225 @@
+"""The command `nightly`: looks at an archive, and prints a letter about what is new since the last night; nothing if there is no news."""
+
+from __future__ import annotations
+
+import argparse
+import contextlib
+import os
+import shlex
+import sys
+from typing import List, Optional, Sequence, Tuple
+
+from ..catalogue import kept_texts
+from ..catalogue.checking import Checked
+from ..catalogue.nights import Nights
+from ..catalogue.store import Catalogue
+from ..comparison.coded import sentence_of_coded
+from ..comparison.news import Between, Kind, News, Tally
+from ..comparison.newly_broken import newly_broken, newly_unread
+from ..fields.rules import Rule
+from ..files import signals
+from ..model.problems import NOT_READABLE
+from ..model.records import Picture
+from ..model.texts import escaped, path_members, shown_path
+from ..scan.excluded import Excluded
+from ..scan.index import IndexOptions, index
+from .check import rules_of_file
+from .exit_codes import DIFFERENCE, SUCCESS, UNKNOWN
+from .index import NothingThere, go_on_with_sidecars
+from .letter import command, letter
+from .looking import how_of
+from .objects import print_object
+from .output import local_time, print_line
+from .page_file import write_page
+
+Broken = Optional[Tuple[int, int]]  # how many pictures break a rule tonight, and how many did at the last night
+
+
+class Night:
+    """A run, and what it has found."""
+
+    def __init__(self, arguments: argparse.Namespace, nights: Nights, folders: List[bytes], rules: Sequence[Rule]) -> None:
+        self.arguments, self.nights, self.folders, self.rules = arguments, nights, folders, rules
+        self.is_first = nights.is_first
+        self.excluded = Excluded(arguments.exclude)
+        self.closed: List[Picture] = []  # folders that can't be read
+        self.since = ""
+        self.pictures = self.with_news = 0
+        self.news: List[News] = []
+        self.broken: Broken = None
+        self.notes: List[str] = []
+
+    @property
+    def status(self) -> int:
+        """2 if something can't be decided that could be, 1 with news; all of a first night is new."""
+        if self.is_first:
+            return DIFFERENCE
+        return UNKNOWN if any(it.kind.is_open for it in self.news) else DIFFERENCE if self.news else SUCCESS
+
+    def look(self) -> None:
+        """Fills tonight's catalogue."""
+        session = self.arguments.session
+        with Catalogue(self.nights.tonight, make=True) as tonight:
+            go_on_with_sidecars(self.arguments, tonight)
+            self.arguments.pixels = self.arguments.pixels or tonight.has_digests()
+            quiet = not sys.stderr.isatty()
+            own = [*self.nights.names, *[self.arguments.html] * bool(self.arguments.html)]
+            how = how_of(self.arguments, session.room)
+            index(IndexOptions(self.folders, quiet=quiet, how=how, excluded=self.excluded, lines=self._note, own=own), tonight)
+
+    def _note(self, picture: Picture) -> List[str]:
+        self.closed.append(picture)
+        return []
+
+    def first(self) -> None:
+        """Counts what a first night has found. Raises `NothingThere` if that is nothing."""
+        if self.rules:
+            kept_texts.keep(self.nights.tonight)
+        with Catalogue(self.nights.tonight) as tonight:
+            tally = Tally()
+            query = f"SELECT path FROM pictures WHERE problem IN ({', '.join('?' * len(NOT_READABLE))}) ORDER BY path"
+            for (path,) in tonight.rows(query, NOT_READABLE):
+                tally.add(Kind.UNREADABLE, path)
+            self.pictures = int(next(tonight.rows("SELECT count(*) FROM pictures WHERE problem IS NOT 'NoPicture'"))[0])
+            if not self.pictures:
+                raise _no_picture(self.folders)
+            self.news = [it for it in tally.all()]
+            if self.rules:
+                self.broken = (Checked(tonight, self.rules).pictures_broken(), 0)
+
+    def compare(self) -> None:
+        """Finds the news since the last night."""
+        if self.rules:
+            kept_texts.keep(self.nights.tonight)
+        with Catalogue(self.nights.last) as last, Catalogue(self.nights.tonight, make=True) as tonight:
+            self.since = next(iter(reversed(last.runs())), ("",))[0]
+            between = Between(last, tonight, self.folders, self.arguments.session)
+            between.absent.hold(last, tonight)
+            self._add_closed(between, last)
+            if self.rules:
+                self._check(between, last, tonight)
+            self.news = between.tally.all()
+            self.pictures, self.with_news = between.pictures, between.with_news
+            self.notes = list(filter(None, [sentence_of_coded(between.coded, "--pixels")]))
+
+    def _add_closed(self, between: Between, last: Catalogue) -> None:
+        """The folders that can't be read. One that isn't there is absent."""
+        for folder in self.closed:
+            known = sum(1 for _ in last.below(folder.path))
+            if known:
+                kind = Kind.CLOSED if os.path.lexists(folder.path) else Kind.ABSENT
+                between.tally.add(kind, between.shown(folder.path), os.fsdecode(folder.path), count=known)
+
+    def _check(self, between: Between, last: Catalogue, tonight: Catalogue) -> None:
+        """What breaks a rule that didn't, by the same rules."""
+        with last.reading():
+            before, now = Checked(last, self.rules), Checked(tonight, self.rules)
+            for broken in newly_broken(before, now, between.moves):
+                rule = self.rules[broken.number]
+                between.tally.add(Kind.RULE, between.shown(broken.path), f"line {rule.line}: {rule.text}")
+            for path in newly_unread(before, now, between.moves):
+                between.tally.add(Kind.UNREAD, between.shown(path))
+            self.broken = (now.pictures_broken(), before.pictures_broken())
+
+
+def run(arguments: argparse.Namespace) -> int:
+    """Looks at the folders, tells what is new, and keeps tonight's catalogue as the last one."""
+    folders = list(dict.fromkeys(os.path.abspath(os.fsencode(it)) for it in arguments.folders))
+    for folder in folders:
+        if os.path.lexists(folder) and not os.path.isdir(folder):
+            raise NothingThere(f"{shown_path(folder)} is no folder")
+    if not any(map(os.path.isdir, folders)) and not os.path.lexists(arguments.catalogue):
+        raise _no_picture(folders)
+    if arguments.html:
+        from ..report.templating import environment  # which takes long to import
+
+        environment()  # which may be missing
+    rules = rules_of_file(arguments.rules) if arguments.rules else []
+    about = repr((folders, arguments.sidecars, arguments.pixels, arguments.maker_notes, arguments.exclude))
+    with Nights(arguments.catalogue, about) as nights:
+        nights.begin(arguments.session.room)
+        night = Night(arguments, nights, folders, rules)
+        night.look()
+        if night.is_first:
+            night.first()
+        else:
+            night.compare()
+        if night.status:
+            _tell(night)
+        nights.keep(bool(night.status))
+    return night.status
+
+
+def _no_picture(folders: Sequence[bytes]) -> NothingThere:
+    return NothingThere(f"no picture is below {', '.join(map(shown_path, folders))}: is the disk mounted?")
+
+
+def _tell(night: Night) -> None:
+    """Prints the letter and writes the page. All of it is told before tonight's catalogue becomes the last one: what a run that is killed hasn't
+    told is news tomorrow, too."""
+    if night.arguments.json:
+        _print_objects(night)
+    else:
+        for line in letter(_head(night), night.news, _end(night)):
+            print_line(line)
+    sys.stdout.flush()
+    for pattern in night.excluded.unused():
+        signals.say(f"exifnorm-pictures: note: --exclude {pattern} fits no file and no folder")
+    if night.arguments.html:
+        _write_page(night)
+
+
+def _write_page(night: Night) -> None:
+    from ..report import contents, rendering  # which take long to import
+
+    with contextlib.ExitStack() as open_:
+        tonight = open_.enter_context(Catalogue(night.nights.tonight))
+        last = None if night.is_first else open_.enter_context(Catalogue(night.nights.last))
+        about = contents.About(tonight, last, session=night.arguments.session)
+        text = rendering.page(contents.gather(about), "Pictures and their metadata", night.arguments.session)
+        write_page(night.arguments.html, text, night.nights.names)
+
+
+# The letter
+
+
+def _head(night: Night) -> str:
+    where = ", ".join(map(shown_path, night.folders)) if len(night.folders) > 1 else shown_path(os.path.basename(night.folders[0]) or b"/")
+    many = f"{night.pictures:,} picture{'s' * (night.pictures != 1)}"
+    if night.is_first:
+        return f"{where}, the first night: {many}"
+    return f"{where} since {local_time(night.since)}: {many}, {night.with_news:,} with news"
+
+
+def _end(night: Night) -> List[str]:
+    """The lines below the news."""
+    lines = []
+    if night.broken:
+        now, before = night.broken
+        many = f"{now:,} picture{'s break' if now != 1 else ' breaks'} a rule"
+        lines.append(f"{many}." if night.is_first else f"{many}, {before:,} last night.")
+    lines += night.notes
+    if not night.is_first:
+        words = [escaped(shlex.quote(name)) for name in (night.nights.before, night.nights.last)]
+        lines += command(*words)
+    return lines
+
+
+# JSON
+
+
+def _print_objects(night: Night) -> None:
+    for news in night.news:
+        pictures = [{**path_members(it.path), "to": None if it.to is None else path_members(it.to)} for it in news.names]
+        members = {"news": news.kind, "about": news.about or None, "is_open": news.kind.is_open, "count": news.count, "pictures": pictures}
+        print_object("nightly", "news", members)
+    now, before = night.broken or (None, None)
+    summary = {
+        "since": night.since or None,
+        "compared": night.pictures,
+        "with_news": night.with_news,
+        "broken_pictures": now,
+        "broken_pictures_before": None if night.is_first else before,
+        "notes": night.notes,
+    }
+    print_object("nightly", "summary", summary)

@@ -1,0 +1,442 @@
+"""`nightly`: a letter about what is new since the last night, and nothing if there is no news. What is new is known by what was done."""
+
+import itertools
+import json
+import os
+import random
+import re
+import shutil
+import subprocess
+import sys
+import unicodedata
+import zlib
+
+import pytest
+from made_files import app1, app1_xmp, app13, exif, jpeg, resource, xmp
+from studio import SMALL_JPEG, TOP, Studio, needs, put, read
+from test_list import record
+from test_nights import CUT, NEVER_WHOLE
+
+from exifnorm_pictures.cli import letter, nightly
+from exifnorm_pictures.comparison.news import Kind, Named, News
+
+PLACE = "<exif:GPSLatitude>47,30.0N</exif:GPSLatitude><exif:GPSLongitude>8,15.0E</exif:GPSLongitude>"
+HERE = app1_xmp(xmp(PLACE, "xmlns:exif='http://ns.adobe.com/exif/1.0/'"))
+NAMES = [f"{folder}/{number}.jpg" for folder in ("ceramics", "scans/old", "web") for number in range(4)]
+
+
+def picture(number, has_place=False, base=SMALL_JPEG, **texts):
+    """A picture with some texts, and a camera that no other picture has."""
+    return jpeg(app1(exif(b"%03d" % number)), app13(resource(0x0404, record(sorted(texts.items())))), *[HERE] * has_place, base=base)
+
+
+def aged(folder):
+    """Gives all files times of long ago, each its own: the system may give the inode of a file that is gone to a new one of the same size."""
+    for top, _, names in os.walk(os.fsencode(folder)):
+        for name in names:
+            path = os.path.join(top, name)
+            os.utime(path, ns=(10**18, 10**18 + zlib.crc32(read(path))))
+
+
+@pytest.fixture
+def night(called):
+    """Runs a night: its status, and the number of pictures of each kind of news by what it is about."""
+
+    def run(*words):
+        status, printed, messages = called("nightly", "p", "--catalogue", "c.catalogue", "--json", *words)
+        assert (status == 0) == (printed + messages == ""), (status, printed, messages)
+        *news, summary = map(json.loads, printed.splitlines()) if printed else [None]
+        return status, {(it["news"], it["about"]): it["count"] for it in news}, summary
+
+    return run
+
+
+@pytest.fixture
+def archive(folder):
+    put(folder / "p", {name: picture(number, title=f"{number}", credit="Museum") for number, name in enumerate(NAMES)})
+    aged(folder / "p")
+    return folder / "p"
+
+
+# Nights
+
+
+def nothing(pictures):
+    return {}
+
+
+def lose(pictures):
+    put(pictures, {"web/0.jpg": picture(8, credit="Museum"), "web/1.jpg": picture(9, True, title="9", credit="Museum")})
+    return {("text lost", "title"): 1, ("position", None): 1}
+
+
+def move(pictures):
+    os.rename(pictures / "scans/old", pictures / "scans/older")
+    shutil.copy(pictures / "ceramics/0.jpg", pictures / "new.jpg")
+    return {("folder moved", f"{pictures}/scans/old {pictures}/scans/older"): 4, ("new", None): 1}
+
+
+def another_raw(pictures):
+    (pictures / "5.orf").write_bytes(CUT + b"\5")
+    (pictures / "0.orf").write_bytes(CUT + b"\6")
+    return {("not readable", None): 1, ("other bytes", None): 1}
+
+
+NIGHTS = ((nothing, 0), (lose, 1), (nothing, 0), (move, 1), (another_raw, 2), (nothing, 0))
+
+
+@needs("exiftool", "exiv2")
+def test_nights(archive, night):
+    """Over an archive with files that exiv2 can't read and a CR3 that is never wholly read."""
+    put(archive, {**{f"{number}.orf": CUT + bytes([number]) for number in range(5)}, "a.cr3": NEVER_WHOLE, "notes.txt": b"no picture"})
+    aged(archive)
+    status, news, summary = night()
+    assert (status, news, summary["compared"]) == (1, {("not readable", None): 5}, 18)
+    for number, (happens, expected) in enumerate(NIGHTS):
+        done = happens(archive)
+        (archive / "notes.txt").write_bytes(b"other notes %d" % number)
+        assert night()[:2] == (expected, done), (number, happens.__name__)
+
+
+CREDITS = ("Museum", "Agency", None)
+RULES = {None: "line 1: every picture needs credit", "Agency": "line 2: credit is Museum"}  # what breaks each
+
+
+@pytest.mark.parametrize("seed", range(4))
+def test_what_is_new(seed, archive, night):
+    """Drawn pictures get other texts, positions, names, or go; the credit also breaks a rule."""
+    rng = random.Random(seed)
+    (archive.parent / "rules").write_text("every picture needs credit\ncredit is Museum\n")
+    numbers = itertools.count(100)
+    pictures = {name: [number, False, {"title": "1", "credit": rng.choice(CREDITS)}] for number, name in enumerate(NAMES)}
+
+    def write():
+        shutil.rmtree(archive)
+        texts = {name: {label: text for label, text in it[2].items() if text} for name, it in pictures.items()}
+        put(archive, {name: picture(it[0], it[1], **texts[name]) for name, it in pictures.items()})
+        put(archive, {f"{os.path.dirname(name)}/notes.txt": b"so that no folder is empty" for name in NAMES})
+        aged(archive)
+
+    write()
+    night("--rules", "rules")
+    for _ in range(3):
+        expected = {}
+
+        def tell(kind, about=None):
+            expected[kind, about] = expected.get((kind, about), 0) + 1
+
+        for name in rng.sample(sorted(pictures), 4):
+            number, has_place, texts = pictures[name]
+            kind = rng.choice(("credit", "title", "place", "move", "go", "come"))
+            if kind == "credit":
+                was, now = texts["credit"], rng.choice(CREDITS)
+                if was != now:
+                    tell("text lost" if not now else "text changed" if was else "text added", "credit")
+                    if now in RULES:
+                        tell("rule broken", RULES[now])
+                pictures[name] = [number, has_place, {**texts, "credit": now}]
+            elif kind == "title":
+                pictures[name] = [number, has_place, {**texts, "title": texts["title"] + "x"}]
+                tell("text changed", "title")
+            elif kind == "place":
+                pictures[name] = [number, not has_place, texts]
+                tell(*(("text lost", "position") if has_place else ("position",)))
+            elif kind == "move":
+                pictures[f"moved{number}{name[-8:].replace('/', '')}"] = pictures.pop(name)
+                tell("moved")
+            elif kind == "go":
+                del pictures[name]
+                tell("gone")
+            else:
+                number = next(numbers)
+                pictures[f"ceramics/{number}.jpg"] = [number, True, {"title": "1", "credit": None}]
+                for news in (("new",), ("position",), ("rule broken", RULES[None])):
+                    tell(*news)
+        write()
+        status, news, summary = night("--rules", "rules")
+        breaking = sum(it[2]["credit"] != "Museum" for it in pictures.values())
+        assert (status, news) == (int(bool(expected)), expected)
+        assert not summary or (summary["broken_pictures"], summary["compared"]) == (
+            breaking,
+            len(pictures) + expected.get(("gone", None), 0),
+        )
+
+
+def test_a_rule_that_is_new_is_no_news(archive, night, folder):
+    """Nor is one that was broken before; both are counted in the next letter."""
+    (folder / "rules").write_text("every picture needs credit\n")
+    night("--rules", "rules")
+    (folder / "rules").write_text("every picture needs creator\n")
+    assert night("--rules", "rules")[0] == 0
+    put(archive, {"web/0.jpg": picture(8, title="other", credit="Museum")})
+    aged(archive)
+    status, news, summary = night("--rules", "rules")
+    assert (status, news) == (1, {("text changed", "title"): 1})
+    assert (summary["broken_pictures"], summary["broken_pictures_before"]) == (12, 12)
+
+
+def test_a_damaged_picture(archive, night):
+    """One that ends early, one that is another one now, and one of zeros."""
+    night("--pixels")
+    whole = {name: (archive / name).read_bytes() for name in ("web/0.jpg", "web/1.jpg", "web/2.jpg", "web/3.jpg")}
+    other = SMALL_JPEG.replace(b"\xff\xdb\0\x43\0", b"\xff\xdb\0\x43\1", 1)
+    # cut in its pixels, and in its head, so that nobody knows what it has lost
+    damaged = {"web/0.jpg": whole["web/0.jpg"][:-40], "web/1.jpg": whole["web/1.jpg"][:60], "web/2.jpg": bytes(3000)}
+    put(archive, {**damaged, "web/3.jpg": picture(11, title="11", credit="Museum", base=other)})
+    status, news, _ = night()
+    assert (status, news) == (1, {("damaged", None): 3, ("other picture", None): 1})
+    assert night()[0] == 0
+    put(archive, whole)
+    assert night()[:2] == (1, {("readable again", None): 2, ("new", None): 1, ("other picture", None): 1})
+
+
+# Disks
+
+
+@pytest.mark.parametrize("is_empty", [True, False])
+@pytest.mark.parametrize("name", ["", "web", "scans", "scans/old"])
+def test_a_disk_that_is_not_mounted(name, is_empty, archive, night, folder):
+    """It is one line each night. When it is back, what was edited meanwhile is news, and nothing else."""
+    night()
+    os.rename(archive / name, folder / "disk")
+    if is_empty:
+        (archive / name).mkdir()
+    known = sum(it.startswith(name) for it in NAMES)
+    absent = "scans" if name == "scans/old" else name  # the highest folder without a file
+    for _ in range(2):
+        assert night()[:2] == (2, {("folder not there", str(archive / absent)): known})
+    if is_empty:
+        (archive / name).rmdir()
+    os.rename(folder / "disk", archive / name)
+    edited = next(it for it in NAMES if it.startswith(name))
+    put(archive, {edited: picture(NAMES.index(edited), title="other", credit="Museum")})
+    aged(archive)
+    assert night()[:2] == (1, {("text changed", "title"): 1})
+
+
+def test_a_folder_that_was_removed(archive, night, called):
+    """It is told until it is forgotten. One of which a picture was found elsewhere was emptied by somebody."""
+    night()
+    os.rename(archive / "web/0.jpg", archive / "0.jpg")
+    shutil.rmtree(archive / "web")
+    shutil.rmtree(archive / "ceramics")
+    status, news, _ = night()
+    assert (status, news) == (2, {("folder not there", str(archive / "ceramics")): 4, ("moved", None): 1, ("gone", None): 3})
+    called("forget", str(archive / "ceramics"), "--catalogue", "c.catalogue")
+    assert night()[0] == 0
+
+
+# Runs that are killed, and others at the same time
+
+KILLED = """
+import os, signal, sys
+sys.argv, last = ["exifnorm-pictures"], int(sys.argv[1])
+from exifnorm_pictures.cli import main
+from exifnorm_pictures.scan import looking
+looking.FINE = 0
+calls = 0
+def count(*_):
+    global calls
+    calls += 1
+    if calls == last:
+        os.kill(os.getpid(), signal.SIGKILL)
+sys.setprofile(count)
+status = main.main(["nightly", "p", "--catalogue", "c.catalogue", "--jobs", "1", "--rules", "rules"])
+sys.setprofile(None)
+print(calls, file=sys.stderr)
+sys.exit(status)
+"""
+
+
+def run_until(folder, calls=0):
+    """A night in a process that is killed at a number of calls of functions: what it prints, and the calls of all of it."""
+    ran = subprocess.run([sys.executable, "-c", KILLED, str(calls)], cwd=folder, capture_output=True, env=Studio.environment())
+    assert ran.returncode in ((0, 1, 2) if not calls else (-9,)), ran.stderr
+    return ran.stdout.decode(), int(ran.stderr.split()[-1]) if not calls else 0
+
+
+@pytest.mark.parametrize("is_first", [True, False])
+def test_a_run_that_is_killed(is_first, archive, folder):
+    """At ten moments: the next night tells the same, unless the killed one has told all and kept it."""
+    (folder / "rules").write_text("every picture needs title\n")
+    if not is_first:
+        run_until(folder)
+        lose(archive)
+        os.rename(archive / "scans/old", archive / "scans/older")
+        shutil.rmtree(archive / "ceramics")
+        aged(archive)
+    start = folder.parent / f"{folder.name}-start"
+    shutil.copytree(folder, start)
+
+    def again():
+        shutil.rmtree(folder)
+        shutil.copytree(start, folder)
+
+    again()
+    expected, calls = run_until(folder)
+    assert expected.count("\n") > 1
+    for number in range(1, 11):
+        again()
+        told, _ = run_until(folder, calls * number // 11)
+        tomorrow, _ = run_until(folder)
+        assert tomorrow == expected or told == expected, (number, told, tomorrow)
+        assert not (folder / "c.tonight.catalogue").exists()
+
+
+def test_two_runs_at_once(archive, night, folder):
+    """The second one says so, and changes nothing; the lock of a run that was killed holds nobody up."""
+    night()
+    words = "import sys; from exifnorm_pictures.catalogue.nights import Nights; held = Nights('c.catalogue', '').__enter__(); print(flush=True); input()"
+    other = subprocess.Popen([sys.executable, "-c", words], cwd=folder, stdin=-1, stdout=-1, env=Studio.environment())
+    other.stdout.readline()
+    before = {name: (folder / name).read_bytes() for name in os.listdir(folder) if name != "p"}
+    lose(archive)
+    ran = subprocess.run(
+        [sys.executable, "-m", "exifnorm_pictures", "nightly", "p", "--catalogue", "c.catalogue"],
+        cwd=folder,
+        capture_output=True,
+        env=Studio.environment(),
+    )
+    assert (ran.returncode, ran.stdout) == (4, b"") and b"another nightly run" in ran.stderr
+    assert before == {name: (folder / name).read_bytes() for name in before}
+    other.kill()
+    other.communicate()
+    assert night()[0] == 1
+
+
+def test_a_catalogue_that_is_written_meanwhile(archive, night, called, monkeypatch):
+    """The results aren't kept in place of the other's; the next night tells them."""
+    night()
+    lose(archive)
+    put(archive.parent / "q", {"a.jpg": picture(77, title="1")})
+    tell = nightly._tell
+
+    def tell_meanwhile(found):
+        tell(found)
+        assert called("index", "q", "--catalogue", "c.catalogue", "--quiet")[0] == 0
+
+    monkeypatch.setattr(nightly, "_tell", tell_meanwhile)
+    assert called("nightly", "p", "--catalogue", "c.catalogue")[0] == 4
+    monkeypatch.undo()
+    monkeypatch.chdir(archive.parent)
+    assert night()[:2] == (1, {("text lost", "title"): 1, ("position", None): 1})
+
+
+# The letter, its page, and its files
+
+
+def width(text):
+    return sum(0 if unicodedata.combining(it) else 2 if unicodedata.east_asian_width(it) in "WF" else 1 for it in text)
+
+
+@pytest.mark.parametrize("seed", range(20))
+def test_a_letter_fits_a_page(seed):
+    """Whatever there is to tell: at most 30 lines of 80 columns, each kind of news with its count, and the number of lines that are left out."""
+    rng = random.Random(seed)
+    names = (b"a.jpg", b"x" * 200, "京都/".encode() * 30 + b".jpg", b"\xff\n\x1b" * 20, b"web/vase.jpg")
+    news = []
+    for kind in Kind:
+        for number in range(rng.choice((0, 1, 1, 3, 9, 60))):
+            named = [Named(rng.choice(names), rng.choice((None, *names))) for _ in range(rng.randrange(1, 4))]
+            about = rng.choice(("copyright", "line 3: " + "title like x " * 20, "京" * 90, ""))
+            news.append(News(kind, f"{about}{number}", rng.choice((1, 3, 200_000)), named))
+    printed = list(letter.letter("h" * rng.choice((10, 90)), news, ["end"] * rng.choice((0, 4))))
+    assert len(printed) <= 30 and max(map(width, printed)) <= 80, printed
+    assert all(it.isprintable() for it in printed)
+    if len(news) <= 3:
+        assert all(f"{it.count:,} " in "\n".join(printed) for it in news)
+
+
+def test_names_in_a_letter(archive, called, folder):
+    """What a registrar reads, with a name that is no UTF-8."""
+    called("nightly", "p", "--catalogue", "c.catalogue")
+    lose(archive)
+    put(os.fsencode(archive), {b"web/\xff.jpg": picture(10, title="10")})
+    aged(archive)
+    status, printed, _ = called("nightly", "p", "--catalogue", "c.catalogue", "--html", "p/page.html")
+    assert status == 1
+    lines = printed.splitlines()
+    assert lines[0].startswith("p since ") and lines[0].endswith(": 13 pictures, 3 with news")
+    assert lines[2:5] == [
+        "  1 lost its title: web/0.jpg",
+        "  1 shows where it was taken: web/1.jpg",
+        r"  1 is new: web/\xff.jpg",
+    ]
+    assert b"web/0.jpg" in (archive / "page.html").read_bytes()
+    _, after, _ = called(*printed.split("exifnorm-pictures ")[1].replace("\\\n", " ").split())
+    assert "web/0.jpg" in after and "web/1.jpg" in after
+    assert called("nightly", "p", "--catalogue", "c.catalogue", "--html", "p/page.html") == (0, "", "")
+
+
+def test_the_line_for_cron(archive, folder):
+    """That of RECIPES, in the shell and with the few variables that cron gives."""
+    with open(os.path.join(TOP, "docs", "RECIPES.md"), encoding="utf-8") as page:
+        line = re.search(r"^0 2 \* \* \* (exifnorm-pictures nightly .*)$", page.read(), re.M)[1]
+    (folder / "museum.rules").write_text("every picture needs credit\n")
+    for place, mine in (("/archive ", f"{archive} "), ("/var/lib/museum/", f"{folder}/"), ("/etc/", f"{folder}/")):
+        assert place in line
+        line = line.replace(place, mine)
+    environment = {
+        name: value for name, value in Studio.environment().items() if name in ("PATH", "PYTHONPATH", "EXIFNORM_LIBRARY", "TMPDIR")
+    }
+
+    def cron():
+        ran = subprocess.run(["/bin/sh", "-c", line], cwd="/", env={**environment, "HOME": "/nowhere"}, capture_output=True)
+        return ran.returncode, ran.stdout.decode().partition("\n")[0], ran.stderr
+
+    assert cron() == (1, "p, the first night: 12 pictures", b"")
+    assert cron() == (0, "", b"")
+    shutil.copy(archive / "web/0.jpg", archive / "web/4.jpg")
+    status, head, messages = cron()
+    assert (status, messages) == (1, b"") and head.endswith(": 13 pictures, 1 with news")
+
+
+def test_files_of_the_run_are_no_pictures(archive, called):
+    """The catalogue, what is kept beside it, and the page may lie in the archive."""
+    words = ("nightly", "p", "--catalogue", "p/c.catalogue", "--html", "p/page.html")
+    status, printed, _ = called(*words)
+    assert (status, printed.splitlines()[0]) == (1, "p, the first night: 12 pictures")
+    assert called(*words) == (0, "", "")
+    lose(archive)
+    aged(archive / "web")
+    assert called(*words)[0] == 1
+    assert called(*words) == (0, "", "")
+
+
+@pytest.mark.parametrize(
+    "words, files, expected, why",
+    [
+        (("nothing", "--catalogue", "c.catalogue"), {}, 3, "no picture"),
+        (("p/web/0.jpg", "--catalogue", "c.catalogue"), {}, 3, "no folder"),
+        (("p", "--catalogue", "c.catalogue", "--rules", "rules"), {"rules": b"credits neds x\n"}, 3, "line 1"),
+        (("p", "--catalogue", "none/c.catalogue"), {}, 4, "none"),
+        (("p", "--catalogue", "rules"), {"rules": b"credit is x\n"}, 4, "rules"),
+        (("p", "--catalogue", "c.catalogue"), {"c.tonight.catalogue": b"somebody's"}, 4, "c.tonight.catalogue"),
+        (("p", "--catalogue", "c.catalogue", "--html", "page"), {"page": b"somebody's"}, 4, "page"),
+    ],
+)
+def test_what_is_refused(words, files, expected, why, archive, called, folder):
+    """No file of another kind is written to, and no catalogue is made of a mistake."""
+    put(folder, files)
+    status, _, messages = called("nightly", *words)
+    assert status == expected and why in messages
+    assert all((folder / name).read_bytes() == octets for name, octets in files.items())
+    assert not (folder / "c.catalogue").exists()
+
+
+def test_a_file_of_another_kind_stays(archive, night, called, folder):
+    night()
+    lose(archive)
+    (folder / "c.before.catalogue").write_bytes(b"somebody's")
+    status, _, messages = called("nightly", "p", "--catalogue", "c.catalogue")
+    assert status == 4 and "c.before.catalogue" in messages
+    assert (folder / "c.before.catalogue").read_bytes() == b"somebody's"
+
+
+def test_sidecars_and_excluded_files(archive, night):
+    """A sidecar is part of its picture, and what is excluded is no news."""
+    night("--sidecars", "--exclude", "*.tmp.jpg", "--maker-notes")
+    put(archive, {"web/0.jpg.xmp": xmp("<dc:title>t</dc:title>"), "web/1.tmp.jpg": picture(11)})
+    aged(archive)
+    status, news, _ = night("--exclude", "*.tmp.jpg")
+    assert (status, news) == (1, {("text changed", "title"): 1})
