@@ -8,11 +8,13 @@ import json
 import multiprocessing
 import os
 import pickle
+import re
 import subprocess
 import sys
 from datetime import date, datetime, time, timedelta, timezone
 from fractions import Fraction
 from pathlib import Path
+from xml.etree import ElementTree
 
 import pytest
 from made_blocks import BLOCKS, with_exif
@@ -29,6 +31,7 @@ import exifnorm
 import exifnorm_pictures as pictures
 from exifnorm_pictures import many
 from exifnorm_pictures.extract import readers
+from exifnorm_pictures.fields import packing, xmp_types
 
 BEFORE, AFTER = (Path(TOP) / "samples" / it for it in ("before", "after"))
 BOWL = "ceramics/2003-12-bowl.jpg"
@@ -74,11 +77,18 @@ def test_values_of_xmp():
     assert found.find("XMP-xmpMM:DerivedFrom")[0].exact == '{dc:source="a"}'
 
 
-def without_groups(value):
-    """A value of exifnorm as ExifTool has it with -struct: lists, and names without a prefix in small letters."""
+def as_exiftool_prints(value):
+    """A value as ExifTool has it with -n: a fraction divided, a date with colons, and names of structures without prefixes in small letters."""
     if isinstance(value, dict):
-        return {name.partition(":")[2].casefold(): without_groups(it) for name, it in value.items()}
-    return [without_groups(it) for it in value] if isinstance(value, tuple) else value
+        return {name.partition(":")[2].casefold(): as_exiftool_prints(it) for name, it in value.items()}
+    if isinstance(value, tuple):
+        return [as_exiftool_prints(it) for it in value]
+    if isinstance(value, date):
+        text = value.isoformat(" ") if isinstance(value, datetime) else value.isoformat()
+        return text.replace("-", ":", 2).replace("250000", "25").replace("+00:00", "Z")
+    if isinstance(value, str):
+        return value.replace("-", ":") if re.fullmatch("[0-9]{4}-[0-9]{2}", value) else value  # a date without its day
+    return value if isinstance(value, bool) else pytest.approx(float(value))
 
 
 @needs("exiftool")
@@ -99,7 +109,119 @@ def test_structures_are_those_of_exiftool(tmp_path):
     for name, word in (*zip(*[("DerivedFrom", "History", "LocationCreated")] * 2), ("Regions", "RegionInfo")):
         (key,) = (it for it in ours.names if it.endswith(f":{name}"))
         expected = json.loads(json.dumps(theirs[word]), object_hook=lambda it: {one.casefold(): value for one, value in it.items()})
-        assert str(without_groups(ours[key])).replace("'", "") == str(expected).replace("'", ""), name
+        assert as_exiftool_prints(ours[key]) == expected, name
+
+
+WRITTEN = [
+    it.replace("~", " ")
+    for it in """
+-XMP-xmp:Rating=3.5 -XMP-xmp:CreateDate=2019:03:12~11:20:45.25+01:00 -XMP-xmp:ModifyDate=2019:03:12 -XMP-xmpRights:Marked=False
+-XMP-dc:Date=2019:03:12~11:20:45Z -XMP-dc:Date=2018:01:02 -XMP-photoshop:DateCreated=2019:03 -XMP-photoshop:Urgency=5 -XMP-tiff:Orientation=6
+-XMP-tiff:BitsPerSample=8 -XMP-tiff:BitsPerSample=16 -XMP-tiff:XResolution=72 -XMP-exif:ExposureTime=1/60 -XMP-exif:FNumber=2.8
+-XMP-exif:ISO=200 -XMP-exif:ExposureCompensation=-1/3 -XMP-exif:GPSAltitude=12.5 -XMP-tiff:WhitePoint=1/3 -XMP-tiff:WhitePoint=2/3
+-XMP-exif:Flash={Fired=True,Return=0,Mode=2,Function=False,RedEyeMode=False} -XMP-mwg-rs:RegionInfo={AppliedToDimensions={W=3,H=2.5}}
+-XMP-dc:Title=Vase -XMP-dc:Title-de=Krug -XMP-xmp:Label=6
+""".split()
+]
+OTHER_NAMES = {
+    "ISOSpeedRatings": "ISO",
+    "ExposureBiasValue": "ExposureCompensation",
+    "Regions": "RegionInfo",
+}
+
+
+@needs("exiftool")
+def test_values_of_xmp_are_those_of_exiftool(tmp_path):
+    """By the types that the standards give to properties. A text that looks like a number stays one."""
+    (tmp_path / "a.jpg").write_bytes(jpeg())
+    subprocess.run(["exiftool", "-q", "-config", "", "-n", "-overwrite_original", *WRITTEN, tmp_path / "a.jpg"], check=True)
+    ask = ["exiftool", "-q", "-config", "", "-json", "-struct", "-n", "-XMP:all", "-x", "XMPToolkit", tmp_path / "a.jpg"]
+    (theirs,) = json.loads(
+        subprocess.run(ask, stdout=subprocess.PIPE, check=True).stdout,
+        object_pairs_hook=lambda pairs: {
+            name if name[:5] == "Title" or name == "SourceFile" else name.casefold(): it for name, it in pairs
+        },
+    )
+    ours = pictures.read(tmp_path / "a.jpg")
+    assert (theirs.pop("Title"), theirs.pop("Title-de")) == ("Vase", "Krug") and ours["XMP-dc:title"] == "Vase"
+    assert ours.find("XMP-dc:title")[0].languages == {"x-default": "Vase", "de": "Krug"} and ours["XMP-xmp:Label"] == "6"
+    names = [it for it in ours.names if it not in ("XMP-dc:title", "XMP-xmp:Label")]
+    assert len(names) == len(theirs) - 2, "all but the name of the file and the label"
+    for name in names:
+        word = name.rpartition(":")[2]
+        assert as_exiftool_prints(ours[name]) == theirs[OTHER_NAMES.get(word, word).casefold()], name
+    assert isinstance(ours["XMP-exif:ExposureTime"], Fraction) and ours["XMP-exif:Flash"]["exif:Fired"] is True
+
+
+@needs("exiftool")
+def test_types_of_xmp_are_those_of_exiftool():
+    """Of each property of a namespace, but for two: ExifTool has a word for each LightSource, and a number for a text of CIPA DC-010."""
+    groups = [f"-XMP-{it}:all" for it in ("exif", "tiff", "exifEX", "xmp", "xmpRights", "xmpMM", "xmpTPg", "dc", "photoshop")]
+    listed = ElementTree.fromstring(subprocess.run(["exiftool", "-config", "", "-listx", "-f", *groups], stdout=subprocess.PIPE).stdout)
+    theirs = {
+        f"{table.get('g1')[4:]}:{tag.get('id')}": tag.get("type").title()
+        for table in listed.iter("table")
+        if f"-{table.get('g1')}:all" in groups
+        for tag in table.iter("tag")
+        if not {"Flattened", "Avoid"} & set((tag.get("flags") or "").split(","))
+    }
+    typed = {name: kind for name, kind in theirs.items() if kind in ("Integer", "Real", "Rational", "Boolean", "Date")}
+    assert typed.pop("exif:GPSMeasureMode") == "Integer" and typed.setdefault("exif:LightSource", "Integer")
+    assert {name: xmp_types.TYPES.get(name) for name in typed} == typed
+    assert not [name for name in xmp_types.TYPES if name in theirs and name not in typed], "texts by ExifTool"
+
+
+OTHER_FORMS = {
+    "xmp:Rating": ["", "3,5", "1e3", "nan", "inf", "٣", "1" * 400],
+    "tiff:Orientation": ["", "6.0", " 6", "1_0", "٣", "0x6", "1" * 5000],
+    "exif:ExposureTime": ["0.5", "1/", "/60", "1/60 s", "1/2/3"],
+    "xmpRights:Marked": ["", "yes", "1"],
+    "xmp:CreateDate": [
+        "2019",
+        "2019-03",
+        "2019-13-01",
+        "2019-02-30",
+        "2019-03-12T24:00",
+        "2019-03-12T11:20:61Z",
+        "2019:03:12",
+        "2019-03-12T11:20+25:00",
+    ],
+}
+
+
+@pytest.mark.parametrize("name", OTHER_FORMS)
+def test_another_form_of_xmp_stays_a_text(name):
+    assert [xmp_types.object_of(name, text) for text in OTHER_FORMS[name]] == OTHER_FORMS[name]
+
+
+def test_forms_of_xmp():
+    cases = [
+        ("exif:ExposureTime", "1/0", None),
+        ("exif:ExposureTime", "-1/3", Fraction(-1, 3)),
+        ("xmp:Rating", "-1", -1.0),
+        ("xmp:Rating", ".5", 0.5),
+    ]
+    cases += [("xmpRights:Marked", "true", True), ("tiff:Orientation", "+6", 6), ("xmp:CreateDate", "0001-01-01", date(1, 1, 1))]
+    cases += [("xmp:CreateDate", "2019-03-12T11:20", datetime(2019, 3, 12, 11, 20))]
+    cases += [
+        ("xmp:CreateDate", "2019-03-12T11:20:45-03:30", datetime(2019, 3, 12, 11, 20, 45, tzinfo=timezone(-timedelta(hours=3, minutes=30))))
+    ]
+    for name, text, value in cases:
+        found = xmp_types.object_of(name, text)
+        assert (found, type(found)) == (value, type(value)), (name, text)
+
+
+def test_a_long_structure_has_a_value(tmp_path):
+    """Of more than 400 characters, which a catalogue keeps by their digest."""
+    words = [f"{number}" * 50 for number in range(20)]
+    fields = "".join(f"<dc:source{number}>{word}</dc:source{number}>" for number, word in enumerate(words))
+    structure = f"<xmpMM:DerivedFrom xmlns:xmpMM='http://ns.adobe.com/xap/1.0/mm/' rdf:parseType='Resource'>{fields}</xmpMM:DerivedFrom>"
+    (tmp_path / "a.jpg").write_bytes(jpeg(app1_xmp(xmp(structure))))
+    field, again = pictures.read(tmp_path / "a.jpg").find("DerivedFrom")[0], pictures.read(tmp_path / "a.jpg").find("DerivedFrom")[0]
+    assert field.value == {f"dc:source{number}": word for number, word in enumerate(words)}
+    assert pickle.loads(pickle.dumps(field)).value == field.value and "sha256:" in field.exact
+    (kept,) = packing.unpacked(packing.packed([field]).octets)
+    assert field == again == kept and hash(field) == hash(kept) and kept.exact == field.exact and kept.value is None
 
 
 @needs("exiftool")

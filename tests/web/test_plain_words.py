@@ -12,8 +12,6 @@ import exifnorm
 from commands import TOP
 from exifnorm_pictures.fields import names
 from exifnorm_pictures.fields.normal_form import fields_of_form
-from exifnorm_pictures.fields.plain_names import group_name
-from exifnorm_pictures.fields.plain_values import plain
 from kinds import small_kinds
 from meanings import ASCII, NOT_PLAIN, RATIONAL, TYPES, UNDEFINED, Exif, Layout, Value, laid
 
@@ -121,7 +119,7 @@ def test_names_and_values(blocks, node, folder, checks):
     answer = json.loads(node("plain.mjs", "tables", "listings", folder=folder))
     count = 0
     for block, found in zip(blocks, answer["fields"]):
-        expected = [(field, [group_name(field.where, field.key), plain(field)]) for field in fields_of_form(exifnorm.normal(block))]
+        expected = [(field, [field.name, field.text]) for field in fields_of_form(exifnorm.normal(block))]
         assert len(found) == len(expected)
         for row, (field, due) in zip(found, expected):
             count += 1

@@ -2,7 +2,7 @@
 
 from __future__ import annotations
 
-from typing import TYPE_CHECKING, Any, NoReturn, Tuple, Union
+from typing import TYPE_CHECKING, Any, Dict, NoReturn, Tuple, Union
 
 from ..model.found import EXIF, NAMES
 from ..model.xmp_values import Long, XmpValue
@@ -27,9 +27,10 @@ class Field:
     - RATIONAL and SRATIONAL: Fraction; None if the denominator is 0
     - FLOAT and DOUBLE: float
     - UNDEFINED, the MakerNote and the thumbnail: bytes
-    - several elements, or a list of XMP: a tuple of these
-    - a structure of XMP: a dict of its fields, by names such as "stRef:documentID"; None for one of more than 400 characters, of which
-      `exact` has the beginning
+    - properties of XMP that are no texts by their standard, such as xmp:Rating, exif:ExposureTime and xmp:CreateDate: int for Integer, float for
+      Real, Fraction for Rational, bool for Boolean, datetime or date for Date; a str if one has another form, and of a date without its day
+    - several elements, or a list of XMP: a tuple of these; of alternatives in XMP the default one, see `languages`
+    - a structure of XMP: a dict of its fields, by names such as "stRef:documentID"
     """
 
     __slots__ = {
@@ -120,6 +121,13 @@ class Field:
         from .typed import value_of
 
         return value_of(self)
+
+    @property
+    def languages(self) -> Dict[str, str]:
+        """Of alternatives in XMP the texts by their languages, as {"x-default": "Vase", "de": "Krug"}; empty for other fields."""
+        from .typed import languages_of
+
+        return languages_of(self)
 
     @property
     def text(self) -> str:

@@ -8,12 +8,13 @@ from datetime import date, datetime, time
 from fractions import Fraction
 from typing import Any, Dict, List, Optional, Sequence, Tuple, Union
 
-from ..model.xmp_values import Array, Literal, Long, Structure, Uri, XmpValue
+from ..model.xmp_values import Array, Literal, Long, LongStructure, Structure, Uri, XmpValue
 from .field import Field
 from .listing import is_comment, is_wide_text, kept_value, marked_text
 from .plain_texts import comment, is_utf8, xmp_texts
+from .xmp_types import object_of
 
-Value = Union[str, int, float, Fraction, datetime, date, time, bytes, None, Tuple[Any, ...], Dict[str, Any]]
+Value = Union[str, int, float, bool, Fraction, datetime, date, time, bytes, None, Tuple[Any, ...], Dict[str, Any]]
 
 _DATES = {("main", "0132"), ("exif", "9003"), ("exif", "9004")}
 _VERSIONS = {("exif", "9000"), ("exif", "a000"), ("interop", "0002")}  # UNDEFINED, and digits by the standard
@@ -34,7 +35,7 @@ def value_of(field: Field) -> Value:
     if isinstance(field.content, Long):
         return None
     if field.directory == "xmp":
-        return _of_xmp(field.content)  # type: ignore[arg-type]
+        return _of_xmp(field.tag, field.content)  # type: ignore[arg-type]
     if not isinstance(field.content, bytes):
         return _one_or_all(_numbers(field))
     value = _of_octets(field, field.content)
@@ -158,32 +159,50 @@ _LETTERS = {
 # XMP
 
 
-def _of_xmp(values: Sequence[XmpValue]) -> Value:
-    return _one_of_xmp(values[0]) if len(values) == 1 else tuple(map(_one_of_xmp, values))
+def _of_xmp(name: str, values: Sequence[XmpValue]) -> Value:
+    return _one_of_xmp(name, values[0]) if len(values) == 1 else tuple([_one_of_xmp(name, it) for it in values])
 
 
-def _one_of_xmp(value: XmpValue) -> Value:
-    """A text; of alternatives the default one; of a list a tuple; of a structure its fields by their names; None for one that isn't kept.
+def _one_of_xmp(name: str, value: XmpValue) -> Value:
+    """The value of a property: by the type that its standard gives it, otherwise a text; of alternatives the default one; of a list a tuple; of
+    a structure its fields by their names; None for one that isn't kept.
 
-    >>> _one_of_xmp(Structure((("stEvt:action", Literal("saved")), ("stEvt:changed", Literal("/")))))
+    >>> _one_of_xmp("xmpMM:History", Structure((("stEvt:action", Literal("saved")), ("stEvt:changed", Literal("/")))))
     {'stEvt:action': 'saved', 'stEvt:changed': '/'}
     """
     if isinstance(value, Literal):
-        return value.text
+        return value.text if value.language else object_of(name, value.text)
     if isinstance(value, Uri):
         return value.uri
+    if isinstance(value, LongStructure):
+        return _one_of_xmp(name, value.value)
     if isinstance(value, Structure):
         by_name: Dict[str, List[XmpValue]] = {}
-        for name, member in value.members:
-            by_name.setdefault(name, []).append(member)
-        return {name: _of_xmp(values) for name, values in by_name.items()}
+        for member_name, member in value.members:
+            by_name.setdefault(member_name, []).append(member)
+        return {member_name: _of_xmp(member_name, values) for member_name, values in by_name.items()}
     if not isinstance(value, Array):
         return None
     members = value.members
     if value.kind != "Alt":
-        return tuple(map(_one_of_xmp, members))
+        return tuple([_one_of_xmp(name, it) for it in members])
     default = [it for it in members if isinstance(it, Literal) and it.language.lower() == "x-default"] or members
-    return _one_of_xmp(default[0]) if default else ()
+    return _one_of_xmp(name, default[0]) if default else ()
+
+
+def languages_of(field: Field) -> Dict[str, str]:
+    """The texts of alternatives by their languages, the default one first.
+
+    >>> alternatives = Array("Alt", (Literal("Krug", "de"), Literal("Vase", "x-default")))
+    >>> languages_of(Field("xmp", "dc:title", "Alt", 2, (alternatives,)))
+    {'x-default': 'Vase', 'de': 'Krug'}
+    """
+    arrays = [it for it in field.content if isinstance(it, Array) and it.kind == "Alt"] if field.directory == "xmp" else []
+    texts = [it for array in arrays for it in array.members if isinstance(it, Literal) and it.language]
+    languages: Dict[str, str] = {}
+    for text in sorted(texts, key=lambda it: it.language.lower() != "x-default"):
+        languages.setdefault(text.language, text.text)
+    return languages
 
 
 def _json_of_xmp(field: Field) -> Any:

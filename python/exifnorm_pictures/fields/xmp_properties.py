@@ -7,7 +7,7 @@ from typing import Dict, List, Tuple
 
 from ..model.xmp_names import short_name
 from ..xmp.tree import MEMBER, Literal, Node, Uri, Statement, Statements, Value, key_of, unique
-from ..model.xmp_values import Array, Long, Structure, XmpValue, exact, texts_in
+from ..model.xmp_values import Array, LongStructure, Structure, XmpValue, exact, texts_in
 from .field import Field
 from .listing import DIGITS
 
@@ -42,12 +42,12 @@ def _form(value: Value) -> Tuple[str, int]:
 
 
 def _kept(value: Value) -> XmpValue:
-    """A value; of a long structure, which has no text that a reader shows, its beginning and a digest."""
+    """A value; of a long structure, which has no text that a reader shows, also its beginning and a digest."""
     kept = _value(value)
     if isinstance(value, Node) and not texts_in(kept):
         text = exact(kept)
         if len(text) > LONGEST_STRUCTURE:
-            return Long(hashlib.sha256(key_of(value).encode("utf-8", "surrogatepass")).hexdigest()[:DIGITS], text[:60])
+            return LongStructure(hashlib.sha256(key_of(value).encode("utf-8", "surrogatepass")).hexdigest()[:DIGITS], text[:60], kept)
     return kept
 
 

@@ -3,7 +3,7 @@
 from __future__ import annotations
 
 import re
-from typing import Iterator, List, NamedTuple, Tuple, Union
+from typing import Any, Iterator, List, NamedTuple, Tuple, Union
 
 from .texts import escaped
 
@@ -60,6 +60,20 @@ class Long(NamedTuple):
 
     digest: str  # the first digits of its SHA-256
     begins: Union[str, bytes]  # the beginning of numbers and of XMP as they are printed exactly, or of bytes
+
+
+class LongStructure(Long):
+    """A long structure that was read just now, as what a catalogue keeps of it, to which it is equal, with the structure itself."""
+
+    value: "XmpValue"
+
+    def __new__(cls, digest: str, begins: Union[str, bytes], value: "XmpValue") -> "LongStructure":
+        structure = super().__new__(cls, digest, begins)
+        structure.value = value
+        return structure
+
+    def __getnewargs__(self) -> Tuple[Any, ...]:  # by which it is pickled
+        return (*self, self.value)
 
 
 XmpValue = Union[Literal, Uri, Array, Structure, Long]
