@@ -2,10 +2,12 @@
 and an OUT that was longer before."""
 
 import os
+import re
 import resource
+import shutil
 import subprocess
 from pathlib import Path
-from typing import Any, Callable, Tuple
+from typing import Any, Callable, List, Tuple
 
 import pytest
 from shims import make_shim
@@ -77,6 +79,23 @@ def test_a_close_that_fails_after_the_file_is_stored(run, folder, odd_files):
     """All of OUT is on the disk then, and std has no close with a result."""
     assert run("normalise", "one", "OUT", env={**os.environ, "LD_PRELOAD": odd_files, "ODD_FILES": "close"}) == (0, b"")
     assert (folder / "OUT").read_bytes() == ONE
+
+
+def calls_after_the_form(program: Path, folder: Path, out: str) -> List[str]:
+    """The system calls about files that a run makes after it has written the normal form of the file `one`."""
+    trace, names = folder / "trace", "write,statx,fdatasync,fsync,syncfs,close"
+    words = ["strace", "-qq", "-o", trace, "-e", f"trace={names}", program, "normalise", "one", out]
+    subprocess.run(words, cwd=folder, timeout=600, check=True)
+    calls = re.findall(r"(?m)^(\w+)\(", trace.read_text(encoding="utf-8"))
+    return calls[calls.index("write") + 1 :]
+
+
+@pytest.mark.skipif(not shutil.which("strace"), reason="not installed: strace")
+def test_what_it_costs_to_store_out(run, program, folder):
+    """Two calls: one asks what kind of file OUT is, and if it is a regular one, the other has it stored. FILE is closed before."""
+    (folder / "null").symlink_to("/dev/null")
+    assert calls_after_the_form(program, folder, "OUT") == ["close", "statx", "fdatasync", "close"]
+    assert calls_after_the_form(program, folder, "null") == ["close", "statx", "close"]
 
 
 @pytest.mark.parametrize("how", ["sync", "close"])
