@@ -5,7 +5,7 @@ import os
 import shutil
 
 import pytest
-from made_files import app1, exif, jpeg
+from made_files import app1, exif, jpeg, title
 from studio import put
 
 FILES = {f"{name}.jpg": jpeg(app1(exif(name.encode() * 3))) for name in ("a", "b", "c")}
@@ -72,6 +72,34 @@ def test_a_folder_below_the_archive(archive, folder, called, summary):
     (archive / "monday").rename(archive / "tuesday")
     assert summary("c", "p/monday", "p/tuesday") == (0, (1, 0, 0))
     assert "3 unchanged" in called("index", "p", "--catalogue", "c")[1] and f"{archive}/tuesday/d.jpg" in called("list", "c")[1]
+
+
+@pytest.mark.parametrize(
+    "name, octets, counts, read",
+    [
+        ("nothing", None, (4, 0, 0), 0),
+        ("a.jpg.xmp", title("other"), (3, 1, 0), 1),  # edited
+        ("b.xmp", None, (3, 1, 0), 1),  # removed
+        ("c.jpg.xmp", title("new"), (4, 0, 0), 1),  # which the catalogue doesn't know
+    ],
+)
+def test_sidecars(name, octets, counts, read, archive, folder, called, summary, monkeypatch):
+    """A picture whose sidecars are the same isn't read again; one with another sidecar is."""
+    from exifnorm_pictures.scan import relocating
+
+    monkeypatch.setattr(relocating, "COARSE", 0)
+    put(archive, {"a.jpg.xmp": title("a"), "b.xmp": title("b"), "monday/d.jpg.xmp": title("d")})
+    aged(archive)
+    called("index", "p", "--catalogue", "s", "--sidecars", "--quiet")
+    shutil.copytree(archive, folder / "q")
+    if octets:
+        put(folder / "q", {name: octets})
+    elif (folder / "q" / name).exists():
+        os.remove(folder / "q" / name)
+    assert summary("s", "p", "q") == (int(counts[1] > 0), counts)
+    status, lines, _ = called("index", "q", "--catalogue", "s", "--json")
+    found = json.loads(lines.splitlines()[-1])["counts"]
+    assert (found["unchanged"], sum(found.values())) == (4 - read, 4)
 
 
 def test_pictures_that_were_indexed_there_before_are_one(archive, folder, called, summary):

@@ -180,3 +180,18 @@ def marks(path: bytes, sidecars: Sequence[Sidecar], is_racy: Callable[[int, int]
         changed = RACY if is_racy(now.modified, now.changed) else now.changed
         lines.append(f"{sidecar.file.hex()} {now.size} {now.modified} {changed} {now.inode}")
     return "\n".join(lines)
+
+
+def marks_elsewhere(path: bytes, then: str, is_racy: Callable[[int, int], bool]) -> Optional[str]:
+    """The marks of the same sidecars at a picture's new place; None if one isn't there, or has another size or modification time."""
+    lines = []
+    for line in filter(None, then.split("\n")):
+        name, *before = line.split(" ")
+        try:
+            now = marks(path, [Sidecar(NAME, bytes.fromhex(name))], is_racy)
+        except ValueError:  # no name that a catalogue has
+            return None
+        if now.split(" ")[1:_CHANGED] != before[: _CHANGED - 1]:
+            return None
+        lines.append(now)
+    return "\n".join(lines)

@@ -9,13 +9,14 @@ from itertools import islice
 from typing import Iterator, List, NamedTuple, Tuple
 
 from ..catalogue.store import Catalogue
+from ..extract.sidecars import marks_elsewhere
 from ..model.records import RACY, Stamp, has
 
 AS_BEFORE, CHANGED, ABSENT = "as before", "changed", "absent"
 COARSE = 2_000_000_000  # nanoseconds in which a file may be changed again without other times, on the coarsest file system
 _AT_ONCE = 1000  # rows
 
-_UPDATE = "UPDATE OR REPLACE pictures SET path = ?, root = ?, changed = ?, inode = ?, device = ? WHERE id = ?"
+_UPDATE = "UPDATE OR REPLACE pictures SET path = ?, root = ?, changed = ?, inode = ?, device = ?, sidecars = ? WHERE id = ?"
 
 
 class _Row(NamedTuple):
@@ -26,21 +27,22 @@ class _Row(NamedTuple):
     changed: int
     inode: int
     device: int
+    sidecars: str
     id: int
 
 
 def relocated(catalogue: Catalogue, old: bytes, new: bytes) -> "Counter[str]":
     """Gives the pictures below a folder the same names below another one, where their files are now; they replace pictures with these names.
 
-    A file with the same size and modification time is as before, and gets the marks that it has there, such as its inode: the next `index`
-    doesn't read it. One that has changed or is absent is left to the next `index`. Returns how many there are of each.
+    A file with the same size and modification time, and with the same sidecars, is as before, and gets the marks that it has there, such as its
+    inode: the next `index` doesn't read it. One that has changed or is absent is left to the next `index`. Returns how many there are of each.
     """
     counts: "Counter[str]" = Counter()
     began = time.time_ns()
     with catalogue.transaction():
         start = old.rstrip(b"/") + b"/"
         catalogue.base.execute(
-            "CREATE TEMP TABLE moving AS SELECT id, path, root, size, modified, changed, inode, device FROM pictures"
+            "CREATE TEMP TABLE moving AS SELECT id, path, root, sidecars, size, modified, changed, inode, device FROM pictures"
             " WHERE path > ? AND path < ? ORDER BY path",
             (start, start[:-1] + b"0"),
         )
@@ -55,12 +57,16 @@ def relocated(catalogue: Catalogue, old: bytes, new: bytes) -> "Counter[str]":
 
 
 def _rows(catalogue: Catalogue, old: bytes, new: bytes, began: int, counts: "Counter[str]") -> Iterator[_Row]:
-    for number, path, root, *marks in catalogue.rows("SELECT * FROM temp.moving"):
+    for number, path, root, sidecars, *marks in catalogue.rows("SELECT * FROM temp.moving"):
         has(bytes, path, root)
+        has(str, sidecars)
         place = new + path[len(old) :]
         state, stamp = _looked_at(place, marks, began)
+        if state == AS_BEFORE and sidecars:
+            now = marks_elsewhere(place, sidecars, lambda *times: began - max(times) < COARSE)
+            state, sidecars = (AS_BEFORE, now) if now is not None else (CHANGED, sidecars)
         counts[state] += 1
-        yield _Row(place, _root(root, old, new), *stamp, number)
+        yield _Row(place, _root(root, old, new), *stamp, sidecars, number)
 
 
 def _root(root: bytes, old: bytes, new: bytes) -> bytes:
