@@ -5,10 +5,11 @@ import csv
 import io
 import json
 
+import exifnorm_pictures as pictures
 import pytest
 from made_blocks import ASCII, UNDEFINED, segment
 from made_boxes import XMP_UUID, PICTURE, Item, box, cr3, heif, item_exif, jp2, jxl, mime
-from made_files import A, K, SIX, T, app1, app1_xmp, chunk, jpeg, page, png, png_xmp, profile, raf, resource, tiff, webp, with_record
+from made_files import A, K, L, SIX, T, app1, app1_xmp, chunk, jpeg, page, png, png_xmp, profile, raf, resource, tiff, webp, with_record
 from made_more_files import application, gif, gif_xmp, psd
 from made_raw import inner
 from studio import needs
@@ -17,12 +18,14 @@ from exifnorm_pictures.model.results import Result
 
 IPTC_UUID = bytes.fromhex("33c7a4d2b81d4723a0baf1a3e097ad38")
 COMMENT = segment(0xFE, b"a comment of some length")
+TWICE = "c.jpg"  # which has two blocks of a kind, of which a cut can leave the first one
 PIXELS = box(b"jxlc", b"\xff\x0a" + bytes(20))
 PAGE = page((0x013B, ASCII, b"Anna\0"), (0x83BB, UNDEFINED, K), (0x02BC, 1, T))
 # Whole files by their names, and the bytes of each block that their format can have: a cut before the last of them loses the block
 FILES = {
     "a.jpg": (jpeg(app1(A), with_record(K), app1_xmp(T), COMMENT), {"exif": app1(A), "iptc": with_record(K), "xmp": app1_xmp(T)}),
     "b.jpg": (jpeg(COMMENT, app1_xmp(T), with_record(K), app1(A)), {"exif": app1(A), "iptc": with_record(K), "xmp": app1_xmp(T)}),
+    TWICE: (jpeg(with_record(K), COMMENT, with_record(L)), {"iptc": with_record(L)}),
     "a.png": (
         png(chunk(b"eXIf", A), profile(b"iptc", K), png_xmp(T)),
         {"exif": chunk(b"eXIf", A), "iptc": profile(b"iptc", K), "xmp": png_xmp(T)},
@@ -72,6 +75,11 @@ def lost(name, place):
 
 CASES = {f"{place:05}-{name}": (name, place) for name in FILES for place in cuts(name)}
 OPEN = ("not known", "refused", "unreadable", "the same after repair")
+
+
+def pairwise(lines):
+    """Each line with the one before it."""
+    return zip(lines, lines[1:])
 
 
 @pytest.fixture(scope="module")
@@ -134,3 +142,67 @@ def test_changed(asked, checks, side):
         checks.equal(f"{case}: text", f"{case}: {it['result']}" + (f" ({it['note']})" if it["note"] else "") in text, True)
     summary = "\n".join(asked(*words)[1])
     assert "removed" not in summary and "added" not in summary and "none changed" not in summary, summary
+
+
+@needs("exiftool", "exiv2")
+def test_compare(archives, checks):
+    """Two pictures by Python's call: nobody knows whether they are the same, and what is missing is no difference."""
+    for number, (case, (name, place)) in enumerate(CASES.items()):
+        if not name.endswith(".jpg") and number % 8:  # for each of the others ExifTool starts three times
+            continue
+        sides = [archives / side / case for side in ("before", "after")]
+        try:
+            found, picture = pictures.compare(*sides), pictures.read(sides[1])
+        except (pictures.NotReadable, pictures.NoPicture):
+            continue
+        if not lost(name, place):
+            continue
+        checks.equal(f"{case}: same", found.same, None)
+        checks.equal(f"{case}: differences", [it.name for it in found.differences if it.after is None], [])
+        checks.equal(f"{case}: the cut is named in {found.note}", picture.damage and found.note.count(picture.damage), 1)
+        checks.equal(f"{case}: damage", picture.damage.startswith("the file ends "), True)
+        again = pictures.compare(sides[1], io.BytesIO(sides[1].read_bytes()))
+        checks.equal(f"{case}: the cut file and itself", again.same, True)
+
+
+@needs("exiftool", "exiv2")
+@pytest.mark.parametrize("command", ["captions", "conflicts"])
+def test_texts(asked, checks, command):
+    """What isn't known is said of each cut file, in words, in a table and in an object; and nothing is said to be missing."""
+    status, lines = asked(command, "after.catalogue", "--json")
+    found = {it["path"].rpartition("/")[2]: it for it in map(json.loads, lines) if "path" in it}
+    rows = list(csv.DictReader(io.StringIO("\n".join(asked(command, "after.catalogue", "--csv")[1]))))
+    assert status == 2 and found
+    for head, line in pairwise(asked(command, "after.catalogue")[1]):
+        if line in ("no Exif, IPTC or XMP block", "no title, caption, name, keyword or rights"):
+            checks.equal(f"{head}: {line}", lost(*CASES[head.rpartition("/")[2]]), [])
+    for case, (name, place) in CASES.items():
+        if case not in found or found[case]["problem"] or not lost(name, place) or name == TWICE:
+            continue
+        it = found[case]
+        is_open = {*it["not_known"], *(one.partition(":")[0].lower() for one in it["refused"])}
+        checks.equal(f"{case}: what is lost and seems to be known", {*lost(name, place)} - is_open, set())
+        words = [one["not read" if command == "captions" else "detail"] for one in rows if one["picture"].rpartition("/")[2] == case]
+        checks.equal(f"{case}: the cut is named once in {words}", sum(one.count("the file ends ") for one in words), 1)
+        kinds = " and ".join(kind.upper() for kind in it["not_known"] if kind != "exif")
+        checks.equal(f"{case}: {kinds} in {words}", sum(kinds in one for one in words) > 0, True)
+
+
+def test_list(asked, checks):
+    """A keyword that may be behind a cut isn't missing, and is counted as not known."""
+    for words in (["--without", "keywords"], ["--with", "keywords"]):
+        lines = asked("list", "after.catalogue", *words, "--json")[1]
+        *found, summary = [json.loads(line) for line in lines]
+        for it in found:
+            case = it["path"].rpartition("/")[2]
+            checks.equal(f"{words[0]}: {case}", "iptc" in lost(*CASES[case]) and not (words[0] == "--with" and case.endswith(TWICE)), False)
+        assert summary["not_known"] >= sum("iptc" in lost(*it) for it in CASES.values()) - summary["listed"] > 0
+
+
+def test_same(asked, folder, called):
+    """Two files that are cut alike are the same as far as they go: what may be behind the cut isn't 'none'."""
+    for name in ("a.jpg", "b.jpg"):
+        (folder / name).write_bytes(FILES["a.jpg"][0][: len(app1(A)) + 20])
+    called("index", str(folder), "--catalogue", "cut.catalogue", "--quiet")
+    status, text, _ = called("same", "--catalogue", "cut.catalogue")
+    assert status == 0 and "Exif is the same" in text and "IPTC and XMP are not known" in text and "no IPTC" not in text

@@ -84,7 +84,7 @@ def test_index_names_damaged_files(asked, folder):
 @needs("exiftool")
 def test_a_copy_of_a_damaged_file_is_not_mended(asked, folder):
     (folder / "cut.jpg").write_bytes(GOOD[:30])
-    assert asked("mend", "cut.jpg", "copy.jpg", status=2)[0].startswith("cut.jpg: damaged")
+    assert asked("mend", "cut.jpg", "copy.jpg", status=2)[0].startswith("cut.jpg: cut off")
     assert json.loads(asked("mend", "--json", "cut.jpg", "second.jpg", status=2)[0])["damage"]
 
 

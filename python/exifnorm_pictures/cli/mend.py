@@ -12,9 +12,11 @@ from ..extract import programs
 from ..files import atomic
 from ..model import steps
 from ..model.budgets import TooMuch
+from ..model.found import cut
 from ..model.problems import Problem
 from ..model.texts import Members, path_members, shown_path
 from ..refusals import mend
+from ..refusals.damage import REMEDY
 from .exit_codes import DIFFERENCE, FAILURE, SUCCESS, UNKNOWN
 from .names import chosen_paths, each_of_list
 from .output import output
@@ -110,6 +112,8 @@ def _mended_lines(picture: bytes, mended: mend.Mended) -> List[str]:
         return [f"{name}: {mended.problem}"]
     before = "; ".join(f"{name} {line}" for name, line in mended.before.items())
     lines = [f"{name}: damaged, which mend can't mend: {it}" for it in mended.damage]
+    if fault := cut(mended.damage):
+        lines = [f"{name}: cut off, which mend can't mend: {fault}", f"  Remedy: {REMEDY}"]
     lines.append(
         f"{name}: {before + ': ' if before else ''}{mended.remedy.text}"
         + " of what is there" * (mended.remedy == mend.Remedy.COPY and bool(mended.damage))

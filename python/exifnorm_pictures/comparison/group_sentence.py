@@ -4,7 +4,7 @@ from __future__ import annotations
 
 from typing import Dict, List, Sequence
 
-from ..model.found import EXIF, KINDS, NAMES, XMP
+from ..model.found import EXIF, KINDS, NAMES, XMP, lost_kinds
 from ..model.records import Picture
 from ..model.results import Result
 from ..model.verdicts import clause, with_verb, none_of
@@ -42,6 +42,9 @@ def _of_kinds(group: Group) -> str:
         is_by_bytes = group.basis == Basis.BYTES or kind != EXIF
         parts.append(f"{names[kind]} is {word}, the same bytes" if is_by_bytes else f"{names[kind]} is the same after repair")
     none = [] if shared.has_choice else [it for it in shared.kinds if by_kind[it] == ""]
+    lost = [it for it in lost_kinds(group.members[0].type, group.not_read.split(", ")) if it in none]
+    parts += [f"{with_verb([NAMES[it] for it in lost])} {Result.NOT_KNOWN}"] if lost else []
+    none = [it for it in none if it not in lost]
     return ", ".join([*parts, *none_of(none)]) + ", but for the fields left out" * shared.is_partial
 
 

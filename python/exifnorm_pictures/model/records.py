@@ -236,12 +236,15 @@ class Picture(NamedTuple):
 
     @property
     def state(self) -> str:
-        """One word for the whole picture: a problem, `refused`, `accepted`, or `no block`; and whether the problem was there before."""
+        """One word for the whole picture: a problem, `refused`, `accepted`, or `no block`, in place of which one whose head is cut off has
+        `damaged`; and whether the problem was there before."""
         if self.problem:
             return self.problem + AS_BEFORE * self.is_known
         if None in self.meanings:
             return str(Status.REFUSED)
-        return str(Status.ACCEPTED) if any(self.meanings) else "no block"
+        if any(self.meanings):
+            return str(Status.ACCEPTED)
+        return "damaged" if self.damage and self.not_read != "" else "no block"
 
     def sides(self) -> Dict[str, Side]:
         """The digest of its meaning, for each kind of block."""

@@ -24,8 +24,9 @@ STATE_WORDS = {
     "accepted": "accepted: all blocks were read",
     "refused": "with a block that is refused or unreadable",
     "no block": "without an Exif, IPTC or XMP block",
+    "damaged": "cut off, and without a block in what is left",
 }
-_TONES = {"accepted": "good", "refused": "bad", "no block": "plain", "NoPicture": "plain"}
+_TONES = {"accepted": "good", "refused": "bad", "no block": "plain", "damaged": "bad", "NoPicture": "plain"}
 _RESULT_TONES: Dict[str, str] = {
     Result.SAME: "good",
     Result.ONLY_MAKER_NOTE: "plain",
@@ -34,6 +35,9 @@ _RESULT_TONES: Dict[str, str] = {
     Result.REFUSED: "bad",
     Result.NOT_READ: "bad",
     Result.DAMAGED: "bad",
+    Result.DAMAGED_BEFORE: "bad",
+    Result.DAMAGED_DIFFERENT: "bad",
+    Result.NOT_KNOWN: "bad",
 }
 
 
