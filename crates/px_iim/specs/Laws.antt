@@ -50,3 +50,7 @@ abbrev pub FaultsTell : Type 0
 FaultsTell = ((x : List ℕ) (c : Cause) (p : ℕ) → FirstFault x c p → Fault x c p)
     × ((x : List ℕ) (c : Cause) (p : ℕ) (i : Record) → Fault x c p → SaysIim x i → ⊥)
     × ((x : List ℕ) → ((i : Record) × SaysIim x i) ⊎ ((c : Cause) × (p : ℕ) × FirstFault x c p))
+
+-- The first fault of a block is at an offset of at most the limit, however long the block is.
+abbrev pub FaultsBounded : Type 0
+FaultsBounded = (x : List ℕ) (c : Cause) (p : ℕ) → FirstFault x c p → p ≤ limit

@@ -2,7 +2,7 @@
 //! nothing. Each is also a lemma in this crate's definitions (`GatherLaws`, `RecordLaws`, `NormalLaws`,
 //! `BoundLaws`, `FaultLaws`), which proofs of other crates cite.
 ghost use Rattle.px_iim.specs.Laws.{OneRecord, Computes, PutAppends, GatherGathers, SaidIsRecord, NormalSays, NormalTells, NormalBound};
-ghost use Rattle.px_iim.specs.Laws.{FaultsTell};
+ghost use Rattle.px_iim.specs.Laws.{FaultsTell, FaultsBounded};
 
 /// A block has at most one record: its bytes can be read as DataSets in only one way, and these are grouped
 /// in only one way.
@@ -52,4 +52,9 @@ pub fn normal_bound()
 /// first fault.
 pub fn faults_tell()
     ensures { FaultsTell }
+{}
+
+/// The first fault of a block is at an offset of at most `LIMIT`, however long the block is.
+pub fn faults_bounded()
+    ensures { FaultsBounded }
 {}

@@ -8,3 +8,4 @@ pub mod PlaceLaws
 pub mod SameLaws
 pub mod MetadataLaws
 pub mod OneFaultLaws
+pub mod EitherLaws

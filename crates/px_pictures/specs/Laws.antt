@@ -1,5 +1,5 @@
 -- The laws of the definitions.
-use Rattle.std.specs.Prelude.{◌≡◌, ◌≢◌, ℕ, List}
+use Rattle.std.specs.Prelude.{◌≡◌, ◌≢◌, ◌⊎◌, ℕ, List}
 use Rattle.px_iim.specs.Group.{Record}
 use Rattle.px_meaning.specs.Tree.{Meaning}
 use Rattle.px_pictures.specs.declared.faults.Fault.TheVariants.{OutOfMemory}
@@ -21,3 +21,9 @@ FaultsTell = (f g : List ℕ) (refused : ℕ) (e : PictureFault) (exif others : 
 abbrev pub OneFault : Type 0
 OneFault = (f g : List ℕ) (refused lacking : ℕ) (d e : PictureFault) → d.fault ≢ OutOfMemory → e.fault ≢ OutOfMemory
     → IsPictureFault f g refused d → IsPictureFault f g lacking e → d ≡ e
+
+-- All blocks of two pictures have meanings, or the pictures have a first fault, which doesn't rest on an allocation.
+abbrev pub IsMetadataOrFault : List ℕ → List ℕ → Type 0
+IsMetadataOrFault f g =
+    ((exif others : List Meaning) × (iptc records : List Record) × SaysMetadata f exif iptc × SaysMetadata g others records)
+    ⊎ ((e : PictureFault) × (e.fault ≢ OutOfMemory) × IsPictureFault f g 0 e)

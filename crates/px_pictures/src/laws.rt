@@ -1,5 +1,5 @@
 //! The laws of pictures: what follows from the definitions. Each is the contract of a function that does nothing.
-ghost use Rattle.px_pictures.specs.Laws.{OneMetadata, FaultsTell, OneFault};
+ghost use Rattle.px_pictures.specs.Laws.{OneMetadata, FaultsTell, OneFault, IsMetadataOrFault};
 
 /// The blocks of a picture have at most one list of meanings, and one of records. So whether two pictures are the
 /// same doesn't depend on how they are read.
@@ -24,4 +24,14 @@ pub fn one_fault()
 {
     px_jpeg::laws::one_head();
     px_jpeg::laws::faults_tell();
+}
+
+/// All blocks of two pictures have meanings, or the pictures have a first fault. By `faults_tell` they don't have both.
+pub fn metadata_or_fault(first: &[u8], second: &[u8])
+    ensures { IsMetadataOrFault first.now second.now }
+{
+    px_jpeg::laws::head_or_fault(first);
+    px_jpeg::laws::head_or_fault(second);
+    px_tree::fault_laws::faults_tell();
+    px_tree::fault_laws::faults_bounded();
 }

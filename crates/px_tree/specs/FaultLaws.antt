@@ -25,3 +25,7 @@ abbrev pub FaultsTell : Type 0
 FaultsTell = ((b : List ℕ) (c : Cause) (p : ℕ) → FirstFault b c p → Fault b c p)
     × ((b : List ℕ) (c : Cause) (p : ℕ) (m : Meaning) → Fault b c p → SaysExif b m → ⊥)
     × ((b : List ℕ) → ((m : Meaning) × SaysExif b m) ⊎ ((c : Cause) × (p : ℕ) × FirstFault b c p))
+
+-- The first fault of a block is at an offset of at most the limit, however long the block is.
+abbrev pub FaultsBounded : Type 0
+FaultsBounded = (b : List ℕ) (c : Cause) (p : ℕ) → FirstFault b c p → p ≤ limit

@@ -1,5 +1,5 @@
 //! Laws of the definitions: the use of the footprint, and the meaning of a fault.
-ghost use Rattle.px_tree.specs.FaultLaws.{OwnersOwn, FootprintCounts, FaultsTell};
+ghost use Rattle.px_tree.specs.FaultLaws.{OwnersOwn, FootprintCounts, FaultsTell, FaultsBounded};
 
 /// The owners of bytes, each with the offset that refers to it, make up the footprint.
 pub fn owners_own()
@@ -15,4 +15,9 @@ pub fn footprint_counts()
 /// meaning or a first fault.
 pub fn faults_tell()
     ensures { FaultsTell }
+{}
+
+/// The first fault of a block is at an offset of at most `LIMIT`, however long the block is.
+pub fn faults_bounded()
+    ensures { FaultsBounded }
 {}

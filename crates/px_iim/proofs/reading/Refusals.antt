@@ -1,13 +1,11 @@
 -- A refusal of a block names one of its faults.
-use Rattle.std.proofs.Common.{◌≡◌, ℕ, ◌≤◌, Option, Some, None, List, length, ap, refl, arith, length-append}
+use Rattle.std.proofs.Common.{◌≡◌, ℕ, ◌≤◌, Option, Some, None, List, refl}
 use Rattle.px_bytes.specs.declared.Refusal.TheVariants.{Content}
 use Rattle.px_bytes.specs.declared.Cause.{Cause}
-use Rattle.px_bytes.specs.declared.Cause.TheVariants.{TooLong, NoMarker, LengthForm, DataSetCut}
 use Rattle.px_bytes.specs.Parts.{limit}
-use Rattle.px_iim.specs.DataSet.{DataSet}
 use Rattle.px_iim.specs.Group.{Record}
 use Rattle.px_iim.specs.Record.{SaysIim, iim_of}
-use Rattle.px_iim.specs.Check.{FirstFault, Fault, Behind}
+use Rattle.px_iim.specs.Check.{FirstFault}
 use Rattle.px_iim.specs.lemmas.RecordLaws.{iim_of_computes}
 use Rattle.px_iim.specs.lemmas.FaultLaws.{first_stands, stands_unsaid}
 use Rattle.px_iim.specs.calls.Reading.{RefusesIim}
@@ -17,16 +15,6 @@ unsaid_iim_of_none x h = go (iim_of x) refl where
   go : (o : Option Record) → iim_of x ≡ o → iim_of x ≡ None
   go None e = e
   go (Some i) e = absurd (h i ((iim_of_computes x i).1 e))
-
-behind_place : (x : List ℕ) (ds : List DataSet) (rest : List ℕ) (p : ℕ) → Behind x ds rest p → length x ≤ limit → p ≤ limit
-behind_place x ds rest p b l = omega (arith, b.place, ap length b.whole, length-append b.front rest)
-
-pub fault_place_le_limit : (x : List ℕ) (c : Cause) (p : ℕ) → Fault x c p → length x ≤ limit → p ≤ limit
-fault_place_le_limit x TooLong p s l = omega (arith, s.0)
-fault_place_le_limit x NoMarker p s l = behind_place x s.0 s.1 p s.2 l
-fault_place_le_limit x LengthForm p s l = behind_place x s.0 s.1 p s.2 l
-fault_place_le_limit x DataSetCut p s l = behind_place x s.0 s.1 p s.2 l
-fault_place_le_limit x _ p s l = absurd s
 
 pub first_fault_refuses : (x : List ℕ) (refused : ℕ) (c : Cause) (p : ℕ) → FirstFault x c p → p ≤ limit → RefusesIim x refused (Content c p)
 first_fault_refuses x refused c p f l =

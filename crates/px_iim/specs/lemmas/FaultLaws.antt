@@ -18,7 +18,7 @@ use Rattle.px_iim.specs.lemmas.SpellingLaws.{Holds, holds_dataset, dataset_holds
 use Rattle.px_iim.specs.lemmas.SequenceLaws.{IsZero, end_true, blank_unmarked, behind_begins, marked_spelling, Parsed, parsed_end}
 use Rattle.px_iim.specs.lemmas.SequenceLaws.{parsed_more}
 use Rattle.px_iim.specs.lemmas.NormalLaws.{spells_append}
-use Rattle.px_iim.specs.Laws.{FaultsTell}
+use Rattle.px_iim.specs.Laws.{FaultsTell, FaultsBounded}
 
 -- ---- the first of five
 
@@ -284,3 +284,22 @@ said_clean x i s = go (first_false (iim_checks x)) refl
 
 pub faults_tell : FaultsTell
 faults_tell = (first_stands, stands_unsaid, said_or_fault)
+
+-- ---- the offset of a fault
+
+behind_place : (x : List ℕ) (ds : List DataSet) (rest : List ℕ) (p : ℕ) → Behind x ds rest p → length x ≤ limit → p ≤ limit
+behind_place x ds rest p b l = omega (arith, b.place, ap length b.whole, length-append b.front rest)
+
+pub fault_place_le_limit : (x : List ℕ) (c : Cause) (p : ℕ) → Fault x c p → length x ≤ limit → p ≤ limit
+fault_place_le_limit x TooLong p s l = omega (arith, s.0)
+fault_place_le_limit x NoMarker p s l = behind_place x s.0 s.1 p s.2 l
+fault_place_le_limit x LengthForm p s l = behind_place x s.0 s.1 p s.2 l
+fault_place_le_limit x DataSetCut p s l = behind_place x s.0 s.1 p s.2 l
+fault_place_le_limit x _ p s l = absurd s
+
+pub faults_bounded : FaultsBounded
+unfolding iim_checks
+faults_bounded x c p e = elim (first_head (check TooLong limit (nat_le (length x) limit)) (checks_from (length x + 1) 0 x) (c, p) e) [
+  | inl h ↦ let q : limit ≡ p = ap (λ (z : Cause × ℕ). z.1) h.1 in omega arith
+  | inr h ↦ fault_place_le_limit x c p (first_stands x c p e) (leb-true (length x) limit h.0)
+]

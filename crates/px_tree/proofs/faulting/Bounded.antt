@@ -19,9 +19,11 @@ use Rattle.px_meaning.specs.Entry.{Entry, short, table_size, has_table, table, e
 use Rattle.px_meaning.specs.Directory.{dirs, dir_at, main_at, exif_at, entries_at, entry_with, is_pointer, pointer, unless_zero}
 use Rattle.px_meaning.specs.Thumbnail.{both, numbers, ranges_of, jpeg_range, strip_ranges}
 use Rattle.px_meaning.specs.Footprint.{listed, placed_range}
-use Rattle.px_tree.specs.Checks.{named_at, place_of, place_with, pointer_place}
+use Rattle.px_tree.specs.Checks.{named_at, place_of, place_with, pointer_place, checks}
+use Rattle.px_tree.specs.FaultLaws.{FaultsBounded}
 use Rattle.px_tree.specs.Faults.{Begins, EntryAt, value_owners, dir_owners, owners_at, thumb_owners, owners, Fault}
 use Rattle.px_tree.specs.calls.Reading.{HasTable}
+use Rattle.px_tree.proofs.faulting.ToldAll.{first_stands}
 use Rattle.px_tree.proofs.reading.Pointers.{length_is}
 
 none_entries : (o : Order) → entries o [] ≡ []
@@ -214,3 +216,15 @@ fault_bounded b cause.ThumbnailOutside p l f = let w = f.2 in let k = entry_boun
 fault_bounded b cause.NoMarker p l f = absurd f
 fault_bounded b cause.LengthForm p l f = absurd f
 fault_bounded b cause.DataSetCut p l f = absurd f
+
+-- a block longer than the limit has its first fault there
+pub faults_bounded : FaultsBounded
+unfolding checks
+faults_bounded b c p h = elim (cases_Bool (nat_le (length b) limit)) [
+  | inl t ↦ fault_bounded b c p (leb-true (length b) limit t) (first_stands b c p h)
+  | inr f ↦
+      let e : ◌≡◌ {A = Option (Cause × ℕ)} (Some (cause.TooLong, limit)) (Some (c, p)) = sym (cond-false _ _ _ f) ∙ h in
+      let q : ◌≡◌ {A = Cause × ℕ} (cause.TooLong, limit) (c, p) = cc in
+      let place : limit ≡ p = ap (λ (z : Cause × ℕ). z.1) q in
+      omega arith
+]

@@ -9,10 +9,10 @@ use Rattle.px_iim.specs.Group.{gather}
 use Rattle.px_iim.specs.Check.{iim_checks}
 use Rattle.px_iim.specs.calls.Reading.{RefusesIim}
 use Rattle.px_iim.specs.lemmas.RecordLaws.{iim_of_computes}
-use Rattle.px_iim.specs.lemmas.FaultLaws.{first_stands}
+use Rattle.px_iim.specs.lemmas.FaultLaws.{first_stands, fault_place_le_limit}
 use Rattle.px_iim.proofs.reading.Steps.{checks_past, iim_of_within}
 use Rattle.px_iim.proofs.reading.Walked.{datasets_is}
-use Rattle.px_iim.proofs.reading.Refusals.{first_fault_refuses, fault_place_le_limit}
+use Rattle.px_iim.proofs.reading.Refusals.{first_fault_refuses}
 use Rattle.px_iim.proofs.read.judge_iim.Goals as goal
 
 pub returns-then-bytes-clause-judged : goal.returns-then-bytes-clause-judged

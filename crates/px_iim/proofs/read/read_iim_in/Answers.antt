@@ -10,10 +10,10 @@ use Rattle.px_iim.specs.Group.{Record, IsRecord}
 use Rattle.px_iim.specs.Record.{SaysIim, iim_of}
 use Rattle.px_iim.specs.Check.{iim_checks}
 use Rattle.px_iim.specs.lemmas.RecordLaws.{iim_of_computes, said_is_record}
-use Rattle.px_iim.specs.lemmas.FaultLaws.{first_stands}
+use Rattle.px_iim.specs.lemmas.FaultLaws.{first_stands, fault_place_le_limit}
 use Rattle.px_iim.specs.calls.Reading.{RefusesIim}
 use Rattle.px_iim.proofs.reading.Steps.{checks_past}
-use Rattle.px_iim.proofs.reading.Refusals.{first_fault_refuses, fault_place_le_limit}
+use Rattle.px_iim.proofs.reading.Refusals.{first_fault_refuses}
 use Rattle.px_iim.proofs.read.read_iim_in.Goals as goal
 
 judges_refuses_iim : {X : Type 0} (r : Result X Refusal) (x : List ℕ) (good : X → Type 0) (old new : ℕ) → length x ≤ limit
