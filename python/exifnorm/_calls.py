@@ -9,13 +9,14 @@ from typing import Any, Callable, NoReturn, Optional, TypeVar, Union, cast
 from . import _library
 from ._errors import LIMIT, NormalTooLong, Refused
 from ._library import Failure, Status, library
+from ._words import EXIF, IPTC
 
 _Call = TypeVar("_Call", bound=Callable[..., Any])
 
 Block = Union[bytes, bytearray, memoryview, mmap]
 """A block's bytes. Any other object with contiguous bytes works too, such as an array."""
 
-_KINDS = {1: "exif", 2: "iim"}
+_KINDS = {1: EXIF, 2: IPTC}
 _TOO_LONG = LIMIT + len(b"Exif\0\0") + 1  # bytes that are too many for any block
 
 
@@ -67,10 +68,10 @@ def version() -> str:
 
 
 def kind(block: Block) -> str:
-    """The block's kind, "exif" or "iim". Raises Refused if the block breaks the rules, and MemoryError.
+    """The block's kind, "exif" or "iptc", which the program calls iim. Raises Refused if the block breaks the rules, and MemoryError.
 
     >>> kind(b"\\x1c\\x02\\x78\\x00\\x04Vase")
-    'iim'
+    'iptc'
     """
     octets = block if type(block) is bytes else _copied(block)
     number = library().check(octets)

@@ -2,6 +2,7 @@
 
 from __future__ import annotations
 
+import warnings
 from typing import TYPE_CHECKING, Optional, Sequence, Tuple
 
 if TYPE_CHECKING:
@@ -15,8 +16,7 @@ class Refused(ValueError):
     """A block breaks the rules and has no meaning: its first fault.
 
     - `cause`: the name of the cause, such as "Overlap". docs/REFUSALS.md lists them
-    - `offset`: the byte offset of the fault from the block's first byte; the six bytes before an Exif block aren't counted. `place` is
-      its older name
+    - `offset`: the byte offset of the fault from the block's first byte; the six bytes before an Exif block aren't counted
     - `side`: of two blocks, the number of the one that is refused, 1 or 2; otherwise None
     - `sentence`: the cause for people
     - `remedy`: what helps
@@ -31,17 +31,18 @@ class Refused(ValueError):
     The input is neither an Exif block nor an IPTC record.
     """
 
-    def __init__(self, cause: str, place: int, side: Optional[int] = None, is_jpeg: bool = False) -> None:
-        super().__init__(cause, place, side)
+    def __init__(self, cause: str, offset: int, side: Optional[int] = None, is_jpeg: bool = False) -> None:
+        super().__init__(cause, offset, side)
         self.cause = cause
-        self.place = place
+        self.offset = offset
         self.side = side
         self._is_jpeg = is_jpeg  # whether the bytes are a JPEG, and no block
 
     @property
-    def offset(self) -> int:
-        """The byte offset of the fault."""
-        return self.place
+    def place(self) -> int:
+        """The older name of `offset`."""
+        warnings.warn("Refused.place is Refused.offset now", DeprecationWarning, stacklevel=2)
+        return self.offset
 
     @property
     def sentence(self) -> str:
@@ -59,7 +60,7 @@ class Refused(ValueError):
         return CAUSE_WORDS.get(self.cause, (f"The block is refused: {self.cause}.", ""))
 
     def __str__(self) -> str:
-        where = f"{self.cause} at {self.place}"
+        where = f"{self.cause} at {self.offset}"
         if self.side is not None:
             where += f" in block {self.side}"
         return f"{where}: this is a JPEG, and jpeg_blocks returns its blocks" if self._is_jpeg else where
@@ -84,9 +85,9 @@ class HeadRefused(Refused):
     The JPEG ends inside its head, before the first scan.
     """
 
-    def __init__(self, cause: str, place: int, parts: "Sequence[JpegPart]" = (), blocks: "Sequence[JpegBlock]" = ()) -> None:
-        super().__init__(cause, place)
-        self.args = cause, place, parts, blocks  # by which it is pickled
+    def __init__(self, cause: str, offset: int, parts: "Sequence[JpegPart]" = (), blocks: "Sequence[JpegBlock]" = ()) -> None:
+        super().__init__(cause, offset)
+        self.args = cause, offset, parts, blocks  # by which it is pickled
         self.parts = parts
         self.blocks = blocks
 
@@ -95,7 +96,7 @@ class PictureRefused(Refused):
     """Of two JPEGs that are compared, one has no head of a JPEG, or a block that breaks the rules: the first fault.
 
     - `side`: the number of the JPEG, 1 or 2
-    - `kind`: the kind of the block, "exif" or "iim"; "" if the JPEG has no head. Then the offset counts from the JPEG's first byte
+    - `kind`: the kind of the block, "exif" or "iptc"; "" if the JPEG has no head. Then the offset counts from the JPEG's first byte
     - `index`: the index of the block among those of its kind in the JPEG, from 0
 
     >>> import exifnorm
@@ -106,15 +107,15 @@ class PictureRefused(Refused):
     HeaderCut at 2 in block 1 of Exif, picture 2
     """
 
-    def __init__(self, cause: str, place: int, side: int, kind: str = "", index: int = 0) -> None:
-        super().__init__(cause, place, side)
-        self.args = cause, place, side, kind, index  # by which it is pickled
+    def __init__(self, cause: str, offset: int, side: int, kind: str = "", index: int = 0) -> None:
+        super().__init__(cause, offset, side)
+        self.args = cause, offset, side, kind, index  # by which it is pickled
         self.kind = kind
         self.index = index
 
     def __str__(self) -> str:
-        names = {"": "the head", "exif": f"block {self.index + 1} of Exif", "iim": f"block {self.index + 1} of IPTC"}
-        return f"{self.cause} at {self.place} in {names[self.kind]}, picture {self.side}"
+        names = {"": "the head", "exif": f"block {self.index + 1} of Exif", "iptc": f"block {self.index + 1} of IPTC"}
+        return f"{self.cause} at {self.offset} in {names[self.kind]}, picture {self.side}"
 
 
 class TooMany(ValueError):

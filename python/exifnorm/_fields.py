@@ -18,7 +18,7 @@ Values = Union[bytes, Tuple[int, ...], Tuple[Ratio, ...], Tuple[bytes, ...]]
 class Field(NamedTuple):
     """A field of a directory, a DataSet, or a part of the thumbnail.
 
-    - `directory`: "main", "exif", "interop", "gps" or "thumb"; of a DataSet "record"
+    - `directory`: "main", "exif", "interop", "gps" or "thumb"; of a DataSet "iptc"
     - `tag`: the tag. Of a DataSet it is 256 times the record number plus the DataSet number, so 2:120 has 0x0278. Of the thumbnail's JPEG
       it is 0x0201 and of its strips 0x0111, the tags of their offsets in a block
     - `type`: the type's name, such as "ASCII" or "RATIONAL"; "WHOLE" if SHORT and LONG mean the same; "DATASET", "JPEG" or "STRIPS"

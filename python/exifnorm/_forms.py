@@ -9,6 +9,7 @@ from typing import Any, Callable, Dict, Iterator, List, Sequence, Set, Tuple
 from ._calls import kind
 from ._errors import Refused
 from ._fields import Field, Ratio
+from ._words import DATASETS, IPTC
 
 Place = Tuple[str, int, str, int, Any]
 """A field in a form: its directory, its tag, its type, the number of its elements, and the offset of the first one; of the thumbnail's JPEG
@@ -100,13 +101,13 @@ def _datasets(form: bytes, at: int, end: int) -> Iterator[Place]:
         if size >= 0x8000:  # an extended one, whose length has four bytes
             (size,) = _OFFSET.unpack_from(form, at)
             at += 4
-        yield "record", tag, "DATASET", size, at
+        yield DATASETS, tag, "DATASET", size, at
         at += size
 
 
 def _is_record(octets: bytes) -> bool:
     try:
-        return octets[:1] == b"\x1c" and kind(octets) == "iim"
+        return octets[:1] == b"\x1c" and kind(octets) == IPTC
     except Refused:
         return False
 
@@ -169,7 +170,7 @@ def places(form: bytes) -> Iterator[Place]:
     """Where each field of a normal form is.
 
     >>> list(places(b"\\x1c\\x02\\x78\\x00\\x04Vase"))
-    [('record', 632, 'DATASET', 4, 5)]
+    [('iptc', 632, 'DATASET', 4, 5)]
     """
     return _datasets(form, 0, len(form)) if form[:1] == b"\x1c" else _Directories(form).fields()
 

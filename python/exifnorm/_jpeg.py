@@ -8,9 +8,10 @@ from typing import Any, Dict, Iterable, Iterator, List, Literal, NamedTuple, NoR
 from ._calls import Block
 from ._errors import HeadRefused, PictureRefused, TooMany
 from ._library import PART, PLACE, RESOURCE, PictureFailure, Status, library
+from ._words import EXIF, IPTC
 
 PART_KINDS = ("", "exif", "photoshop", "xmp", "extended xmp")  # of parts, by the library's numbers
-BLOCK_KINDS = ("", "exif", "iim")  # the same of blocks
+BLOCK_KINDS = ("", EXIF, IPTC)  # the same of blocks
 PartRow = Tuple[int, int, int, int, int]
 _IPTC = 0x0404  # the number of the resource
 CAUSES: Dict[int, str] = {101: "JpegNoStart", 102: "JpegNoMarker", 103: "JpegLength", 104: "JpegCut", 105: "JpegTooLong"}
@@ -42,9 +43,9 @@ class Resource(NamedTuple):
 
 
 class JpegBlock(NamedTuple):
-    """A block of a JPEG: its `kind`, "exif" or "iim", which is IPTC, and its bytes `data`."""
+    """A block of a JPEG: its `kind`, "exif" or "iptc", and its bytes `data`."""
 
-    kind: Literal["exif", "iim"]
+    kind: Literal["exif", "iptc"]
     data: bytes
 
 
@@ -185,10 +186,10 @@ def _blocks(whole: Iterable[Tuple[int, bytes]]) -> List[JpegBlock]:
     blocks: List[JpegBlock] = []
     for number, data in whole:
         if PART_KINDS[number] == "exif":
-            blocks.append(JpegBlock("exif", data))
+            blocks.append(JpegBlock(EXIF, data))
         elif PART_KINDS[number] == "photoshop":
             rows = photoshop_resources(data)
-            blocks += [JpegBlock("iim", data[start : start + size]) for resource, start, size in rows if resource == _IPTC and size]
+            blocks += [JpegBlock(IPTC, data[start : start + size]) for resource, start, size in rows if resource == _IPTC and size]
     return blocks
 
 

@@ -5,6 +5,7 @@ from __future__ import annotations
 from typing import Iterator, List
 
 from ._fields import Field, Ratio, Values
+from ._words import DATASETS
 
 _BYTES = {"BYTE", "ASCII", "SBYTE", "UNDEFINED", "UTF8"}
 _FRACTIONS = {"RATIONAL", "SRATIONAL"}
@@ -27,7 +28,7 @@ def _values(kind: str, text: str) -> Values:
 
 def _dataset(name: str, text: str) -> Field:
     record, number = name.split(":")
-    return Field("record", 256 * int(record) + int(number), "DATASET", bytes.fromhex(text))
+    return Field(DATASETS, 256 * int(record) + int(number), "DATASET", bytes.fromhex(text))
 
 
 def _read(lines: Iterator[str]) -> Iterator[Field]:

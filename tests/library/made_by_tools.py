@@ -123,13 +123,13 @@ EXIV2 = Made(
 EXIFTOOL_RECORD = Made(
     "ExifTool 12.57",
     bytes.fromhex("1c02050001541c02190001611c02190001621c02780004566173651c020000020004"),
-    kind="iim",
+    kind="iptc",
     fields=[
-        ("record", 0x0200, "DATASET", b"\0\4"),
-        ("record", 0x0205, "DATASET", b"T"),
-        ("record", 0x0219, "DATASET", b"a"),
-        ("record", 0x0219, "DATASET", b"b"),
-        ("record", 0x0278, "DATASET", b"Vase"),
+        ("iptc", 0x0200, "DATASET", b"\0\4"),
+        ("iptc", 0x0205, "DATASET", b"T"),
+        ("iptc", 0x0219, "DATASET", b"a"),
+        ("iptc", 0x0219, "DATASET", b"b"),
+        ("iptc", 0x0278, "DATASET", b"Vase"),
     ],
     captions=[("title", b"T", None), ("caption", b"Vase", None), ("keyword", b"a", None), ("keyword", b"b", None)],
 )
@@ -140,13 +140,13 @@ EXIFTOOL_RECORD = Made(
 EXIV2_RECORD = Made(
     "exiv2 0.27.6",
     bytes.fromhex("1c015a00031b25471c027800075ac3bc726963681c02190004636c61791c0219000375726e1c025000034c6565"),
-    kind="iim",
+    kind="iptc",
     fields=[
-        ("record", 0x015A, "DATASET", b"\x1b%G"),
-        ("record", 0x0219, "DATASET", b"clay"),
-        ("record", 0x0219, "DATASET", b"urn"),
-        ("record", 0x0250, "DATASET", b"Lee"),
-        ("record", 0x0278, "DATASET", b"Z\xc3\xbcrich"),
+        ("iptc", 0x015A, "DATASET", b"\x1b%G"),
+        ("iptc", 0x0219, "DATASET", b"clay"),
+        ("iptc", 0x0219, "DATASET", b"urn"),
+        ("iptc", 0x0250, "DATASET", b"Lee"),
+        ("iptc", 0x0278, "DATASET", b"Z\xc3\xbcrich"),
     ],
     captions=[
         ("caption", b"Z\xc3\xbcrich", "Zürich"),

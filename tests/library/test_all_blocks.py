@@ -80,7 +80,7 @@ def expected_of(call, it):
         return ("Refused", *it.fault, None)
     if call is normal:
         return ("NormalTooLong",) if it.form is None else it.form
-    return {exifnorm.kind: it.kind, exifnorm.show: it.listing}[call]
+    return {exifnorm.kind: it.kind.replace("iim", "iptc"), exifnorm.show: it.listing}[call]
 
 
 def words_of(field):
@@ -107,7 +107,7 @@ def lines_of(field):
 
 def listing_of(kind, fields):
     """The lines of a listing without those that name a directory, since no object is an empty directory."""
-    lines, datasets = [kind], [it for it in fields if it.directory == "record"]
+    lines, datasets = [kind], [it for it in fields if it.directory == "iptc"]
     for field in fields:
         if kind == "exif" and datasets and field is datasets[0]:
             lines.append(f"record {len(datasets)}:")

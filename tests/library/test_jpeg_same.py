@@ -19,7 +19,7 @@ from small_blocks import CAPTION, LOOP, ONE, outcome
 DONE, REFUSED, NO_MEMORY, SECOND_REFUSED, NOT_READ, SECOND_NOT_READ = 0, 2, 4, 6, 7, 8
 HEADS = {"JpegNoStart": 101, "JpegNoMarker": 102, "JpegLength": 103, "JpegCut": 104}
 NUMBERS = {name: number for number, name in enumerate(CAUSES, 1)}
-KINDS = ["", "exif", "iim"]
+KINDS = ["", "exif", "iptc"]
 FAULT, UNREAD, FILLER, UNSET = Struct("IINN"), Struct("IIN"), 0xA5, 0x5EED5EED
 SEED, PAIRS = 1, 20_000
 
@@ -101,7 +101,7 @@ def see(compared, way):
         with pytest.raises(PictureRefused) as raised:
             exifnorm.jpeg_same(first, second)
         it = raised.value
-        assert (it.cause, it.place, it.side, it.kind, it.index) == expected
+        assert (it.cause, it.offset, it.side, it.kind, it.index) == expected
         again = pickle.loads(pickle.dumps(it))
         assert (again.args, str(again), again.kind, again.index) == (it.args, str(it), kind, index), "pickled"
 
@@ -175,10 +175,10 @@ FAULTS = {
     "Exif without a byte": (picture(exif(b"")), ("UnknownKind", 0, "exif", 0)),
     "a second mark of Exif": (picture(exif(EXIF + ONE)), ("UnknownKind", 0, "exif", 0)),
     "DataSets where Exif belongs": (picture(exif(CAPTION)), ("UnknownKind", 0, "exif", 0)),
-    "Exif where DataSets belong": (picture(iptc(ONE)), ("NoMarker", 0, "iim", 0)),
+    "Exif where DataSets belong": (picture(iptc(ONE)), ("NoMarker", 0, "iptc", 0)),
     "the third block": (picture(exif(ONE), exif(TURNED), exif(LOOP)), ("Loop", 22, "exif", 2)),
-    "IPTC": (picture(exif(ONE), iptc(CAPTION[:-1])), ("DataSetCut", 0, "iim", 0)),
-    "the second IPTC": (picture(iptc(CAPTION), COMMENT, iptc(URN + URN[:-1])), ("DataSetCut", len(URN), "iim", 1)),
+    "IPTC": (picture(exif(ONE), iptc(CAPTION[:-1])), ("DataSetCut", 0, "iptc", 0)),
+    "the second IPTC": (picture(iptc(CAPTION), COMMENT, iptc(URN + URN[:-1])), ("DataSetCut", len(URN), "iptc", 1)),
     "Exif before IPTC": (picture(iptc(CAPTION[:-1]), exif(LOOP)), ("Loop", 22, "exif", 0)),
     "a head before its blocks": (picture(exif(LOOP), end=b"x"), ("JpegNoMarker", 2 + len(exif(LOOP)), "", 0)),
 }

@@ -45,7 +45,7 @@ def found_in(octets, most=None):
     try:
         return [tuple(it) for it in exifnorm.jpeg_parts(octets, most)], None
     except HeadRefused as why:
-        return [tuple(it) for it in why.parts], (why.cause, why.place)
+        return [tuple(it) for it in why.parts], (why.cause, why.offset)
 
 
 SEGMENTS = st.one_of(
@@ -112,16 +112,19 @@ def test_types_of_results():
     "pieces, blocks",
     [
         ([], []),
-        ([exif(ONE), photoshop(resource(0x0404, CAPTION))], [("exif", ONE), ("iim", CAPTION)]),
-        ([photoshop(resource(0x0404, CAPTION)), exif(ONE)], [("iim", CAPTION), ("exif", ONE)]),
+        ([exif(ONE), photoshop(resource(0x0404, CAPTION))], [("exif", ONE), ("iptc", CAPTION)]),
+        ([photoshop(resource(0x0404, CAPTION)), exif(ONE)], [("iptc", CAPTION), ("exif", ONE)]),
         ([exif(ONE[:9]), exif(ONE[9:20]), exif(ONE[20:])], [("exif", ONE)]),
         ([exif(ONE), exif(LITTLE)], [("exif", ONE), ("exif", LITTLE)]),
         ([exif(ONE), COMMENT, exif(b"apart")], [("exif", ONE), ("exif", b"apart")]),
         ([exif(b"")], [("exif", b"")]),
-        ([photoshop(resource(0x0404, CAPTION)[:13]), photoshop(resource(0x0404, CAPTION)[13:])], [("iim", CAPTION)]),
-        ([photoshop(resource(0x0404, b"") + resource(0x0404, CAPTION) + resource(0x0404, b"\x1c"))], [("iim", CAPTION), ("iim", b"\x1c")]),
+        ([photoshop(resource(0x0404, CAPTION)[:13]), photoshop(resource(0x0404, CAPTION)[13:])], [("iptc", CAPTION)]),
+        (
+            [photoshop(resource(0x0404, b"") + resource(0x0404, CAPTION) + resource(0x0404, b"\x1c"))],
+            [("iptc", CAPTION), ("iptc", b"\x1c")],
+        ),
         ([photoshop(resource(0x0422, ONE) + resource(0x0424, b"<x/>"))], []),
-        ([photoshop(resource(0x0404, CAPTION) + b"rest" + resource(0x0404, CAPTION))], [("iim", CAPTION)]),
+        ([photoshop(resource(0x0404, CAPTION) + b"rest" + resource(0x0404, CAPTION))], [("iptc", CAPTION)]),
         ([segment(0xE1, b"http://ns.adobe.com/xap/1.0/\0<x/>"), segment(0xE1, b"EXIF\0\0" + ONE)], []),
     ],
 )
@@ -153,10 +156,10 @@ def test_heads_that_are_refused(octets, cause, place, before):
         with pytest.raises(exifnorm.Refused) as raised:
             call(octets)
         why = raised.value
-        assert (type(why), why.cause, why.place, why.side, len(why.parts)) == (HeadRefused, cause, place, None, before)
+        assert (type(why), why.cause, why.offset, why.side, len(why.parts)) == (HeadRefused, cause, place, None, before)
         assert str(why) == f"{cause} at {place}"
         again = pickle.loads(pickle.dumps(why))
-        assert (again.args, again.cause, again.place, again.side, again.parts) == (why.args, cause, place, None, why.parts), "pickled"
+        assert (again.args, again.cause, again.offset, again.side, again.parts) == (why.args, cause, place, None, why.parts), "pickled"
 
 
 OPEN = exif(b"goes on")
@@ -176,7 +179,7 @@ OPEN = exif(b"goes on")
         (START + exif(ONE) + segment(0xE1, b"http:")[:-1], [("exif", ONE)]),
         (START + exif(ONE) + OPEN + b"x", [("exif", ONE + b"goes on")]),
         (START + exif(ONE) + COMMENT + exif(LITTLE), [("exif", ONE)]),
-        (START + photoshop(resource(0x0404, CAPTION)), [("iim", CAPTION)]),
+        (START + photoshop(resource(0x0404, CAPTION)), [("iptc", CAPTION)]),
         (START + photoshop(resource(0x0404, CAPTION)[:-2]) + b"x", []),
     ],
 )

@@ -9,11 +9,13 @@ import doctest
 import gc
 import hashlib
 import importlib
+import json
 import mmap
 import pickle
 import pkgutil
 import sys
 import tracemalloc
+import warnings
 from concurrent.futures import ThreadPoolExecutor
 
 import pytest
@@ -81,7 +83,31 @@ def test_each_cause_is_one_fault_and_a_sentence():
     assert len(set(sentences)) == 24 and all(it.endswith(".") and not it.startswith("The block is refused") for it in sentences)
     assert all(exifnorm.Refused(name, 0).remedy for name in names)
     assert exifnorm.Refused("New", 3).sentence == "The block is refused: New."  # of a newer library
-    assert exifnorm.Refused("Overlap", 3).offset == exifnorm.Refused("Overlap", 3).place == 3
+
+
+def test_older_words_are_still_understood():
+    """Programs compare with them. They are told the new word."""
+    (block,) = exifnorm.jpeg_blocks(b"\xff\xd8\xff\xed\0\x22Photoshop 3.0\x008BIM\4\4\0\0\0\0\0\6\x1c\2\x78\0\1a\xff\xd9")
+    (field,) = exifnorm.fields(block.data)
+    for word, old in ((block.kind, "iim"), (exifnorm.kind(block.data), "iim"), (field.directory, "record")):
+        with warnings.catch_warnings():
+            warnings.simplefilter("error")
+            again = pickle.loads(pickle.dumps(word))
+            assert (
+                word == again == "iptc"
+                and {word: 1}["iptc"] == 1
+                and json.dumps(word) == '"iptc"'
+                and word != "exif"
+                and str(word) == "iptc"
+            )
+        for found in (word, again):
+            with pytest.warns(DeprecationWarning, match="is 'iptc' now"):
+                assert found == old
+            with pytest.warns(DeprecationWarning):
+                assert not found != old
+    refusal = exifnorm.Refused("Overlap", 3)
+    with pytest.warns(DeprecationWarning, match="offset"):
+        assert refusal.offset == refusal.place == 3
 
 
 @pytest.mark.parametrize("named_tuple", [exifnorm.Field, exifnorm.JpegBlock, exifnorm.JpegPart, exifnorm.Resource], ids=named)
@@ -107,7 +133,7 @@ def test_one_tag_in_five_directories():
         expected.append(Field(name, 0x0100, "WHOLE" if name in ("main", "thumb") else "LONG", (7,)))
         expected += [] if name == "main" else [Field(name, 0x83BB, "UNDEFINED", CAPTION)]
         expected.append(Field(name, 0xA002, "WHOLE" if name == "exif" else "LONG", (8,)))
-        expected += [Field("record", 0x0278, "DATASET", b"Vase")] if name == "main" else []
+        expected += [Field("iptc", 0x0278, "DATASET", b"Vase")] if name == "main" else []
     assert exifnorm.fields(laid(Exif(*(dict(inside) for _ in range(5))), Layout("<"))) == expected
 
 
@@ -125,9 +151,9 @@ def test_bytes_that_are_nearly_a_record(octets, form):
 
 def test_records():
     record = laid(Exif({0x83BB: Value(1, CAPTION + b"\0")}), Layout(">"))
-    assert exifnorm.fields(record) == [Field("record", 0x0278, "DATASET", b"Vase")], "a record of type BYTE"
+    assert exifnorm.fields(record) == [Field("iptc", 0x0278, "DATASET", b"Vase")], "a record of type BYTE"
     long = Record([(2, 120, bytes(40_000)), (2, 25, b"")]).spelled()
-    expected = [Field("record", 0x0219, "DATASET", b""), Field("record", 0x0278, "DATASET", bytes(40_000))]
+    expected = [Field("iptc", 0x0219, "DATASET", b""), Field("iptc", 0x0278, "DATASET", bytes(40_000))]
     assert exifnorm.fields(long) == expected
 
 
@@ -330,15 +356,15 @@ def test_refusals_of_two_blocks(first, second, expected):
     with pytest.raises(exifnorm.Refused) as raised:
         exifnorm.same(first, second)
     why = raised.value
-    assert (why.cause, why.place, why.side, str(why)) == expected
+    assert (why.cause, why.offset, why.side, str(why)) == expected
     again = pickle.loads(pickle.dumps(why))
-    assert (again.cause, again.place, again.side, str(again)) == expected, "pickled"
+    assert (again.cause, again.offset, again.side, str(again)) == expected, "pickled"
 
 
 def test_place_of_a_fault_after_six_bytes():
     with pytest.raises(exifnorm.Refused) as raised:
         exifnorm.kind(b"Exif\0\0" + LOOP)
-    assert (raised.value.place, str(raised.value)) == (22, "Loop at 22")
+    assert (raised.value.offset, str(raised.value)) == (22, "Loop at 22")
 
 
 def test_classes_of_exceptions():

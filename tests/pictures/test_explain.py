@@ -79,7 +79,7 @@ class Explanations(unittest.TestCase):
                     "kind": kind_of(octets),
                     "status": "refused",
                     "cause": name,
-                    "place": place,
+                    "offset": place,
                     "sentence": cause.sentence,
                     "meaning": cause.meaning,
                     "here": here,
@@ -93,7 +93,7 @@ class Explanations(unittest.TestCase):
     def test_an_accepted_block(self):
         found = explain.explain(IPTC, b"\x1c\x02\x19\0\x03one")
         self.assertEqual(
-            (found.lines(), found.members()), (["iptc: ok iptc"], {"kind": "iptc", "status": "accepted", "cause": None, "place": None})
+            (found.lines(), found.members()), (["iptc: ok iptc"], {"kind": "iptc", "status": "accepted", "cause": None, "offset": None})
         )
 
     def test_a_packet(self):
@@ -104,7 +104,7 @@ class Explanations(unittest.TestCase):
         remedy = remedy.partition("Remedy: ")[2]
         self.assertEqual(
             found.members(),
-            {"kind": "xmp", "status": "unreadable", "cause": "NoRDF", "place": None, "sentence": line.strip(), "remedy": remedy},
+            {"kind": "xmp", "status": "unreadable", "cause": "NoRDF", "offset": None, "sentence": line.strip(), "remedy": remedy},
         )
 
     def test_what_is_at_an_offset(self):

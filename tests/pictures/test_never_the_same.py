@@ -219,5 +219,5 @@ def test_a_block_in_the_place_of_the_other_kind(called):
         with pytest.raises(exifnorm.PictureRefused) as refused:
             exifnorm.jpeg_same(picture, picture)
         block = json.loads(called("show", "a.jpg", "--json", a=picture)[1])["blocks"][0]
-        assert (block["kind"], block["cause"], block["offset"]) == (kind, refused.value.cause, refused.value.place)
+        assert (block["kind"], block["cause"], block["offset"]) == (kind, refused.value.cause, refused.value.offset)
         assert block["fields"] == []

@@ -34,7 +34,7 @@ def by_the_library(picture):
     try:
         exifnorm.jpeg_same(picture, picture)
     except exifnorm.PictureRefused as refused:
-        return refused.cause, refused.place
+        return refused.cause, refused.offset
     return None, None
 
 
@@ -47,7 +47,7 @@ def by_commands(called, picture):
         for member in json.loads(called(command, "a.jpg", "--json")[1].splitlines()[0]).get("blocks", ()):
             yield command, (member["cause"], member["offset"])
     explained = json.loads(called("explain", "a.jpg", "--json")[1])
-    yield "explain", (explained.get("cause"), explained.get("place"))
+    yield "explain", (explained.get("cause"), explained.get("offset"))
     for member in map(json.loads, called("report", "--catalogue", "c", "--json")[1].splitlines()):
         if "refused" in member:
             yield "report", (member["cause"], int(member["refusal"].rpartition(" at ")[2]))
@@ -85,7 +85,7 @@ def test_what_is_asked_without_a_picture():
             exifnorm.normal(data)
             alone = None, None
         except exifnorm.Refused as refused:
-            alone = refused.cause, refused.place
+            alone = refused.cause, refused.offset
         kind = "iptc" if data.startswith(b"\x1c") else "exif"
         read = pictures.read_bytes(PLACES[kind](data))
         if read.blocks:

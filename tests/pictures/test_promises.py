@@ -393,7 +393,7 @@ class Pictures(Promises):
         """The cause, the entry, both owners of shared bytes, the bytes around the offset, who writes such blocks, and what helps."""
         self.files("p", a=jpeg(app1(BLOCKS["Overlap"])))
         (found,) = self.objects("explain", "@/p/a.jpg", status=2)
-        self.assertEqual((found["cause"], found["place"]), ("Overlap", 34))
+        self.assertEqual((found["cause"], found["offset"]), ("Overlap", 34))
         self.assertIn("Software (0131)", found["here"][0])
         self.assertEqual(found["here"][1].count("the value of "), 2)
         self.assertTrue(any(it.endswith("^^ 34") for it in found["bytes"]), found["bytes"])

@@ -99,7 +99,7 @@ def block_members(block: Block) -> Members:
         "status": block.status,
         "digest": block.digest,
         "cause": block.cause,
-        "place": block.place,
+        "offset": block.place,
     }
     return {**{name: value for name, value in known.items() if value is not None}, "length": block.length}
 

@@ -33,7 +33,7 @@ def judge(kind: str, block: bytes, packs: bool = False, at: FoundBlock = _BY_ITS
     try:
         form = exifnorm.normal(block)
     except exifnorm.Refused as refused:
-        result = Block(kind, *at[2:5], Status.REFUSED, None, refused.cause, refused.place, len(block), octets)
+        result = Block(kind, *at[2:5], Status.REFUSED, None, refused.cause, refused.offset, len(block), octets)
         return _repaired(result, block, packs, budget) if kind == EXIF else result
     except exifnorm.NormalTooLong:
         return Block(kind, *at[2:5], Status.TOO_LONG, None, "NormalTooLong", None, len(block), octets)

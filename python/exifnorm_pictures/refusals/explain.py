@@ -63,7 +63,7 @@ class Explanation:
 
     def members(self) -> Members:
         """The explanation as a JSON object."""
-        known: Members = {"kind": self.kind, "status": self.judgement.status, "cause": self.judgement.cause, "place": self.judgement.place}
+        known: Members = {"kind": self.kind, "status": self.judgement.status, "cause": self.judgement.cause, "offset": self.judgement.place}
         if self.cause is None and self.here:
             known.update(sentence=self.here[0], remedy=self._here()[-1].replace("Remedy: ", "", 1))
         if self.cause is not None:

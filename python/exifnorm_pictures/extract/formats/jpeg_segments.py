@@ -100,7 +100,7 @@ def _parts(octets: bytes, budget: Budget) -> Tuple[List[PartRow], str, int]:
         return (
             [(marker, PART_KINDS.index(kind), begins, start, size) for marker, kind, begins, start, size in why.parts],
             why.cause,
-            why.place,
+            why.offset,
         )
     except exifnorm.TooMany as many:
         budget.spend(SEGMENTS, many.most + 1)  # which raises
