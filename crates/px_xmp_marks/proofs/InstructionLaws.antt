@@ -5,7 +5,7 @@ use Rattle.std.proofs.lemmas.List.{take_at, drop_at, take-append-drop, length-ta
 use Rattle.std.proofs.lemmas.Bool.{cases_Bool, cond-true, cond-false, ne_eqb}
 use Rattle.std.specs.List.{starts_with}
 use Rattle.px_xmp_marks.specs.Reading.{is_space, is_name_char, ncname}
-use Rattle.px_xmp_marks.specs.Grammar.{AreSpaces, IsNcName}
+use Rattle.px_xmp_marks.specs.Grammar.{AreSpaces}
 use Rattle.px_xmp_marks.specs.Sections.{find, HasNo}
 use Rattle.px_xmp_marks.specs.Instructions.{is_reserved, begins_space, to_end, from_target, instruction, IsInstruction, InstructionsAreRead, OnlyInstructionsAreRead}
 use Rattle.px_xmp_marks.proofs.NameLaws.{Stops, ReadNcName, ncname_reads, ncname_found, some_same}

@@ -5,3 +5,4 @@ pub mod TagLaws
 pub mod SectionLaws
 pub mod CommentLaws
 pub mod InstructionLaws
+pub mod DeclarationLaws

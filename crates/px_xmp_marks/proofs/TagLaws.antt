@@ -292,7 +292,7 @@ start_tags_are_read x rest n l b (y, z, h, are, w) =
     omega (arith, ap length w, length-append y (z ++ closing b), length-append z (closing b), name_size y n h) in
     (t, is, refl, ap (option_map (λ (r : Listed). r.0)) read, refl, size)
 
-and_both : (a b : Bool) → (a && b) ≡ true → (a ≡ true) × (b ≡ true)
+pub and_both : (a b : Bool) → (a && b) ≡ true → (a ≡ true) × (b ≡ true)
 and_both true b h = (refl, h)
 and_both false b h = absurd (cc)
 

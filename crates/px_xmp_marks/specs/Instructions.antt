@@ -1,5 +1,5 @@
 -- Processing instructions: how they are read, and the grammar. XML 1.0, 2.6; Namespaces in XML 1.0, 7.
-use Rattle.std.specs.Prelude.{◌≡◌, ◌≤◌, ◌+◌, ◌==◌, ◌&&◌, ◌||◌, ◌⊎◌, ℕ, Bool, true, false, nat_eq, if◌then◌else◌, codes}
+use Rattle.std.specs.Prelude.{◌≡◌, ◌≤◌, ◌+◌, ◌==◌, ◌&&◌, ◌||◌, ◌⊎◌, ℕ, Bool, false, nat_eq, if◌then◌else◌, codes}
 use Rattle.std.specs.Prelude.{Option, Some, None, option_and_then, List, [], ◌∷◌, ◌++◌, length, drop, take}
 use Rattle.std.specs.List.{starts_with}
 use Rattle.px_xmp_marks.specs.Reading.{is_space, ncname}

@@ -4,3 +4,4 @@ pub mod Laws
 pub mod Sections
 pub mod Comments
 pub mod Instructions
+pub mod Declarations

@@ -18,7 +18,7 @@ pub struct Attribute<'a> {
 
 // The length of the equals sign at the start, with the white space around it.
 #[tactic(auto, unfolding(crate::specs::Reading::eq_len))]
-fn eq_len(octets: &[u8]) -> Option<usize>
+pub(crate) fn eq_len(octets: &[u8]) -> Option<usize>
     ensures value { result ≡ eq_len octets.now }
     ensures within { IfSome result (λ n. n ≤ length octets.now) }
 {
@@ -64,7 +64,7 @@ fn value_len(octets: &[u8], quote: u8) -> Option<usize>
 
 // The quoted value at the start, without its quotation marks.
 #[tactic(auto, unfolding(crate::specs::Reading::att_value))]
-fn att_value<'a>(octets: &'a [u8]) -> Option<&'a [u8]>
+pub(crate) fn att_value<'a>(octets: &'a [u8]) -> Option<&'a [u8]>
     ensures value { option_map (λ v. v.now) result ≡ att_value octets.now }
     ensures within { IfSome result (λ v. length v.now + 2 ≤ length octets.now) }
 {

@@ -3,6 +3,7 @@
 ghost use Rattle.px_xmp_marks.specs.Laws.{AttributesAreRead, OnlyAttributesAreRead, StartTagsAreRead, OnlyStartTagsAreRead};
 ghost use Rattle.px_xmp_marks.specs.Laws.{EndTagsAreRead, OnlyEndTagsAreRead, AttributesInOrder};
 ghost use Rattle.px_xmp_marks.specs.Sections.{SectionsAreRead, OnlySectionsAreRead};
+ghost use Rattle.px_xmp_marks.specs.Declarations.{DeclarationsAreRead, OnlyDeclarationsAreRead};
 ghost use Rattle.px_xmp_marks.specs.Comments.{CommentsAreRead, OnlyCommentsAreRead};
 ghost use Rattle.px_xmp_marks.specs.Instructions.{InstructionsAreRead, OnlyInstructionsAreRead};
 
@@ -69,4 +70,14 @@ pub fn instructions_are_read()
 /// What is read as a processing instruction is one of the grammar.
 pub fn only_instructions_are_read()
     ensures { OnlyInstructionsAreRead }
+{}
+
+/// Each XML declaration of the grammar is read, whatever follows it.
+pub fn declarations_are_read()
+    ensures { DeclarationsAreRead }
+{}
+
+/// What is read as an XML declaration is one of the grammar.
+pub fn only_declarations_are_read()
+    ensures { OnlyDeclarationsAreRead }
 {}

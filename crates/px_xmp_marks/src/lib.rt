@@ -1,10 +1,11 @@
-//! The marks of XML 1.0 with namespaces, as they are written: names, attributes, tags, CDATA sections, comments and
-//! processing instructions. Namespaces are found elsewhere. A name has ASCII letters, digits, `_`, `-` and `.` alone, as
+//! The marks of XML 1.0 with namespaces, as they are written: names, attributes, tags, CDATA sections, comments,
+//! processing instructions and the XML declaration. Namespaces are found elsewhere. A name has ASCII letters, digits, `_`, `-` and `.` alone, as
 //! those of XMP have; others are for another reader. It works on octets, and allocates nothing.
 #![tactic(auto)]
 
 mod attributes;
 mod comments;
+mod declarations;
 mod instructions;
 pub mod laws;
 mod listing;
@@ -14,6 +15,7 @@ mod tags;
 
 pub use attributes::{Attribute, read_attribute};
 pub use comments::read_comment;
+pub use declarations::{Declaration, read_declaration};
 pub use instructions::read_instruction;
 pub use listing::{NextAttribute, next_attribute};
 pub use names::{Name, read_name};
