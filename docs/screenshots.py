@@ -22,7 +22,7 @@ SAMPLES = DOCS.parent / "samples"
 WIDTH, HEIGHT, COLOURS, MARGIN = 920, 2600, 96, 12
 # the name of each picture, and the titles of the sections that it shows
 PICTURES = {
-    "report.png": ["At a glance", "What changed"],
+    "report.png": ["What changed", "At a glance", "Changed pictures"],
     "report-same.png": ["Pictures with the same metadata"],
     "report-refused.png": ["Refused blocks and what helps"],
 }
@@ -47,15 +47,19 @@ def report(command: str, folder: Path) -> str:
 
 
 def only(page: str, titles: list[str]) -> str:
-    """The page with these sections alone, their lists open."""
+    """The page with these sections alone."""
 
     def kept(found: re.Match[str]) -> str:
-        return found[0] if any(f"<h2>{it}</h2>" in found[0] for it in titles) else ""
+        return found[0] if any(_is_titled(found[0], it) for it in titles) else ""
 
     sections = re.compile(r"<section\b.*?</section>", re.S)
-    if len({it for it in titles if f"<h2>{it}</h2>" in page}) != len(titles):
+    if not all(_is_titled(page, it) for it in titles):
         sys.exit(f"the report has no section {titles}")
-    return sections.sub(kept, page).replace("<details>", "<details open>")
+    return re.sub(r"<nav\b.*?</nav>", "", sections.sub(kept, page), flags=re.S)
+
+
+def _is_titled(page: str, title: str) -> bool:
+    return re.search(rf"<h2\b[^>]*>{re.escape(title)}</h2>", page) is not None
 
 
 def take(page: str, folder: Path) -> Image.Image:

@@ -12,8 +12,6 @@ from made_files import app1, app1_xmp, jpeg, xmp
 from studio import TOP
 from test_captions import CREATOR, LONG_NAME, data_set, with_record, with_texts
 
-from exifnorm_pictures.report import contents, rendering
-
 LONG = "Ein Gefäß aus Köln, zerbrochen und geklebt. " * 20
 
 
@@ -54,7 +52,7 @@ def reported(folder, called):
     def call(*words):
         run("report", "--catalogue", "c", "--html", "page.html", *words)
         page = Path("page.html").read_text(encoding="utf-8")
-        return unescape(re.sub("<[^>]*>", " ", page.partition("<h2>Contradictions</h2>")[2].partition("</section>")[0]))
+        return unescape(re.sub("<[^>]*>", " ", page.partition(">Contradictions</h2>")[2].partition("</section>")[0]))
 
     run("index", "p", "--catalogue", "c", "--quiet")
     call.run = run
@@ -78,7 +76,7 @@ def test_the_pictures_are_those_of_conflicts(reported):
     assert listed(reported.run("report", "--catalogue", "c", "--json")) == expected
     section = reported()
     assert [name for name in (f"{it}.jpg" for it in PICTURES) if f" {name} " in section] == ["different.jpg", "two.jpg", "long.jpg"]
-    assert "Anna" in section and "Otto" in section and "Neu." not in section, "long texts are cut"
+    assert "Anna" in section and "Otto" in section and section.count(LONG.strip()) == 2 and "Neu." in section, "long texts are whole"
     assert "Of 7 pictures" in section and "3 contradict themselves" in section
     assert "1 picture not wholly compared" in section, "the refused one"
     assert "1 more picture with differences of form alone" in section
@@ -92,13 +90,6 @@ def test_files_are_not_needed(reported):
         Path(f"p/{name}.jpg").unlink()
     assert listed(reported.run("report", "--catalogue", "c", "--json")) == expected
     assert "1 picture not wholly compared" in reported("--no-look")
-
-
-def test_the_list_of_a_page_is_bounded(reported, monkeypatch):
-    monkeypatch.setattr(contents, "MOST_CONTRADICTIONS", 1)
-    monkeypatch.setitem(rendering.MOST, "CONTRADICTIONS", 1)
-    section = reported()
-    assert "different.jpg" in section and "two.jpg" not in section and ".. and 2 more pictures" in section
 
 
 def test_some_pictures(reported, folder):

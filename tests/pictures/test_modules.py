@@ -12,7 +12,6 @@ import sqlite3
 import sys
 import tempfile
 import unittest
-from collections import Counter
 from unittest import mock
 
 from made_blocks import BLOCKS, with_exif
@@ -32,7 +31,6 @@ from exifnorm_pictures.model import xmp_names as short_names
 from exifnorm_pictures.model.found import Broken, NotRead
 from exifnorm_pictures.model.records import Picture
 from exifnorm_pictures.refusals import explain, mend
-from exifnorm_pictures.report import contents, rendering
 from exifnorm_pictures.scan import index, walk
 
 
@@ -260,27 +258,6 @@ class Printed(unittest.TestCase):
             (b"", False),
         ):
             self.assertEqual(page_file._is_page(head), is_one, head)
-
-
-class Pieces(unittest.TestCase):
-    """Pieces of the report's page."""
-
-    def test_the_bar_of_states(self):
-        """Its parts are side by side, and together 1,000 wide."""
-        page = rendering.page(contents.Gathered(total=4, states=Counter({"accepted": 3, "refused": 1})), "")
-        self.assertEqual(
-            re.findall(r'class="(\w+)" x="([\d.]+)" width="([\d.]+)"', page), [("good", "0.0", "750.0"), ("bad", "750.0", "250.0")]
-        )
-
-    def test_a_long_value(self):
-        text = "".join(chr(0x61 + number % 26) for number in range(301))
-        self.assertEqual([contents.shortened(it) for it in (text[:300], text)], [text[:300], f"{text[:300]} .."])
-        rows = [("IFD0:Make", text, text + "x", "")] * 41
-        _, result, note, count, first = json.loads(contents._text_of("different", text, rows))
-        self.assertEqual((result, note, count, len(first)), ("different", f"{text[:300]} ..", 41, 40))
-        self.assertEqual(first[0], ["IFD0:Make", f"{text[:300]} ..", f"{text[:300]} ..", ""])
-        other = [*rows[:40], ("IFD0:Make", text, text + "y", "")]
-        self.assertNotEqual(contents._text_of("different", text, rows), contents._text_of("different", text, other), "all of it counts")
 
 
 class Listed(unittest.TestCase):

@@ -25,7 +25,7 @@ from exifnorm_pictures.scan import batches, index
 from exifnorm_pictures.extract.formats import jpeg_tail
 
 DOUBLED = BLOCKS["Doubled"]
-OUTSIDE = re.compile(r"<script|<link|(?:src|href)=.(?!data:)")  # what a page runs, or loads from elsewhere
+OUTSIDE = re.compile(r"<script|<link|src=.(?!data:)|href=.(?!file:///|#)")  # what a page runs, or loads from elsewhere, or leads to
 MANY = b"\x11" * 100_000  # picture data that is longer than the tail
 
 
@@ -363,7 +363,7 @@ class Catalogues(Promises):
         )
         for part in (
             "<b>2</b> accepted",
-            ">Doubled</text>",
+            '<th scope="row">Doubled</th>',
             "2 pictures <span",
             '<img src="data:image/',
             "IFD0:Make",

@@ -4,6 +4,7 @@ import os
 import re
 import shutil
 from html.parser import HTMLParser
+from urllib.parse import unquote_to_bytes
 
 from made_blocks import BLOCKS, MAKE, MODEL, block, with_exif, with_iptc
 from studio import SMALL_JPEG, WithPictures, needs, read, run, write
@@ -18,22 +19,26 @@ def picture(maker, model=b"Xyz\0"):
 
 
 class Text(HTMLParser):
-    """The texts of a page by their element, or its class; whether each element is closed."""
+    """The texts of a page by their element, or its class, and by section; its links; whether each element is closed."""
 
     VOID = {"meta", "img", "rect", "br"}
 
     def __init__(self, page):
         super().__init__()
-        self.open, self.found, self.wrong = [], {}, []
+        self.open, self.found, self.wrong, self.links, self.sections, self.within = [], {}, [], [], {}, ""
         self.feed(page)
         self.close()
 
     def handle_starttag(self, tag, attributes):
         if tag not in self.VOID:
             self.open.append((tag, dict(attributes).get("class") or tag))
+        if tag == "section":
+            self.within = dict(attributes).get("id", "")
         for name, value in attributes:
-            if name.startswith("on") or (name in ("src", "href") and not value.startswith("data:")):
+            if name.startswith("on") or (name in ("src", "href") and not value.startswith(("data:", "file:///", "#"))):
                 self.wrong.append((tag, name, value))
+            if name == "href":
+                self.links.append(value)
 
     def handle_endtag(self, tag):
         if tag in self.VOID:
@@ -44,9 +49,14 @@ class Text(HTMLParser):
     def handle_data(self, data):
         for _, name in self.open:
             self.found.setdefault(name, []).append(data)
+        self.sections.setdefault(self.within, []).append(data)
 
     def texts(self, name):
         return [it.strip() for it in self.found.get(name, []) if it.strip()]
+
+    def rows(self, name):
+        """The texts of each row of the tables of a class: what is in a row comes without an end of a line."""
+        return "".join(self.found.get(name, [])).split("\n")
 
 
 class Report(WithPictures):
@@ -82,29 +92,39 @@ class Report(WithPictures):
         self.assertEqual(counts[report.STATE_WORDS["refused"]], str(REFUSED))
         self.assertEqual([*counts.values()][-2:], ["8", str(CHANGED + 3)])
         heads = [it for it in page.texts("h3") if re.match(r"\d+ pictures", it)]
-        self.assertEqual(heads, ["5 pictures", "3 pictures"])
-        names = page.texts("small")
-        self.assertEqual(
-            sorted(names), sorted(f"{maker[:3]}{number}.jpg" for maker in ("One\0", "Two\0") for number in range(GROUPS[maker]))
-        )
-        self.assertEqual(page.texts("summary").count(f"{CHANGED} pictures"), 1)
-        self.assertLess(self.page.index(f"{CHANGED} pictures"), self.page.index("alone.jpg"), "what is in many pictures comes first")
-        rows = page.texts("fields")
-        self.assertEqual([rows.count(it) for it in ('"Old"', '"New"', '"Alo"', '"<b>"')], [1, 1, 1, 1])
+        self.assertEqual(heads, [f"{CHANGED} pictures", "5 pictures", "3 pictures"])
+        self.assertLess(self.page.index(f"{CHANGED} pictures</h3>"), self.page.index(">alone.jpg</a></h3>"), "what is in many comes first")
+        rows = ["".join(it) for it in page.rows("fields")]
+        for value in ('"Old"', '"New"', '"Alo"', '"<b>"'):
+            self.assertEqual(sum(value in it for it in rows), 1, value)
+        changed = page.sections["changed"]
         for name in ("added.jpg", "Ten1.jpg", *(f"changed{number}.jpg" for number in range(CHANGED))):
-            self.assertEqual(sum(name in it for it in page.texts("name")), 1, name)
-        self.assertEqual([it for it in page.texts("h3") if it == "Overlap"], ["Overlap"])
+            self.assertEqual(sum(name in it for it in changed), 1, name)
+        self.assertEqual(page.texts("cause"), ["Overlap"])
+        for number in range(REFUSED):
+            path = self.path("p", f"refused{number}.jpg")
+            self.assertIn(f"exifnorm-pictures mend {path} mended-refused{number}.jpg", " ".join(page.sections["refused"]))
 
-    def test_long_lists_are_cut(self):
-        for number in range(100):
+    def test_each_picture_is_a_link_and_none_is_left_out(self):
+        """Of 23 pictures that are there each is in the list by folder, with what the other lists say of it, and each link leads to a file."""
+        page = Text(self.page)
+        files = {os.path.join(self.path("p"), it) for it in os.listdir(self.path("p"))}
+        linked = {os.fsdecode(unquote_to_bytes(it[7:])) for it in page.links if it.startswith("file://")}
+        self.assertEqual(linked, files, "one that is gone has no link")
+        self.assertEqual({it for it in page.texts("small") if it.endswith(".jpg")}, {os.path.basename(it) for it in files})
+        self.assertEqual([it for it in page.links if it.startswith("#") and f' id="{it[1:]}"' not in self.page], [], "they lead nowhere")
+        self.assertNotIn("--json", self.page)
+
+    def test_long_lists_are_whole(self):
+        for number in range(300):
             write(self.path("p", f"z{number:03}.jpg"), with_exif(SMALL_JPEG, BLOCKS["Doubled"]))
         self.asked("index", "p", "--catalogue", "c", "--quiet")
         self.asked("report", "--catalogue", "c", "--html", "r.html")
         page = Text(read(self.path("r.html")).decode())
-        self.assertEqual(sum("Doubled at" in it for it in page.texts("note")), 60)
-        self.assertIn(".. and 40 more blocks, which --json lists", page.texts("note"))
+        refused = " ".join(page.sections["refused"])
+        self.assertEqual({it for it in range(300) if f"mended-z{it:03}.jpg" in refused}, set(range(300)))
         self.assertEqual(
-            sum(it.startswith('{"refused"') and '"Doubled"' in it for it in self.asked("report", "--catalogue", "c", "--json")), 100
+            sum(it.startswith('{"refused"') and '"Doubled"' in it for it in self.asked("report", "--catalogue", "c", "--json")), 300
         )
 
     @needs("chromium")

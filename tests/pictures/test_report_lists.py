@@ -12,7 +12,7 @@ from made_blocks import BLOCKS, with_exif, with_iptc
 from made_files import app1_xmp, jpeg, xmp
 from studio import SMALL_JPEG
 
-from exifnorm_pictures.report import contents, rendering, templating
+from exifnorm_pictures.report import contents
 
 TOP = Path(__file__).resolve().parent.parent.parent
 RECORD = b"\x1c\x02\x78"  # the head of a DataSet, without the rest
@@ -57,18 +57,10 @@ def test_without_jinja2(folder: Path, called: Callable[..., Any], monkeypatch: p
     (folder / "p").mkdir()
     (folder / "p" / "a.jpg").write_bytes(SMALL_JPEG)
     called("index", "p", "--catalogue", "c", "--quiet")
-    templating.environment.cache_clear()
     monkeypatch.setitem(sys.modules, "jinja2", None)
     status, _, messages = called("report", "--catalogue", "c", "--html", "page.html")
     assert status == 4 and "python3-jinja2" in messages and not (folder / "page.html").exists()
     assert called("report", "--catalogue", "c", "--json")[0] == 0
-
-
-@pytest.mark.parametrize("more", [0, 1])
-def test_a_page_counts_what_it_leaves_out(more: int) -> None:
-    number = contents.MOST_GROUPS + more
-    made = rendering.page(contents.Gathered(all_groups=(number, 2 * number)), "a title")
-    assert (".. and 1 more groups" in made, ".. and 0 more" in made) == (more == 1, False)
 
 
 @pytest.mark.parametrize("most, left", [(5, 0), (4, 2), (2, 6)])

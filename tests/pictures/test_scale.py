@@ -8,7 +8,7 @@ import sys
 from collections import Counter
 
 import made_files as made
-from studio import WithPictures, needs, run, write
+from studio import WithPictures, needs, read, run, write
 
 from exifnorm_pictures.catalogue.store import Catalogue
 from exifnorm_pictures.model.found import EXIF
@@ -168,13 +168,16 @@ class Scale(WithPictures):
             self.grows_little(few, many)
 
     def test_report_of_many_pictures(self):
-        sizes = []
-        for count in (2000, 100000):
-            cost = self.counted("report", "--catalogue", self.catalogue(f"c{count}", count), "--html", f"page{count}")
-            sizes.append((os.path.getsize(self.path(f"page{count}")), cost))
-        self.grows_little(sizes[0][1], sizes[1][1])
-        self.assertLess(sizes[1][0] - sizes[0][0], 1000, "the page shows counts and the first groups alone")
-        self.assertEqual(sizes[1][1]["picture"], sizes[0][1]["picture"])
+        """All are on its pages, of which one is in memory at a time, and what is read of each is the same."""
+        costs = []
+        for count in (2000, 20000):
+            name, old = self.catalogue(f"c{count}", count), self.catalogue(f"old{count}", count, "n + 1000000", mark=1)
+            costs.append(self.counted("report", name, "--since", old, "--no-look", "--html", f"report{count}/"))
+            pages = [read(it.path) for it in os.scandir(self.path(f"report{count}")) if it.name.startswith("folders-")]
+            self.assertEqual(sum(page.count(b'<li><a href="file://') for page in pages), count)
+        self.grows_little(*costs)
+        for what in ("rows", "statement", "steps"):
+            self.assertLess(costs[1][what], 12 * costs[0][what], what)
 
     # Statements, rows that Python gets, and steps of SQLite
 

@@ -4,7 +4,6 @@ import contextlib
 import hashlib
 import json
 import os
-import pprint
 import re
 import sqlite3
 import tempfile
@@ -29,7 +28,8 @@ from exifnorm_pictures.files.session import Session
 from exifnorm_pictures.model.found import EXIF, IPTC, NAMES, XMP, NotRead
 from exifnorm_pictures.model.records import PICTURES, Block, Picture, Stamp
 from exifnorm_pictures.model.results import Result
-from exifnorm_pictures.report import contents
+from exifnorm_pictures.report import contents, lists
+from exifnorm_pictures.report.changes import Changes
 from exifnorm_pictures.scan import looking
 
 BASE = {EXIF: "e", IPTC: "i", XMP: "x"}
@@ -306,16 +306,18 @@ class Tables(WithPictures):
             picture("m", problem="NoPicture"),
             picture("u", problem="Unreadable"),
         ]
-        found = contents.gather(contents.About(self.catalogue("c", *now), self.catalogue("old", *old), look=False))
+        about = contents.About(self.catalogue("c", *now), self.catalogue("old", *old), look=False)
+        found = lists.counts_of(about)
         self.assertEqual(found.total, 9)
         self.assertEqual(dict(found.states), {"accepted": 3, "refused": 2, "no block": 1, "NoPicture": 2, "Unreadable": 1})
-        self.assertEqual((found.all_problems, [it.problem for it in found.problems]), (3, ["Unreadable", "NoPicture", "NoPicture"]))
+        self.assertEqual([it.data.problem for it in lists.problems(about)], ["Unreadable", "NoPicture", "NoPicture"])
         self.assertEqual(dict(found.causes), {"Overlap": 2, "DataSetCut": 1})
         self.assertEqual((dict(found.parts), found.unread), ({"trailer": 2, "other": 1}, 2))
-        self.assertEqual(found.all_groups, (0, 0))
-        self.assertEqual(dict(found.results), {"same": 1, "refused": 1, "different": 2, "missing before": 5})
-        self.assertEqual((dict(found.fields), found.all_changed), ({"IFD0:Make": 2}, 4))
-        chosen = contents.gather(contents.About(self.catalogue("d", *now), only={b"/a/b", b"/a/n"}, look=False))
+        self.assertEqual(found.groups, (0, 0))
+        with contextlib.closing(Changes(about)) as changes:
+            self.assertEqual(dict(changes.results), {"same": 1, "refused": 1, "different": 2, "missing before": 5})
+            self.assertEqual([(it.data.total, len(it.data.rows)) for it in changes.entries()], [(1, 1), (1, 1), (5, 0), (1, 0)])
+        chosen = lists.counts_of(contents.About(self.catalogue("d", *now), only={b"/a/b", b"/a/n"}, look=False))
         self.assertEqual((chosen.total, dict(chosen.causes)), (2, {"Overlap": 1, "DataSetCut": 1}))
 
 
@@ -472,13 +474,15 @@ class Reported(WithPictures):
         made.end_run(1, "2000-01-01T00:00:09Z")
         self.about = contents.About(made, self.catalogue("old", *old), look=False)
 
-    def test_what_is_gathered(self):
-        """All of it, and the objects of --json, in golden/report-*.txt."""
-        found = contents.gather(self.about)
-        members = {**vars(found), "problems": [it.path for it in found.problems]}
-        for name in ("results", "coded"):
-            members[name] = Counter({str(word): count for word, count in members[name].items()})
-        self.golden("report-gathered.txt", "".join(f"{name}: {pprint.pformat(it, width=140)}\n" for name, it in members.items()))
+    def test_what_is_counted(self):
+        found = lists.counts_of(self.about)
+        states = Counter(it.state for it in self.about.catalogue.pictures())
+        self.assertEqual((found.total, found.states), (10, states), "a state by SQL is that of the record")
+        self.assertEqual(found.causes, {"DataSetCut": 1, "Overlap": 1, "NoRDF": 1})
+        self.assertEqual((found.parts, found.unread, found.groups), ([("trailer", 2), ("a chunk", 1)], 2, (2, 4)))
+
+    def test_objects(self):
+        """The objects of --json, in golden/report-objects.txt."""
         self.golden("report-objects.txt", "".join(json.dumps(it) + "\n" for it in contents.members(self.about)))
 
     def test_results_of_a_library_without_proofs(self):
@@ -489,37 +493,33 @@ class Reported(WithPictures):
     def test_chosen_pictures(self):
         """Their counts, groups, refusals and unread parts alone."""
         about = contents.About(self.about.catalogue, None, {b"/a/b1", b"/a/b2", b"/a/new", b"/a/r\xff", b"/a/no"}, look=False)
-        found = contents.gather(about)
+        found = lists.counts_of(about)
         self.assertEqual(
-            (found.total, dict(found.causes), dict(found.parts), found.unread, found.all_groups, found.all_problems, found.since),
-            (5, {"Overlap": 1, "NoRDF": 1}, {"trailer": 1, "a chunk": 1}, 1, (1, 2), 1, False),
+            (found.total, dict(found.causes), found.parts, found.unread, found.groups),
+            (5, {"Overlap": 1, "NoRDF": 1}, [("a chunk", 1), ("trailer", 1)], 1, (1, 2)),
         )
+        self.assertEqual([it.data.path for it in lists.problems(about)], [b"/a/no"])
         kinds = [next(iter(it)) for it in contents.members(about)]
         self.assertEqual(kinds, ["pictures", "same", "refused", "refused", "problem", "not_read"])
         self.assertEqual(next(contents.members(about))["pictures"], 5)
 
-    def test_the_first_of_each_list(self):
-        """Pictures that can't be read come before those that are none."""
+    def test_the_order_of_lists(self):
+        """Files that can't be read come before those that are no pictures, what is in many pictures before what is in few."""
         rows = [picture(f"n{it}", problem="NoPicture") for it in range(3)] + [picture(f"u{it}", problem="Unreadable") for it in range(3)]
         rows += [picture(f"o{it}", {EXIF: "!Overlap"}) for it in range(3)] + [
-            picture(f"g{it}{more}", {EXIF: f"g{it}"}) for it in range(3) for more in "abc"
+            picture(f"g{it}{more}", {EXIF: f"g{it}"}) for it in range(3) for more in "abc"[: it + 1]
         ]
-        old = [picture(f"g{it}{more}", {EXIF: f"old{it}"}) for it in range(3) for more in "abc"]
-        limits = {"MOST_CHANGES": 2, "MOST_REFUSED": 2, "MOST_GROUPS": 2, "MOST_OF_GROUP": 2, "MOST_NAMES": 2}
-        with mock.patch.multiple(contents, **limits):
-            found = contents.gather(contents.About(self.catalogue("many", *rows), self.catalogue("before", *old), look=False))
-        self.assertEqual(([it.path for it in found.problems], found.all_problems), ([b"/a/u0", b"/a/u1"], 6))
-        self.assertEqual(([it.path for it in found.refused["Overlap"]], dict(found.causes)), ([b"/a/o0", b"/a/o1"], {"Overlap": 3}))
+        old = [picture(f"g{it}{more}", {EXIF: f"old{it}"}) for it in range(3) for more in "abc"[: it + 1]]
+        about = contents.About(self.catalogue("many", *rows), self.catalogue("before", *old), look=False)
+        self.assertEqual([it.data.path[-2:] for it in lists.problems(about)], [b"u0", b"u1", b"u2", b"n0", b"n1", b"n2"])
+        self.assertEqual([it.data.block.path for it in lists.refusals(about, lists.counts_of(about))], [b"/a/o0", b"/a/o1", b"/a/o2"])
+        groups = [it.data.pictures for it in lists.same(about, lists.Counts())]
+        self.assertEqual(groups, [[b"/a/g2a", b"/a/g2b", b"/a/g2c"], [b"/a/g1a", b"/a/g1b"], [b"/a/o0", b"/a/o1", b"/a/o2"]])
+        with contextlib.closing(Changes(about)) as changes:
+            found = [(it.data.result, [one.name for one in it.data.pictures]) for it in changes.entries()]
         self.assertEqual(
-            ([it[::2] for it in found.groups], found.all_groups), ([(3, [b"/a/g0a", b"/a/g0b"]), (3, [b"/a/g1a", b"/a/g1b"])], (3, 9))
+            [names for result, names in found if result == "different"], [[b"g2a", b"g2b", b"g2c"], [b"g1a", b"g1b"], [b"g0a"]]
         )
-        self.assertEqual(
-            ([(it.count, it.names) for it in found.changed], found.all_changed), ([(3, [b"g0a", b"g0b"]), (3, [b"g1a", b"g1b"])], 4)
-        )
-        with mock.patch.multiple(contents, **limits):
-            self.assertEqual(
-                [it.path for it in contents.gather(contents.About(self.catalogue("few", *rows[:4]))).problems], [b"/a/u0", b"/a/n0"]
-            )
 
 
 class File(WithPictures):

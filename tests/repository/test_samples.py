@@ -91,7 +91,7 @@ def test_the_sections_of_the_screenshots_are_in_the_report(tmp_path, library):
     command.chmod(0o755)
     page = screenshots.report(str(command), tmp_path)
     for name, titles in screenshots.PICTURES.items():
-        assert re.findall("<h2>(.*?)</h2>", screenshots.only(page, titles)) == titles
+        assert re.findall("<h2[^>]*>(.*?)</h2>", screenshots.only(page, titles)) == titles
         assert (TOP / "docs" / name).exists()
     assert str(tmp_path) not in page
     with pytest.raises(SystemExit):

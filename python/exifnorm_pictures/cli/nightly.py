@@ -30,7 +30,7 @@ from .letter import command, letter
 from .looking import how_of
 from .objects import print_object
 from .output import local_time, print_line
-from .page_file import write_page
+from .page_file import write_report
 
 Broken = Optional[Tuple[int, int]]  # how many pictures break a rule tonight, and how many did at the last night
 
@@ -131,9 +131,9 @@ def run(arguments: argparse.Namespace) -> int:
     if not any(map(os.path.isdir, folders)) and not os.path.lexists(arguments.catalogue):
         raise _no_picture(folders)
     if arguments.html:
-        from ..report.templating import environment  # which takes long to import
+        from ..report.templating import check  # which takes long to import
 
-        environment()  # which may be missing
+        check()  # which may be missing
     rules = rules_of_file(arguments.rules) if arguments.rules else []
     about = repr((folders, arguments.sidecars, arguments.pixels, arguments.maker_notes, arguments.exclude))
     with Nights(arguments.catalogue, about) as nights:
@@ -170,14 +170,16 @@ def _tell(night: Night) -> None:
 
 
 def _write_page(night: Night) -> None:
-    from ..report import contents, rendering  # which take long to import
+    from ..report import book, contents  # which take long to import
 
     with contextlib.ExitStack() as open_:
         tonight = open_.enter_context(Catalogue(night.nights.tonight))
         last = None if night.is_first else open_.enter_context(Catalogue(night.nights.last))
         about = contents.About(tonight, last, session=night.arguments.session)
-        text = rendering.page(contents.gather(about), "Pictures and their metadata", night.arguments.session)
-        write_page(night.arguments.html, text, night.nights.names)
+        try:
+            write_report(about, night.arguments.html, night.nights.names)
+        except book.TooLarge as error:  # the letter is told all the same
+            signals.say(f"exifnorm-pictures: note: {night.arguments.html} isn't written: {error}")
 
 
 # The letter

@@ -1,25 +1,56 @@
-"""The file of a page that a command writes."""
+"""The page, or the folder of pages, that a command writes about a catalogue."""
 
 from __future__ import annotations
 
 import os
-from typing import BinaryIO, Sequence
+import sys
+from typing import TYPE_CHECKING, BinaryIO, Callable, Optional, Sequence
 
-from ..files import atomic
+from ..files import atomic, folders
+from ..scan.progress import Progress
+
+if TYPE_CHECKING:
+    from ..report.contents import About
+
+MARK = "exifnorm-report"  # the list of the files of a folder, by which it is known to be a report
 
 
-def _is_page(head: bytes) -> bool:
-    return head[:14].lower() == b"<!doctype html"
-
-
-def write_page(name: str, text: str, kept: Sequence[str]) -> None:
-    """Writes a page, which may replace an earlier one and no other file; least of all one of the catalogues. Raises `NotReplaced`."""
-    octets = text.encode("utf-8", "backslashreplace")
+def write_report(about: About, name: str, kept: Sequence[str]) -> None:
+    """Writes one page, or a folder of pages if the name ends with a slash or is a folder's. It may replace an earlier report, and nothing else;
+    least of all one of the catalogues `kept`, whose rights it gets. Raises `NotReplaced`, and `TooLarge` for one page."""
+    out = os.fsencode(name)
     try:
-        atomic.replace(os.fsencode(name), lambda file: _write(file, octets), _is_page, tuple(kept))
+        if name.endswith("/") or os.path.isdir(out):
+            with folders.replaced(out, MARK, kept) as folder:
+                folder.write("index.html", _octets(_shown(about, lambda page, text: folder.write(page, _octets(text)))))
+        else:
+            octets = _octets(_shown(about, None))
+            atomic.replace(out, lambda file: _write(file, octets), _is_page, tuple(kept))
     except atomic.NotReplaced as error:
         raise atomic.NotReplaced(atomic.not_written(name, error)) from None
 
 
+def _shown(about: About, put: Optional[Callable[[str, str], None]]) -> str:
+    """The first page, after all others were written."""
+    from ..report.book import Book  # which takes long to import
+
+    book = Book(about, put)
+    progress = Progress(book.counts.total, quiet=not sys.stderr.isatty())
+    book.done = progress.done
+    progress.start()
+    try:
+        return book.index()
+    finally:
+        progress.clear()
+
+
+def _octets(page: str) -> bytes:
+    return page.encode("utf-8", "backslashreplace")
+
+
 def _write(file: BinaryIO, octets: bytes) -> None:
     file.write(octets)
+
+
+def _is_page(head: bytes) -> bool:
+    return head[:14].lower() == b"<!doctype html"

@@ -428,7 +428,7 @@ def _nightly_arguments(parser: argparse.ArgumentParser) -> None:
     )
     parser.add_argument("--catalogue", required=True, type=_name, metavar="FILE", help=words)
     parser.add_argument("--rules", type=_name, metavar="RULES", help="a file of rules, as for check: what breaks one newly is news")
-    parser.add_argument("--html", type=_name, metavar="PAGE", help="if there is news, also write the report about it")
+    parser.add_argument("--html", type=_name, metavar="NAME", help="if there is news, also write the report about it, as report has it")
     parser.add_argument("--exclude", action="append", default=[], type=_name, metavar="PATTERN", help=_EXCLUDE)
     parser.add_argument("--maker-notes", action="store_true", help=_MAKER_NOTES)
     _more_arguments(parser)
@@ -456,9 +456,15 @@ def _conflicts_arguments(parser: argparse.ArgumentParser) -> None:
 
 
 def _report_arguments(parser: argparse.ArgumentParser) -> None:
-    parser.add_argument("--catalogue", required=True, type=_name, metavar="FILE")
+    _example(parser, "report new.catalogue --since old.catalogue --html report/")
+    parser.add_argument("source", nargs="?", type=_name, metavar="CATALOGUE", help="the catalogue")
+    parser.add_argument("--catalogue", type=_name, metavar="FILE", help="the same")
     parser.add_argument("--since", type=_name, metavar="OLD", help="an older catalogue: also list the changes")
-    parser.add_argument("--html", type=_name, metavar="PAGE", help="the page to write")
+    parser.add_argument("--rules", type=_name, metavar="RULES", help="also list the pictures that break these rules, as check has them")
+    words = "the page to write; NAME/ with a slash at the end writes a folder of pages, for an archive of any size"
+    parser.add_argument("--html", type=_name, metavar="NAME", help=words)
+    words = "where the names of pictures lead, such as https://dam.example/{path}, in place of the files; {name} has no folders"
+    parser.add_argument("--link-to", metavar="ADDRESS", help=words)
     parser.add_argument("--title", default="Pictures and their metadata", help="the page's title")
     parser.add_argument("--no-look", action="store_true", help="don't look at the files, as for a catalogue from elsewhere")
     _choice_arguments(parser)
@@ -512,7 +518,7 @@ _COMMANDS: Tuple[Tuple[str, str, Callable[[argparse.ArgumentParser], None]], ...
     ("captions", "print captions, names, keywords and rights of pictures, each with its fields", _captions_arguments),
     ("conflicts", "list pictures whose Exif, IPTC and XMP contradict each other", _conflicts_arguments),
     ("explain", "explain why a block is refused, and name remedies", _pictures_arguments),
-    ("report", "write one page about a catalogue", _report_arguments),
+    ("report", "write a page, or a folder of pages, about a catalogue", _report_arguments),
     ("export", "write a catalogue as plain tables of SQLite, for SQL, Datasette and pandas", _export_arguments),
     ("mend", "write a copy of a picture whose block is accepted", _mend_arguments),
 )

@@ -4,46 +4,26 @@ from __future__ import annotations
 
 from collections import Counter
 from itertools import zip_longest
-from typing import Iterator, List, NamedTuple, Optional, Sequence
+from typing import Iterator, Optional, Sequence
 
-from ..comparison import changed
-from ..comparison.summary import FIELDS, FieldCount, PartCount, Summary
-from ..comparison.wording import cut
-from ..model.texts import shown_path
+from ..comparison.summary import Summary
+from ..comparison.summary_lines import Line, equal_numbers, parts_of, results_of, rows_of, sentence
 from ..model.results import Result
 from .columns import NARROWEST, width, wrapped
 
 LINES = 30  # of the page
 WIDEST = 84  # columns in front of the numbers, if they are aligned and this is no terminal
 LEAST = 6  # lines for fields, and for blocks, however many results there are
-SHOWN_VALUES = 3  # values of a field that have a line each
-GROUPS = 4  # groups whose further fields have a line each
-LONGEST_NAMES = 100  # characters of the names of pictures in a line
-
-
-class Line(NamedTuple):
-    """What changed, and in how many pictures."""
-
-    text: str
-    pictures: int
-    note: str = ""
-    is_labelled: bool = False
-
-    @property
-    def number(self) -> str:
-        """The number of pictures in words."""
-        return _pictures(self.pictures) + self.note
 
 
 def lines(summary: Summary, counts: "Counter[Result]", notes: Sequence[str] = (), screen: Optional[int] = None) -> Iterator[str]:
     """The page, with some notes after the results. Fields with a label of `captions` come first. `screen` has the columns of a terminal."""
-    results = [*_results(summary, counts), *notes]
+    results = [*results_of(summary, counts), *notes]
     has_rest = any(counts[it] for it in counts if it.has_changed is not False)
-    parts, equal = _parts(summary), _equal_numbers(summary)
-    fields = _fields(summary, max(LEAST, LINES - len(results) - len(equal) - len(parts) - 6), screen)
-    rows = [*(it for it in fields if it.is_labelled), *parts, *(it for it in fields if not it.is_labelled), *equal]
+    room = max(LEAST, LINES - len(results) - len(equal_numbers(summary)) - len(parts_of(summary, LEAST)) - 6)
+    rows = rows_of(summary, lambda fields: _height(fields, screen) <= room, LEAST)
     more = ["  Further fields aren't counted."] * summary.has_more
-    yield _head(counts)
+    yield sentence(counts)
     if rows:
         yield ""
         yield from _table(rows, screen)
@@ -76,136 +56,3 @@ def _height(rows: Sequence[Line], screen: Optional[int]) -> int:
     second = _widest_count(screen)
     first = max(NARROWEST, screen - second - 4)
     return sum(max(len(wrapped(it.text, first)), len(wrapped(it.number, second))) for it in rows)
-
-
-def _head(counts: "Counter[Result]") -> str:
-    total, changes, undecided = changed.total(counts), changed.number_changed(counts), changed.number_undecided(counts)
-    if not total:
-        return "No picture to compare."
-    many = ["all changed" if changes == total > 1 else f"{changes:,} changed" if changes else "none changed"]
-    if undecided:  # then nobody knows that none changed
-        many = many[: bool(changes)] + [f"{undecided:,} not wholly compared"]
-    return f"{_pictures(total)} compared: {', '.join(many)}."
-
-
-def _pictures(count: int) -> str:
-    return f"{count:,} picture{'s' * (count != 1)}"
-
-
-# What changed
-
-
-def _parts(summary: Summary) -> List[Line]:
-    """A line for each block or directory that came or went."""
-    parts = sorted(summary.parts.values(), key=lambda it: (-it.pictures, it.name, it.sign))
-    rows = [Line(_part(it), it.pictures) for it in parts[:LEAST]]
-    if len(parts) > LEAST:
-        most = parts[LEAST].pictures
-        rows.append(Line(f"{len(parts) - LEAST:,} more blocks or directories added or removed", most, _at_most(most)))
-    return rows
-
-
-def _part(part: PartCount) -> str:
-    count = len(part.names)
-    many = f"{count:,}{' or more' * (count == FIELDS)} different field{'s' * (count != 1)}"
-    return f"{part.name} {'removed' if part.sign == '-' else 'added'} ({many})"
-
-
-def _at_most(count: int) -> str:
-    return " at most each" if count > 1 else " each"
-
-
-def _fields(summary: Summary, room: int, screen: Optional[int]) -> List[Line]:
-    """The lines of the fields; of those for which there is no room, a line for each group."""
-    every = summary.fields()
-    rows: List[Line] = []
-    for at, field in enumerate(every):
-        mine = _field(field)
-        if _height([*rows, *mine, *_further(every[at + 1 :])], screen) > room:
-            return rows + _further(every[at:])
-        rows += mine
-    return rows
-
-
-def _field(field: FieldCount) -> List[Line]:
-    """The lines of a field: its new values if they are few, and in how many pictures it is gone."""
-    rows: List[Line] = []
-    if len(field.steps) == 1 and sum(field.steps.values()) == field.has_value > 1:
-        rows.append(Line(f"{field.name}: {next(iter(field.steps))}", field.has_value))
-    elif len(field.values) <= SHOWN_VALUES and not field.uncounted:
-        for value in sorted(field.values.values(), key=lambda one: -one.count):
-            text = (value.is_one and value.first.change) or value.first.text
-            rows.append(Line(f"{field.name}{text}", value.count, _had_none(value.came, value.count)))
-    else:
-        first = next(iter(field.values.values())).first
-        many = f"more than {len(field.values)}" if field.uncounted else f"{len(field.values)}"
-        rows.append(
-            Line(f"{field.name}: {many} different values ({first.example} ..)", field.has_value, _had_none(field.came, field.has_value))
-        )
-    rows += [Line(f"{field.name} removed", field.went, _with_parts(field))] * bool(field.went)
-    return [row._replace(is_labelled=field.is_labelled) for row in rows]
-
-
-def _with_parts(field: FieldCount) -> str:
-    """In how many pictures a field went with a whole block."""
-    count = sum(field.in_parts.values())
-    what = f"all of {next(iter(field.in_parts))}" if len(field.in_parts) == 1 else "a whole block or directory"
-    return "" if not count else f", with {what}" if count == field.went else f", {count:,} of them with {what}"
-
-
-def _had_none(came: int, count: int) -> str:
-    return "" if not came else ", which had none" if came == count else f", {came:,} had none"
-
-
-def _group(field: FieldCount) -> str:
-    return field.name.partition(":")[0]
-
-
-def _further(left: Sequence[FieldCount]) -> List[Line]:
-    """The fields for which there is no room: a line for each of the largest groups, and one for all others."""
-    groups = [group for group, _ in Counter(map(_group, left)).most_common()]
-    own = groups[:GROUPS] if len(groups) > GROUPS + 1 else groups
-    rows = [_group_line(group, [it for it in left if _group(it) == group]) for group in own]
-    others = [it for it in left if _group(it) not in own]
-    return [*rows, _group_line("Other groups", others)] if others else rows
-
-
-def _group_line(group: str, fields: Sequence[FieldCount]) -> Line:
-    words = []
-    for word, of_kind in (
-        ("changed or added", [it for it in fields if it.has_value]),
-        ("removed", [it for it in fields if not it.has_value]),
-    ):
-        if of_kind:
-            names = ", ".join(it.name.partition(":")[2] or it.name for it in of_kind[:2])
-            words.append(f"{len(of_kind):,} {word} ({cut(names)}{' ..' if len(of_kind) > 2 else ''})")
-    most = max(it.most for it in fields)
-    return Line(f"{group}, further fields: {', '.join(words)}", most, _at_most(most) if len(fields) > 1 else "")
-
-
-def _equal_numbers(summary: Summary) -> List[Line]:
-    count = len(summary.equal_numbers)
-    text = f"equal numbers, written otherwise, in {count:,} field{'s' * (count != 1)} ({cut(summary.equal_example)})"
-    return [Line(text, summary.equal_pictures)] * bool(count)
-
-
-# The results
-
-
-def _results(summary: Summary, counts: "Counter[Result]") -> Iterator[str]:
-    for result in Result:
-        if counts[result]:
-            names = [] if result in (Result.SAME, Result.SAME_FILE, Result.NO_PICTURE_SAME) else _names(summary, result)
-            more = " .." if names and counts[result] > len(names) else ""
-            yield f"{counts[result]:,} {result}{': ' * bool(names)}{', '.join(names)}{more}"
-
-
-def _names(summary: Summary, result: str) -> List[str]:
-    """The first pictures with a result, as many as a line has room for."""
-    names: List[str] = []
-    for path, place in summary.pictures.get(result, ()):
-        name = shown_path(path) + (f" to {shown_path(place)}" if place else "")
-        if names and sum(map(len, names)) + len(name) > LONGEST_NAMES:
-            break
-        names.append(name)
-    return names

@@ -433,7 +433,7 @@ class Equal:
         self.base = sqlite3.connect("", isolation_level=None)
         self.base.executescript(_EQUAL)
         self._known: Dict[bytes, int] = {}
-        self._heads: List[Tuple[int, Optional[bytes], str]] = []
+        self._heads: List[Tuple[int, Optional[bytes], str, int]] = []
         self._names: List[Tuple[int, bytes]] = []
         self._size = 0  # of what waits
         self._count = 0
@@ -442,14 +442,14 @@ class Equal:
         """Closes the connection, and with it the database."""
         self.base.close()
 
-    def add(self, text: str, name: bytes, alone: bool = False) -> None:
-        """Adds the changes of a picture; `alone`, if no other picture has these."""
+    def add(self, text: str, name: bytes, alone: bool = False, rank: int = 0) -> None:
+        """Adds the changes of a picture; `alone`, if no other picture has these. Of equal changes the rank is the same."""
         key = None if alone else hashlib.sha256(text.encode("utf-8", "surrogatepass")).digest()
         number = self._number(key) if key else None
         if number is None:
             self._count += 1
             number = self._count
-            self._heads.append((number, key, text))
+            self._heads.append((number, key, text, rank))
             self._size += len(text)
         if key:
             self._known[key] = number
@@ -465,19 +465,21 @@ class Equal:
         return None if row is None else int(row[0])
 
     def _write(self) -> None:
-        self.base.executemany("INSERT INTO heads VALUES (?, ?, ?)", self._heads)
+        self.base.executemany("INSERT INTO heads VALUES (?, ?, ?, ?)", self._heads)
         self.base.executemany("INSERT INTO names VALUES (?, ?)", self._names)
         self._heads.clear()
         self._names.clear()
         self._known.clear()
         self._size = 0
 
-    def all(self) -> Iterator[Tuple[str, int, Iterator[bytes]]]:
-        """The changes, each with its number of pictures and their names, in the order in which they were first added."""
+    def all(self, by_rank: bool = False) -> Iterator[Tuple[str, int, Iterator[bytes]]]:
+        """The changes, each with its number of pictures and their names, in the order in which they were first added, or by rank and number of
+        pictures."""
         self._write()
         self.base.execute("CREATE INDEX names_by_head ON names (head, name)")
-        counts = "(SELECT count(*) FROM names WHERE head = heads.id), (SELECT min(name) FROM names WHERE head = heads.id)"
-        for number, text, count, first in self.base.execute(f"SELECT id, text, {counts} FROM heads ORDER BY id"):
+        counts = "(SELECT count(*) FROM names WHERE head = heads.id) AS pictures, (SELECT min(name) FROM names WHERE head = heads.id)"
+        order = "rank, pictures DESC, id" if by_rank else "id"
+        for number, text, count, first in self.base.execute(f"SELECT id, text, {counts} FROM heads ORDER BY {order}"):
             yield text, count, iter([first]) if count == 1 else self._named(number)
 
     def _named(self, number: int) -> Iterator[bytes]:
@@ -485,7 +487,7 @@ class Equal:
 
 
 _EQUAL = """
-CREATE TABLE heads (id INTEGER PRIMARY KEY, key BLOB, text TEXT);
+CREATE TABLE heads (id INTEGER PRIMARY KEY, key BLOB, text TEXT, rank INTEGER);
 CREATE UNIQUE INDEX heads_by_key ON heads (key) WHERE key IS NOT NULL;
 CREATE TABLE names (head INTEGER, name BLOB);
 PRAGMA journal_mode = OFF;

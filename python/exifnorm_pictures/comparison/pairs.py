@@ -7,7 +7,7 @@ import hashlib
 import os
 import sqlite3
 from collections import Counter
-from typing import Callable, Iterator, List, NamedTuple, Optional, Set, Tuple, TypeVar
+from typing import Callable, Iterator, List, NamedTuple, Optional, Sequence, Set, Tuple, TypeVar
 
 from ..catalogue.store import BLOCK_COLUMNS, PICTURE_COLUMNS, Catalogue, NoCatalogue, address, check_schema, connect, unlike
 from ..fields.field import Field
@@ -60,6 +60,13 @@ class Pair(NamedTuple):
     place: Optional[bytes]
 
 
+def heads_of(catalogues: Sequence[Catalogue]) -> List[bytes]:
+    """What is in front of each picture's name in its path: the folder, if each catalogue has one, and otherwise nothing."""
+    roots = [it.roots() for it in catalogues]
+    by_root = all(len(it) <= 1 for it in roots)
+    return [(it[0].rstrip(b"/") + b"/" if by_root and it else b"") for it in roots]
+
+
 class Pairs:
     """Two catalogues, and how their pictures are paired. Close it.
 
@@ -71,9 +78,7 @@ class Pairs:
         self.catalogues = (before, after)
         if before.has_sidecars() != after.has_sidecars() and not (before.is_empty() or after.is_empty()):
             raise unlike(before, after)
-        roots = [it.roots() for it in self.catalogues]
-        by_root = all(len(it) <= 1 for it in roots)
-        self.heads = [(it[0].rstrip(b"/") + b"/" if by_root and it else b"") for it in roots]
+        self.heads = heads_of(self.catalogues)
         self.base = connect("")
         try:
             with self._guarded():

@@ -7,7 +7,7 @@ from __future__ import annotations
 
 from collections import Counter
 from dataclasses import dataclass, field
-from typing import Dict, Iterator, List, NamedTuple, Tuple
+from typing import Dict, Iterator, List, NamedTuple
 
 from ..catalogue.store import Catalogue
 from ..catalogue.texts import PictureTexts, texts_of
@@ -34,25 +34,22 @@ class Checked(NamedTuple):
 
 @dataclass
 class Contradictions:
-    """What a page has of them."""
+    """What is counted of them."""
 
     pictures: int = 0  # with metadata in two standards at least
     real: int = 0
     minor: int = 0  # that differ only in form
     unread: int = 0  # of which a text or a block was not compared
     labels: "Counter[str]" = field(default_factory=Counter)
-    first: List[Tuple[bytes, List[Conflict]]] = field(default_factory=list)
 
-    def add(self, checked: Checked, most: int) -> None:
-        """Counts a picture, and keeps its contradictions if there is space."""
+    def add(self, checked: Checked) -> None:
+        """Counts a picture."""
         real = checked.real
         self.pictures += 1
         self.real += bool(real)
         self.minor += bool(checked.found) and not real
         self.unread += not checked.is_whole
         self.labels.update([one.label for one in real])
-        if real and len(self.first) < most:
-            self.first.append((checked.path, real))
 
 
 def checked(catalogue: Catalogue, pictures: Iterator[Picture]) -> Iterator[Checked]:

@@ -1,74 +1,73 @@
-"""The report as one self-contained page without scripts.
-
-It shows counts and the first hundreds of each list, so that it opens at once; `contents.members` has the rest.
-"""
+"""The parts of a report as HTML, by the templates."""
 
 from __future__ import annotations
 
-from collections import Counter
-from datetime import datetime, timezone
-from typing import Any, Dict, List, Optional, Tuple
+import base64
+import hashlib
+from datetime import datetime
+from typing import TYPE_CHECKING, Any, Dict, List, Optional, Sequence
 
-from ..comparison.coded import sentence_of_coded
-from ..comparison.readings import of_unknown
+from ..catalogue.checking import Checked
 from ..fields.labels import STANDARDS
-from ..fields.left_out import of_maker_notes
-from ..files.session import Session
-from ..model.results import Result
-from . import contents as limits
-from .contents import Gathered, unproved
-from .templating import environment, result_tone
+from ..model.problems import NOT_THERE
+from .changes import Changes
+from .contents import About, unproved
+from .entries import Entry
+from .links import Links, below
+from .lists import Counts, mending_all
+from .marks import Marks
+from .templating import TEMPLATES, environment
 from .thumbnails import small_pictures
 
-MOST = {
-    "OPEN": 8,  # changes that are shown unfolded
-    "CHANGES": limits.MOST_CHANGES,
-    "CONTRADICTIONS": limits.MOST_CONTRADICTIONS,
-    "FIELDS": limits.MOST_FIELDS,
-    "GROUPS": limits.MOST_GROUPS,
-    "NAMES": limits.MOST_NAMES,
-    "OF_GROUP": limits.MOST_OF_GROUP,
-    "REFUSED": limits.MOST_REFUSED,
-}
+if TYPE_CHECKING:
+    from .book import Section, Written
 
 
-def page(contents: Gathered, title: str, session: Optional[Session] = None) -> str:
-    """The page, as HTML without script; each name and text of a picture is escaped."""
-    text: str = (
-        environment()
-        .get_template("page.html")
-        .render(
-            contents=contents,
-            title=title,
-            now=datetime.now(timezone.utc).strftime("%Y-%m-%d %H:%M UTC"),
-            unproved=unproved(contents.runs),
-            small=small_pictures([path for _, _, pictures in contents.groups for path in pictures], session),
-            most=MOST,
-            standards=STANDARDS,
-            **_charts(contents),
-            **_sentences(contents),
-        )
-    )
-    return text
+class Renderer:
+    """Makes HTML of what a report is about."""
+
+    def __init__(self, about: About, marks: Marks) -> None:
+        from markupsafe import Markup  # of Jinja2
+
+        self._html = Markup
+        self._session, roots, runs = about.session, about.catalogue.roots(), about.catalogue.runs()
+        filters = {"address": Links(about.link_to, roots).of, "below": lambda path: below(path, roots), "marks": marks.of}
+        self._templates = environment(filters)
+        style = (TEMPLATES / "report.css").read_text(encoding="utf-8")
+        self._shared: Dict[str, Any] = {
+            "title": about.title,
+            "now": datetime.now().astimezone().strftime("%Y-%m-%d %H:%M"),
+            "roots": roots,
+            "runs": runs,
+            "unproved": unproved(runs),
+            "standards": STANDARDS,
+            "absent": NOT_THERE,
+            "style": self._html(style),
+            "style_digest": digest(style),
+            "mend_all": mending_all(about.catalogue.name),
+        }
+
+    def entries(self, key: str, entries: Sequence[Entry], first: int) -> Any:
+        """Some entries of a list, which are numbered from `first` on."""
+        pictures = small_pictures([path for entry in entries for path in entry.pictures], self._session)
+        template: Any = self._templates.get_template(f"{key}.html")
+        return template.make_module({**self._shared, "pictures": pictures}).entries(entries, first)
+
+    def page(self, section: "Section", number: int, has_next: bool, body: Any) -> str:
+        """A further page: a part of a list."""
+        values = {**self._shared, "section": section, "number": number, "has_next": has_next, "body": body}
+        return str(self._templates.get_template("list.html").render(values))
+
+    def index(self, counts: Counts, lists: List["Written"], changes: Optional[Changes], rules: Optional[Checked]) -> str:
+        """The first page, or the only one."""
+        values = {**self._shared, "counts": counts, "lists": lists, "changes": changes, "rules": rules, "pictures": {}}
+        return str(self._templates.get_template("index.html").render(values))
+
+    def joined(self, parts: Sequence[Any]) -> Any:
+        """Several parts as one."""
+        return self._html("").join(parts)
 
 
-def _charts(contents: Gathered) -> Dict[str, Any]:
-    """The rows of the page's charts: a name, a count and a tone."""
-    return {
-        "results": [(it, contents.results[it], result_tone(it)) for it in Result if contents.results[it]],
-        "fields": _rows(contents.fields, "odd", 20),
-        "labels": _rows(contents.contradictions.labels, "odd"),
-        "causes": _rows(contents.causes, "bad"),
-    }
-
-
-def _rows(counts: "Counter[str]", tone: str, most: Optional[int] = None) -> List[Tuple[str, int, str]]:
-    return [(name, count, tone) for name, count in counts.most_common(most)]
-
-
-def _sentences(contents: Gathered) -> Dict[str, Optional[str]]:
-    return {
-        "sentence_of_coded": sentence_of_coded(contents.coded),
-        "sentence_of_unknown": of_unknown(contents.unknown) if contents.unknown else "",
-        "sentence_of_maker_notes": of_maker_notes(contents.maker_notes),
-    }
+def digest(text: str) -> str:
+    """What allows a style or a script in a content security policy (CSP 2, 4.2.5)."""
+    return f"sha256-{base64.b64encode(hashlib.sha256(text.encode('utf-8')).digest()).decode('ascii')}"

@@ -2,22 +2,23 @@
 
 from __future__ import annotations
 
-import functools
+from collections import Counter
 from pathlib import Path
-from typing import TYPE_CHECKING, Any, Callable, Dict, Sequence
+from typing import TYPE_CHECKING, Any, Callable, Dict, List, Tuple
 
+from ..comparison.readings import of_unknown
+from ..fields.left_out import of_maker_notes
 from ..model.errors import Failure
 from ..model.problems import COUNTED, TEXTS
 from ..model.results import Result
 from ..model.texts import escaped, safe, shown_path
 from ..refusals.causes import CAUSES, words_of
-from .contents import shortened
 from .contradictions import texts_by_standard
 
 if TYPE_CHECKING:
     import jinja2
 
-_TEMPLATES = Path(__file__).with_name("templates")
+TEMPLATES = Path(__file__).with_name("templates")
 
 STATE_WORDS = {
     **COUNTED,
@@ -45,28 +46,32 @@ class NoTemplates(Failure):
     """No page can be made. The text is the reason."""
 
 
-@functools.lru_cache(maxsize=1)
-def environment() -> "jinja2.Environment":
-    """What knows the templates. Raises `NoTemplates` if Jinja2 isn't installed."""
+def check() -> None:
+    """Raises `NoTemplates` if Jinja2 isn't installed."""
     try:
-        import jinja2
+        import jinja2  # noqa: F401  # which is needed later
     except ImportError:
         why = "it needs the Python package Jinja2 (Debian: apt-get install python3-jinja2). --json needs no package"
         raise NoTemplates(f"--html: {why}") from None
+
+
+def environment(filters: Dict[str, Callable[..., Any]]) -> "jinja2.Environment":
+    """What knows the templates, with some filters more."""
+    import jinja2
 
     def finalize(value: object) -> object:
         """A value as it is printed: what is no HTML of a template has no control characters."""
         return safe(str(value)) if isinstance(value, str) and not hasattr(value, "__html__") else value
 
     templates = jinja2.Environment(
-        loader=jinja2.FileSystemLoader(_TEMPLATES, encoding="utf-8"),
+        loader=jinja2.FileSystemLoader(TEMPLATES, encoding="utf-8"),
         autoescape=True,
         finalize=finalize,
         undefined=jinja2.StrictUndefined,
         trim_blocks=True,
         lstrip_blocks=True,
     )
-    templates.filters.update(_FILTERS)
+    templates.filters.update({**_FILTERS, **filters})
     return templates
 
 
@@ -79,14 +84,9 @@ def counted(count: int, what: str) -> str:
     return f"{count:,} {what}{'' if count == 1 else 's'}"
 
 
-def below(path: bytes, roots: Sequence[bytes]) -> bytes:
-    """A picture's name, relative to the folder if there is only one.
-
-    >>> below(b"/p/x/y", [b"/p"]), below(b"/p/x", [b"/p", b"/q"])
-    (b'x/y', b'/p/x')
-    """
-    root = roots[0].rstrip(b"/") + b"/" if len(roots) == 1 else b""
-    return path[len(root) :] if path.startswith(root) else path
+def rows_of(counts: "Counter[str]", tone: str) -> List[Tuple[str, int, str]]:
+    """The rows of a chart: names with their counts, the largest first, in one tone."""
+    return [(name, count, tone) for name, count in counts.most_common()]
 
 
 def result_tone(result: str) -> str:
@@ -98,9 +98,10 @@ _FILTERS: Dict[str, Callable[..., Any]] = {
     "number": "{:,}".format,
     "counted": counted,
     "path": shown_path,
-    "below": below,
-    "short": shortened,
-    "escaped": lambda text: escaped(shortened(text)),
+    "escaped": escaped,
+    "rows": lambda counts, tone: rows_of(Counter(dict(counts)), tone),
+    "unknown": of_unknown,
+    "maker_notes": of_maker_notes,
     "state": lambda state: STATE_WORDS.get(state, state),
     "tone": lambda state: _TONES.get(state, "odd"),
     "result_tone": result_tone,

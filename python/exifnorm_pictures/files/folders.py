@@ -1,0 +1,137 @@
+"""Folders that are written in full or not at all: a new one takes the place of an earlier one at once, when all its files are on the disk.
+
+Until then it is beside it, under a name of its own, and only the user may enter it. A killed run leaves it there.
+"""
+
+from __future__ import annotations
+
+import contextlib
+import ctypes
+import errno
+import os
+import shutil
+import stat
+import tempfile
+from typing import Iterator, List, Optional, Sequence, Tuple
+
+from ..model.texts import reason, shown_path
+from . import opening, rights
+from .atomic import NotReplaced
+
+_LONGEST = 64 << 20  # bytes of a list of names
+_HERE, _EXCHANGE = -100, 2  # AT_FDCWD and RENAME_EXCHANGE of Linux
+
+
+class NewFolder:
+    """A folder that is being written, flat, with a list of its files."""
+
+    def __init__(self, path: bytes, allowed: Optional[rights.Rights], sources: Sequence[str]) -> None:
+        self.path, self._allowed, self._sources = path, allowed, sources
+        self.names: List[str] = []
+
+    def write(self, name: str, octets: bytes) -> None:
+        """Writes a file, with the rights of the one that it replaces, or those of the sources and umask. Raises `OSError`."""
+        number = os.open(os.path.join(self.path, os.fsencode(name)), os.O_WRONLY | os.O_CREAT | os.O_EXCL | os.O_CLOEXEC, 0o666)
+        with open(number, "wb") as file:
+            if self._allowed:
+                rights.give(number, self._allowed)
+            else:
+                rights.limit(number, self._sources)
+            file.write(octets)
+            file.flush()
+            os.fsync(number)
+        self.names.append(name)
+
+
+@contextlib.contextmanager
+def replaced(out: bytes, mark: str, sources: Sequence[str]) -> Iterator[NewFolder]:
+    """A new folder, which gets the name `out` in the end. `mark` is the name of the list of its files: an earlier folder is replaced only if it
+    has such a list, and no other files. It is made from the files `sources`. Raises `NotReplaced`."""
+    there = os.path.realpath(out)
+    try:
+        before = _rights_of_earlier(there, mark)
+        room = tempfile.mkdtemp(prefix=b".exifnorm-", suffix=b".part", dir=os.path.dirname(there))
+    except OSError as error:
+        raise NotReplaced(reason(error)) from None
+    try:
+        try:
+            folder = NewFolder(room, before and before[1], sources)
+            yield folder
+            folder.write(mark, "".join(f"{name}\n" for name in [_FIRST, *folder.names]).encode())
+            _give(room, mark, before and before[0])
+            _put(room, there)
+        except OSError as error:
+            raise NotReplaced(reason(error)) from None
+    finally:
+        shutil.rmtree(room, ignore_errors=True)  # of an earlier one, if all went well
+
+
+_FIRST = "The pages of a report by exifnorm-pictures, which a new one replaces:"
+
+
+def _rights_of_earlier(there: bytes, mark: str) -> Optional[Tuple[rights.Rights, rights.Rights]]:
+    """The rights of an earlier folder and of its list. Raises `NotReplaced` if something else is there."""
+    try:
+        now = os.stat(there)
+    except FileNotFoundError:
+        return None
+    if not stat.S_ISDIR(now.st_mode):
+        raise NotReplaced("it is there, and is no folder")
+    names = os.listdir(there)
+    if not names:
+        return None
+    listed = os.path.join(there, os.fsencode(mark))
+    try:
+        with opening.reading(listed) as file:
+            lines = file.read(_LONGEST).decode("utf-8", "replace").splitlines()
+    except OSError:
+        lines = []
+    if lines[:1] != [_FIRST]:
+        raise NotReplaced(f"it is a folder with other files, such as {shown_path(min(names))}")
+    others = sorted(set(names) - {os.fsencode(line) for line in [mark, *lines]})
+    if others:
+        raise NotReplaced(f"the earlier report has files that are none of its pages, such as {shown_path(others[0])}")
+    return rights.rights_of(there), rights.rights_of(listed)
+
+
+def _give(room: bytes, mark: str, before: Optional[rights.Rights]) -> None:
+    """Gives a new folder the rights of the one that it replaces; otherwise those may enter it who may read its files."""
+    number = os.open(room, os.O_RDONLY | os.O_DIRECTORY | os.O_CLOEXEC)
+    try:
+        if before:
+            rights.give(number, before)
+        else:
+            mode = os.stat(os.path.join(room, os.fsencode(mark))).st_mode & 0o777
+            os.fchmod(number, mode | 0o700 | (mode & 0o444) >> 2)
+        os.fsync(number)
+    finally:
+        os.close(number)
+
+
+def _put(room: bytes, there: bytes) -> None:
+    """Gives a folder its name. What had it before gets the other's, and is removed."""
+    if not os.path.lexists(there):
+        os.rename(room, there)
+    elif not _exchange(room, there):
+        aside = room + b".earlier"
+        os.rename(there, aside)
+        try:
+            os.rename(room, there)
+        except BaseException:
+            os.rename(aside, there)
+            raise
+        os.rename(aside, room)
+
+
+def _exchange(path: bytes, other: bytes) -> bool:
+    """Exchanges two names at once. False if the system can't."""
+    try:
+        call = ctypes.CDLL(None, use_errno=True).renameat2
+    except (AttributeError, OSError):
+        return False
+    if not call(_HERE, ctypes.c_char_p(path), _HERE, ctypes.c_char_p(other), _EXCHANGE):
+        return True
+    number = ctypes.get_errno()
+    if number in (errno.ENOSYS, errno.EINVAL, errno.EOPNOTSUPP):
+        return False
+    raise OSError(number, os.strerror(number))

@@ -1,0 +1,146 @@
+"""A report as one page, or as the pages of a folder: what is on them, and in which order."""
+
+from __future__ import annotations
+
+from dataclasses import dataclass, field
+from typing import Any, Callable, Iterator, List, NamedTuple, Optional
+
+from ..catalogue.checking import Checked
+from ..model.errors import WrongUse
+from ..model.texts import shown_path
+from . import lists
+from .changes import Changes
+from .contents import About
+from .entries import Entry, pages_of
+from .marks import Marks
+from .rendering import Renderer
+
+INDEX = "index.html"
+MOST_OF_A_PAGE = 2_000  # files of a report that is one page
+MOST_BYTES = 64 << 20  # of such a page
+SHORT = 20  # pictures of a list that is on the first page of a folder
+
+Put = Callable[[str, str], None]  # writes a page by its name
+
+
+class TooLarge(WrongUse):
+    """A report is too large for one page."""
+
+    def __init__(self, why: str) -> None:
+        super().__init__(f"{why} for one page. Write a folder of pages: --html NAME/ with a slash at the end")
+
+
+@dataclass
+class Section:
+    """A list of a report. Its template has the name `key`."""
+
+    key: str
+    title: str
+    what: str  # is counted of it
+    entries: Iterator[Entry]
+
+
+class PageLink(NamedTuple):
+    """A page of a list."""
+
+    name: str
+    label: str
+
+
+@dataclass
+class Written:
+    """A list that was written: on the first page, or on pages of its own."""
+
+    section: Section
+    number: int = 0  # of what is counted
+    entries: int = 0
+    pages: List[PageLink] = field(default_factory=list)
+    body: Any = ""
+
+
+class Book:
+    """Writes the lists of a report, and then its first page."""
+
+    def __init__(self, about: About, put: Optional[Put] = None) -> None:
+        """`put` writes the further pages of a folder; without it there is one page. Raises `TooLarge`."""
+        self.about, self._put = about, put
+        self.done: Callable[[int], None] = lambda count: None  # is told how many pictures are shown
+        self.counts = lists.counts_of(about)
+        if not put and self.counts.total > MOST_OF_A_PAGE:
+            raise TooLarge(f"{self.counts.total:,} files are too many")
+        self._marks = Marks()
+        self._renderer = Renderer(about, self._marks)
+        self._size = self._shown = 0
+
+    def index(self) -> str:
+        """The first page, after all others were written."""
+        changes = Changes(self.about) if self.about.old else None
+        try:
+            rules = Checked(self.about.catalogue, self.about.rules) if self.about.rules else None
+            written = [self._written(section) for section in self._sections(changes, rules)]
+            shown = [it for it in written if it.entries or self._says_something(it.section.key)]
+            return self._renderer.index(self.counts, shown, changes, rules)
+        finally:
+            self._marks.close()
+            if changes:
+                changes.close()
+
+    def _says_something(self, key: str) -> bool:
+        """Whether a list without entries is shown."""
+        if key == "contradictions":
+            return self.counts.contradictions.pictures > 0
+        return key in ("changed", "broken", "same", "refused") or (key == "unread" and self.counts.maker_notes > 0)
+
+    def _sections(self, changes: Optional[Changes], rules: Optional[Checked]) -> Iterator[Section]:
+        about, counts = self.about, self.counts
+        if changes:
+            yield Section("changed", "Changed pictures", "picture", changes.entries())
+        yield Section("contradictions", "Contradictions", "picture", lists.contradicting(about, counts))
+        if rules:
+            yield Section("broken", "Broken rules", "picture", lists.breaking(rules))
+        yield Section("same", "Pictures with the same metadata", "group", lists.same(about, counts))
+        yield Section("refused", "Refused blocks and what helps", "block", lists.refusals(about, counts))
+        yield Section("unread", "Not wholly read", "picture", lists.unread(about))
+        yield Section("problems", "Files without an answer", "file", lists.problems(about))
+        yield Section("folders", "All pictures", "picture", lists.folders(about))
+
+    def _written(self, section: Section) -> Written:
+        """Writes a list: on the first page, if that is the only one or the list is short, and otherwise on pages of its own."""
+        written = Written(section)
+        pages = pages_of(section.entries)
+        page = next(pages, None)
+        while page is not None:
+            following = next(pages, None)
+            is_own = self._put is not None and bool(written.pages or following or sum(len(it.pictures) for it in page) > SHORT)
+            name = f"{section.key}-{len(written.pages) + 1}.html" if is_own else ""
+            body = self._rendered(written, page, name)
+            if is_own and self._put:
+                written.pages.append(PageLink(name, _label(section, page, len(written.pages) + 1)))
+                self._put(name, self._renderer.page(section, len(written.pages), following is not None, body))
+            else:
+                written.body = self._renderer.joined([written.body, body])
+            page = following
+        return written
+
+    def _rendered(self, written: Written, page: List[Entry], name: str) -> Any:
+        key, first = written.section.key, written.entries + 1
+        places = ((path, f"{name}#{key}-{number}") for number, entry in enumerate(page, first) for path in entry.pictures)
+        self._marks.add(key, places)
+        body = self._renderer.entries(key, page, first)
+        written.entries += len(page)
+        written.number += sum(it.is_counted if key == "same" else len(it.pictures) for it in page)
+        if key == "folders":
+            self._shown += sum(len(it.pictures) for it in page)
+            self.done(self._shown)
+        self._size += len(body)
+        if not self._put and self._size > MOST_BYTES:
+            raise TooLarge("what these pictures have is too much")
+        return body
+
+
+def _label(section: Section, page: List[Entry], number: int) -> str:
+    """What a link to a page says."""
+    if section.key != "folders":
+        return str(number)
+    first, last = (shown_path(page[at].data.path) for at in (0, -1))
+    return first if first == last else f"{first} .. {last}"

@@ -1,0 +1,148 @@
+"""What changed since an older catalogue: its summary, and all differences, which are kept in a temporary database until they are listed."""
+
+from __future__ import annotations
+
+import json
+from collections import Counter
+from typing import Iterator, List, NamedTuple, Optional, Tuple
+
+from ..comparison import changed
+from ..comparison.coded import Coded, sentence_of_coded
+from ..comparison.pairs import AFTER, BEFORE, heads_of
+from ..comparison.summary import Summary
+from ..comparison.summary_lines import Line, results_of, rows_of, sentence
+from ..comparison.wording import sides
+from ..fields.left_out import lines
+from ..model.results import Result
+from .contents import About
+from .entries import Entry, chunks
+from .marking import Marker, Pieces
+from .moved_folders import MovedFolder, MovedFolders
+
+_RESULTS = list(Result)
+_NUL = b"\0"  # which no name has
+
+
+class Row(NamedTuple):
+    """A field that differs, with its two values in pieces, or what is printed in their place."""
+
+    name: str
+    before: Optional[Pieces]
+    after: Optional[Pieces]
+    note: str
+
+
+class ChangedPicture(NamedTuple):
+    """A picture that changed: its name, and its paths then and now, as far as there is such a file."""
+
+    name: bytes
+    before: Optional[bytes]
+    after: Optional[bytes]
+
+
+class Difference(NamedTuple):
+    """A difference, and some of the pictures with it."""
+
+    result: Result
+    note: str
+    rows: List[Row]
+    total: int  # of all its pictures
+    pictures: List[ChangedPicture]
+    is_first: bool  # False: more pictures with the difference before
+
+
+class Changes:
+    """All that changed between the two catalogues of a report. Close it."""
+
+    def __init__(self, about: About) -> None:
+        assert about.old is not None
+        self.results: "Counter[Result]" = Counter()
+        self.coded: "Counter[Coded]" = Counter()  # what is known of the coded pictures of both catalogues
+        self.summary = Summary(about.choice)
+        self._folders = MovedFolders()
+        self._heads = heads_of((about.old, about.catalogue))
+        self._equal = changed.Equal()
+        session = about.session if about.look else None
+        comparisons = changed.changed(
+            about.old, about.catalogue, self.results, about.only, session=session, choice=about.choice, pictures=self.coded
+        )
+        try:
+            for comparison in comparisons:
+                self._add(comparison)
+        except BaseException:
+            self.close()
+            raise
+        self.left_out = list(lines(about.choice, True))
+
+    def close(self) -> None:
+        """Removes the temporary database."""
+        self._equal.close()
+
+    def _add(self, comparison: changed.Compared) -> None:
+        self.summary.add(comparison)
+        if comparison.result.has_changed is False:
+            return
+        rows = [(one.name, *sides(one), one.note) for one in comparison.changes]
+        place, note = comparison.moved_to, comparison.note
+        if place is not None:
+            self._folders.add(comparison.name, place)
+        name = comparison.name if place is None else comparison.name + _NUL + place
+        rank = _RESULTS.index(comparison.result)
+        self._equal.add(json.dumps([rank, note, rows]), name, False, rank)
+
+    @property
+    def number_changed(self) -> int:
+        """How many pictures have changed."""
+        return changed.number_changed(self.results)
+
+    @property
+    def number_undecided(self) -> int:
+        """Of how many nobody knows whether they have changed."""
+        return changed.number_undecided(self.results)
+
+    @property
+    def sentence(self) -> str:
+        """How many pictures were compared, and how many changed."""
+        return sentence(self.results)
+
+    def lines(self) -> List[Line]:
+        """Which field got which value, and in how many pictures, as the terminal has it."""
+        return rows_of(self.summary)
+
+    def notes(self) -> List[str]:
+        """The results, what was compared of the pictures, and what is left out."""
+        more = ["Further fields aren't counted."] * self.summary.has_more
+        return [*more, *results_of(self.summary, self.results), *filter(None, [sentence_of_coded(self.coded)]), *self.left_out]
+
+    def folders(self) -> List[MovedFolder]:
+        """The folders that moved."""
+        return self._folders.lines()
+
+    def entries(self) -> Iterator[Entry]:
+        """Each difference with its pictures, by what happened and by their number; of many pictures so many as a page has."""
+        for text, count, names in self._equal.all(by_rank=True):
+            rank, note, all_rows = json.loads(text)
+            result = _RESULTS[rank]
+            marker = Marker()
+            rows = [Row(name, *marker.marked(before, after), what) for name, before, after, what in all_rows]
+            is_first = True
+            for some in chunks(names):
+                pictures = [self._picture(result, name) for name in some]
+                paths = tuple(it.after or it.before or b"" for it in pictures)
+                yield Entry(Difference(result, note, rows, count, pictures, is_first), paths, 1 + len(rows))
+                is_first = False
+
+    def _picture(self, result: Result, name: bytes) -> ChangedPicture:
+        before, _, place = name.partition(_NUL)
+        old = None if result == Result.MISSING_BEFORE else _path(self._heads[BEFORE], before)
+        new = None if result == Result.MISSING_AFTER else _path(self._heads[AFTER], place or before)
+        return ChangedPicture(before, old, new)
+
+
+def _path(head: bytes, name: bytes) -> bytes:
+    return name if name.startswith(b"/") else head + name
+
+
+def numbers(changes: Optional[Changes]) -> Tuple[int, int]:
+    """How many pictures changed, and of how many that isn't known."""
+    return (changes.number_changed, changes.number_undecided) if changes else (0, 0)

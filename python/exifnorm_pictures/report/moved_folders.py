@@ -1,0 +1,49 @@
+"""Pictures that moved together with their folder, which a report shows as one line."""
+
+from __future__ import annotations
+
+from collections import Counter
+from typing import List, NamedTuple, Tuple
+
+MOST = 10_000  # pairs of folders that are counted
+
+
+class MovedFolder(NamedTuple):
+    """A folder that has another place now, and how many of its pictures."""
+
+    old: bytes
+    new: bytes
+    pictures: int
+
+
+def folders_of(name: bytes, place: bytes) -> Tuple[bytes, bytes]:
+    """The two folders between which a picture moved, without what they have in common at their end.
+
+    >>> folders_of(b"a/x/1.jpg", b"b/x/1.jpg"), folders_of(b"a/1.jpg", b"b/2.jpg")
+    ((b'a', b'b'), (b'', b''))
+    """
+    old, new = name.split(b"/"), place.split(b"/")
+    if old[-1] != new[-1]:
+        return b"", b""  # it has another name, too
+    while len(old) > 1 and len(new) > 1 and old[-1] == new[-1]:
+        del old[-1], new[-1]
+    if old[-1] == new[-1]:  # one of them is the folder that was indexed
+        del old[-1], new[-1]
+    return b"/".join(old), b"/".join(new)
+
+
+class MovedFolders:
+    """Counts the pictures that moved, by their folders."""
+
+    def __init__(self) -> None:
+        self._counts: "Counter[Tuple[bytes, bytes]]" = Counter()
+
+    def add(self, name: bytes, place: bytes) -> None:
+        """Counts a picture that moved."""
+        pair = folders_of(name, place)
+        if pair != (b"", b"") and (pair in self._counts or len(self._counts) < MOST):
+            self._counts[pair] += 1
+
+    def lines(self) -> List[MovedFolder]:
+        """The folders from which two and more pictures moved to another one, those of the most pictures first."""
+        return [MovedFolder(*pair, count) for pair, count in self._counts.most_common() if count > 1]

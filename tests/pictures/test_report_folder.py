@@ -1,0 +1,260 @@
+"""A report as a folder of pages: all pictures are there, on pages of a limited length, and the folder is replaced whole or not at all."""
+
+import errno
+import json
+import os
+import re
+import shutil
+from html import unescape
+from pathlib import Path
+from typing import Any, Callable, Dict, Iterator, List, Set
+from unittest import mock
+from urllib.parse import unquote_to_bytes
+
+import pytest
+from made_blocks import BLOCKS, MAKE, MODEL, block, with_exif
+from made_files import app1, exif, jpeg
+from studio import SMALL_JPEG, put
+from test_report import Text
+
+from exifnorm_pictures.files import folders
+from exifnorm_pictures.report.marking import Marker
+
+NAMES = [b"a b.jpg", b"per%cent?#.jpg", b"latin\xff.jpg", b"line\nend.jpg", b"<b onclick=alert(1)>&amp;.jpg", b"quote'\".jpg", b"-dash.jpg"]
+Called = Callable[..., Any]
+
+
+def picture(make: bytes) -> bytes:
+    return with_exif(SMALL_JPEG, block([MAKE[:-4] + make[:3] + b"\0", MODEL]))
+
+
+def pages_of(folder: Path) -> Dict[str, str]:
+    return {it.name: it.read_text(encoding="utf-8") for it in folder.glob("*.html")}
+
+
+def files_of(links: List[str]) -> Set[bytes]:
+    return {unquote_to_bytes(it[7:]) for it in links if it.startswith("file://")}
+
+
+@pytest.fixture
+def archive(folder: Path, called: Called) -> Path:
+    """Folders of 450, 30 and a few pictures, of which 230 changed in their own way and 210 in the same, 205 are refused, and 225 are the same."""
+    files = {f"many/{number:03}.jpg": picture(b"%03d" % number) for number in range(240)}
+    files.update({f"many/same{number:03}.jpg": picture(b"Old") for number in range(210)})
+    files.update({f"some/{number:03}.jpg": picture(b"abc") for number in range(30)})
+    files.update({f"refused/{number:03}.jpg": with_exif(SMALL_JPEG, BLOCKS["Overlap"]) for number in range(205)})
+    put(str(folder / "p"), files)
+    called("index", "p", "--catalogue", "old", "--quiet")
+    put(str(folder / "p"), {f"many/{number:03}.jpg": picture(b"%03d" % (999 - number)) for number in range(230)})
+    put(str(folder / "p"), {f"many/same{number:03}.jpg": picture(b"New") for number in range(210)})
+    called("index", "p", "--catalogue", "c", "--quiet")
+    return folder
+
+
+def test_every_picture_is_there_on_pages_of_at_most_200(archive: Path, called: Called) -> None:
+    status, printed, messages = called("report", "c", "--since", "old", "--html", "report/")
+    assert (status, printed, messages) == (0, "", "")
+    pages = pages_of(archive / "report")
+    texts = {name: Text(page) for name, page in pages.items()}
+    assert [(name, it.wrong) for name, it in texts.items() if [one for one in it.wrong if not one[2:] or not is_page(one[2])]] == []
+    everything = {os.fsencode(path) for path in (archive / "p").rglob("*.jpg")}
+    linked: Dict[str, Set[bytes]] = {}
+    for name, text in texts.items():
+        linked.setdefault(re.sub(r"-\d+\.html", "", name), set()).update(files_of(text.links))
+        assert len(files_of(text.links)) <= 200, f"{name} has more pictures than a page should"
+    assert linked["folders"] == everything
+    assert len(linked["changed"]) == 440 and len(linked["refused"]) == 205 and len(linked["same"]) >= 240
+    values = "".join(page for name, page in pages.items() if name.startswith("changed-"))
+    assert [it for it in range(230) if f">{999 - it:03}</ins>" not in values] == [], "values that no page has"
+
+
+def is_page(address: str) -> bool:
+    """Whether an address is a page's of the same folder."""
+    return re.fullmatch(r"[a-z]+(-\d+)?\.html(#[a-z]+(-\d+|-title)?)?", address) is not None
+
+
+def test_each_link_leads_to_a_page_and_a_place_of_the_report(archive: Path, called: Called) -> None:
+    called("report", "c", "--since", "old", "--html", "report/")
+    pages = pages_of(archive / "report")
+    reached = {"index.html"}
+    for name, page in pages.items():
+        for link in Text(page).links:
+            if not link.startswith("file://"):
+                target, _, place = link.partition("#")
+                reached.add(target or name)
+                assert not place or f'id="{place}"' in pages[target or name], f"{link} in {name} leads nowhere"
+    assert reached == set(pages)
+
+
+def test_hostile_names_are_linked_and_escaped(folder: Path, called: Called) -> None:
+    (folder / "p").mkdir()
+    for name in NAMES:
+        (folder / "p" / os.fsdecode(name)).write_bytes(picture(b"abc"))
+    called("index", "p", "--catalogue", "c", "--quiet")
+    for words, head in (([], b"/"), (["--link-to", "https://dam.example/x/{path}?n={name}"], b"")):
+        called("report", "c", "--html", "page.html", *words)
+        page = (folder / "page.html").read_text(encoding="utf-8")
+        assert "<b onclick" not in page and "\\nend.jpg" in page and "latin\\xff.jpg" in page
+        links = [unescape(it) for it in re.findall(r'href="([^"]*)"', page) if not it.startswith("#")]
+        if words:
+            assert {unquote_to_bytes(it.partition("/x/")[2].partition("?n=")[0]) for it in links} == set(NAMES)
+            assert {unquote_to_bytes(it.partition("?n=")[2]) for it in links} == set(NAMES)
+        else:
+            assert {os.path.basename(it) for it in files_of(links)} == set(NAMES)
+
+
+@pytest.mark.parametrize("address", ["javascript:alert(1)//{path}", "https://dam.example/", "dam.example/{path}", "data:text/html,{path}"])
+def test_an_address_that_is_none_of_a_picture(address: str, folder: Path, called: Called) -> None:
+    put(str(folder), {"p/a.jpg": picture(b"abc")})
+    called("index", "p", "--catalogue", "c", "--quiet")
+    status, _, messages = called("report", "c", "--html", "page.html", "--link-to", address)
+    assert status == 3 and "--link-to" in messages and not (folder / "page.html").exists()
+
+
+def test_a_large_archive_is_no_single_page(folder: Path, called: Called, monkeypatch: pytest.MonkeyPatch) -> None:
+    put(str(folder), {f"p/{number}.jpg": picture(b"abc") for number in range(4)})
+    called("index", "p", "--catalogue", "c", "--quiet")
+    for name, most in (("MOST_OF_A_PAGE", 3), ("MOST_BYTES", 100)):
+        with monkeypatch.context() as patched:
+            patched.setattr(f"exifnorm_pictures.report.book.{name}", most)
+            status, _, messages = called("report", "c", "--html", "page.html")
+            assert status == 3 and "--html NAME/" in messages and not (folder / "page.html").exists()
+            assert called("report", "c", "--html", "report/")[0] == 0
+
+
+# The folder
+
+
+@pytest.fixture
+def small(folder: Path, called: Called) -> Path:
+    put(str(folder), {"p/a.jpg": picture(b"abc")})
+    called("index", "p", "--catalogue", "c", "--quiet")
+    return folder
+
+
+def tree(folder: Path) -> Dict[str, bytes]:
+    return {str(it.relative_to(folder)): it.read_bytes() for it in folder.rglob("*") if it.is_file()}
+
+
+def test_an_earlier_report_is_replaced(small: Path, called: Called) -> None:
+    for title in ("One", "Two"):
+        assert called("report", "c", "--html", "report/", "--title", title)[0] == 0
+    (small / "report" / "index.html").rename(small / "kept.html")
+    assert called("report", "c", "--html", "report", "--title", "Three")[0] == 0, "a folder needs no slash"
+    assert "<h1>Three</h1>" in pages_of(small / "report")["index.html"]
+    assert sorted(it.name for it in small.iterdir()) == ["c", "kept.html", "p", "report"]
+    (small / "empty").mkdir()
+    assert called("report", "c", "--html", "empty")[0] == 0
+
+
+@pytest.mark.parametrize("what", ["a file", "a folder of others", "a note in a report", "a folder in a report", "the pictures"])
+def test_nothing_else_is_replaced(what: str, small: Path, called: Called) -> None:
+    out = small / ("p" if what == "the pictures" else "out")
+    if what == "a file":
+        out.write_text("mine")
+    elif what == "a folder of others":
+        put(str(out), {"index.html": b"<!DOCTYPE html>mine"})
+    elif "report" in what:
+        called("report", "c", "--html", "out/")
+        put(str(out), {"notes.txt" if "note" in what else "mine/notes.txt": b"mine"})
+    before = tree(small)
+    status, _, messages = called("report", "c", "--html", f"{out}/")
+    assert status == 4 and "isn't written" in messages and len(messages.splitlines()) == 1
+    assert tree(small) == before, "something was written"
+
+
+def test_a_run_that_fails_leaves_the_earlier_report(small: Path, called: Called, monkeypatch: pytest.MonkeyPatch) -> None:
+    called("report", "c", "--html", "report/", "--title", "One")
+    before = tree(small)
+    for name, error in (("fsync", OSError(errno.ENOSPC, "full")), ("fsync", KeyboardInterrupt()), ("rename", OSError(errno.EACCES, "no"))):
+        with monkeypatch.context() as patched:
+            patched.setattr(folders, "_exchange", lambda *_: False)
+            patched.setattr(os, name, mock.Mock(side_effect=error))
+            called("report", "c", "--html", "report/", "--title", "Two")
+        assert tree(small) == before, (name, error)
+
+
+def test_without_an_exchange_of_names(small: Path, called: Called, monkeypatch: pytest.MonkeyPatch) -> None:
+    """As on file systems that have none."""
+    monkeypatch.setattr(folders, "_exchange", lambda *_: False)
+    for title in ("One", "Two"):
+        assert called("report", "c", "--html", "report/", "--title", title)[0] == 0
+    assert "<h1>Two</h1>" in pages_of(small / "report")["index.html"]
+    assert sorted(it.name for it in small.iterdir()) == ["c", "p", "report"]
+
+
+def test_an_exchange_is_one_step(small: Path, called: Called, monkeypatch: pytest.MonkeyPatch) -> None:
+    """The name always leads to a whole report: the old one isn't moved aside first."""
+    called("report", "c", "--html", "report/", "--title", "One")
+    monkeypatch.setattr(os, "rename", mock.Mock(side_effect=AssertionError("renamed")))
+    assert called("report", "c", "--html", "report/", "--title", "Two")[0] == 0
+
+
+@pytest.mark.parametrize("mode", [0o600, 0o640, 0o644], ids=oct)
+def test_a_new_folder_allows_what_its_catalogue_does(mode: int, small: Path, called: Called) -> None:
+    (small / "c").chmod(mode)
+    called("report", "c", "--html", "report/")
+    out = small / "report"
+    assert {it.stat().st_mode & 0o777 for it in out.iterdir()} == {mode}
+    assert out.stat().st_mode & 0o777 == mode | 0o100 | (mode & 0o044) >> 2
+    out.chmod(0o711)
+    for name in out.iterdir():
+        name.chmod(0o604)
+    called("report", "c", "--html", "report/")
+    assert out.stat().st_mode & 0o777 == 0o711 and {it.stat().st_mode & 0o777 for it in out.iterdir()} == {0o604}
+
+
+# Words
+
+
+def texts(pieces: Any) -> Iterator[str]:
+    return (it.text for it in pieces)
+
+
+@pytest.mark.parametrize(
+    "before, after, gone, new",
+    [
+        ("Bowl, celadon, 1820", "Bowl, celadon, 1280", ["1820"], ["1280"]),
+        ("Portrait of a woman", "Portrait of Anna Wirth", ["a woman"], ["Anna Wirth"]),
+        ("one two three", "one three", ["two "], []),
+        ("", "new", [], ["new"]),
+        ("same", "same", [], []),
+    ],
+)
+def test_the_words_that_changed(before: str, after: str, gone: List[str], new: List[str]) -> None:
+    first, second = Marker().marked(before, after)
+    assert ("".join(texts(first)), "".join(texts(second))) == (before, after), "a text isn't whole"
+    assert [it.text for it in first or () if it.is_changed] == gone and [it.text for it in second or () if it.is_changed] == new
+
+
+def test_long_texts_cost_a_limited_number_of_steps(monkeypatch: pytest.MonkeyPatch) -> None:
+    """A stranger's picture may have a text of 65,536 words, and thousands of fields."""
+    compared = 0
+
+    def matcher(_: object, before: List[str], after: List[str], __: bool) -> Any:
+        nonlocal compared
+        compared += len(before) * len(after)
+        return mock.Mock(get_opcodes=list)
+
+    monkeypatch.setattr("difflib.SequenceMatcher", matcher)
+    marker = Marker()
+    for number in range(50):
+        marker.marked("a " * 400 + str(number), "b " * 400)
+    first, second = marker.marked("x " + "a " * 30_000 + "y", "x " + "b " * 30_000 + "y")
+    assert compared <= 1_000_000 and "".join(texts(first)) == "x " + "a " * 30_000 + "y"
+    assert [it.is_changed for it in second or ()] == [False, True, False]
+
+
+def test_rules_and_moved_folders(folder: Path, called: Called) -> None:
+    put(str(folder), {f"p/monday/{number}.jpg": jpeg(app1(exif(b"ab%d" % number))) for number in range(5)})
+    (folder / "rules").write_text("every picture needs credit\n")
+    called("index", "p", "--catalogue", "old", "--quiet")
+    shutil.move(str(folder / "p/monday"), str(folder / "p/tuesday"))
+    called("index", "p", "--catalogue", "c", "--quiet")
+    called("report", "c", "--since", "old", "--rules", "rules", "--html", "page.html")
+    page = Text((folder / "page.html").read_text(encoding="utf-8"))
+    assert "5 pictures moved from monday to tuesday" in " ".join(page.sections["summary"])
+    broken = " ".join(page.sections["broken"])
+    assert broken.count("line 1: every picture needs credit") == 5 and "1 of 1 rule broken, by 5 of 5 pictures" in broken
+    found = [json.loads(it) for it in called("check", "rules", "c", "--json")[1].splitlines()]
+    assert len([it for it in found if it.get("text") is None and "path" in it]) == 5
