@@ -3,7 +3,7 @@
 import struct
 from typing import Callable, Dict, NamedTuple, Optional, Tuple
 
-from attacks import many_values
+from attacks import many_values, sharing
 from made_blocks import ASCII, LONG, UNDEFINED, with_exif
 from made_boxes import PICTURE, XMP_UUID, Item, box, cr3, heif, item_exif, jp2, jxl, mime, uuid
 from made_files import (
@@ -189,18 +189,20 @@ FORMATS = {
 
 
 class Growth(NamedTuple):
-    """A way to grow: what makes it in a size, the size for a short test and for a long one, and what is made at the limits."""
+    """A way to grow: what makes it in a size, and the size for a short test and for a long one."""
 
     make: Callable
     short: int
     long: int
+    free: Tuple[str, ...] = ()  # what doesn't grow at all with it
+    commands: Tuple[str, ...] = ()  # that are run on it; none: all of a test
 
 
 IN_EACH_FORMAT = {
-    "fields": Growth(of_fields, 500, 5000),
-    "texts": Growth(of_texts, 500, 3000),
-    "packets": Growth(of_packets, 200, 2000),
-    "parts": Growth(of_parts, 500, 4000),
+    "fields": Growth(of_fields, 300, 5000),
+    "texts": Growth(of_texts, 300, 3000),
+    "packets": Growth(of_packets, 120, 2000),
+    "parts": Growth(of_parts, 300, 4000),
 }
 
 
@@ -213,6 +215,7 @@ class Whole(NamedTuple):
     octets: bytes
     texts: Dict[str, int]
     cause: Optional[str] = None
+    hole: int = 0  # bytes of a hole after it
 
 
 def with_packet(packet, texts=1, cause=None):
@@ -364,17 +367,37 @@ def with_array(entries, number, arrays):
     return bytes(octets)
 
 
+def one_packet(number, mark):
+    """As many pages as the packet has comments, which all of them share: who parses it for each page does so many times the work."""
+    packet = xmp(f"<dc:format>{mark.decode()}</dc:format>" + "<!-- a comment -->" * number)
+    return Whole(sharing(packet, number, 0x02BC, BYTE), {XMP: number})
+
+
+def hole(number, mark):
+    """A picture with a refused block, and a hole after it of so many megabytes."""
+    block = as_written([(0x0110, ASCII, b"abc\0"), (0x010F, ASCII, mark + b"x\0")])
+    return Whole(jpeg(app1(block)), {EXIF: 1}, "Unsorted", number << 20)
+
+
+def plain_hole(number, mark):
+    return Whole(jpeg(app1(small_tiff((0x010F, ASCII, mark + b"ab\0")))), {EXIF: 1}, None, number << 20)
+
+
+OF_FILES = ("show A", "captions P", "conflicts P --all", "list P --json --where title=x --jobs 1 --quiet")
 OTHERS = {
+    "pages of one packet": ("tif", Growth(one_packet, 300, 2000, (), OF_FILES)),
+    "a hole": ("jpg", Growth(plain_hole, 6, 100, ("written", "memory"))),
+    "a hole after a refused block": ("jpg", Growth(hole, 6, 100, ("written", "memory"))),
     "lines of a rare text": ("png", Growth(lines, 3000, 30_000)),
     "references of a rare text": ("png", Growth(references, 3000, 30_000)),
     "pieces of a rare text": ("png", Growth(pieces_of_text, 1000, 10_000)),
-    "rare nodes": ("png", Growth(rare_nodes, 300, 5000)),
+    "rare nodes": ("png", Growth(rare_nodes, 200, 5000)),
     "lines of markup": ("png", Growth(literal_lines, 1500, 15_000)),
     "elements of markup": ("png", Growth(literal_elements, 1500, 15_000)),
     "attributes": ("png", Growth(attributes, 500, 5000)),
     "namespaces": ("png", Growth(spaces, 500, 5000)),
     "a long name": ("png", Growth(long_name, 20_000, 1_000_000)),
-    "structures": ("png", Growth(structures, 500, 5000)),
+    "structures": ("png", Growth(structures, 300, 5000)),
     "blanks": ("png", Growth(blanks, 20_000, 1_000_000)),
     "a declaration": ("png", Growth(declared, 20_000, 1_000_000)),
     "pieces of extended XMP": ("jpg", Growth(extended_pieces, 500, 5000)),
@@ -502,15 +525,15 @@ def accepted(number):
 
 
 FOLDERS = {
-    "names": Folder(put_names, accepted, 60, 1000),
-    "one group": Folder(put_one_group, accepted, 60, 1000),
-    "groups": Folder(groups_of(accepted_picture), accepted, 60, 1000),
+    "names": Folder(put_names, accepted, 40, 1000),
+    "one group": Folder(put_one_group, accepted, 40, 1000),
+    "groups": Folder(groups_of(accepted_picture), accepted, 40, 1000),
     "groups of refused pictures": Folder(groups_of(refused_picture), lambda number: f"{number} refused", 60, 1000),
     "groups of repaired pictures": Folder(groups_of(repaired_picture), lambda number: f"{number} refused", 60, 1000),
-    "groups of unread pictures": Folder(groups_of(unread_picture), accepted, 60, 1000),
-    "sidecars": Folder(put_sidecars, accepted, 60, 500),
-    "sidecars in other letters": Folder(put_letters, accepted, 40, 400),
-    "folders in one another": Folder(put_depth, accepted, 30, 300),
+    "groups of unread pictures": Folder(groups_of(unread_picture), accepted, 40, 1000),
+    "sidecars": Folder(put_sidecars, accepted, 40, 500),
+    "sidecars in other letters": Folder(put_letters, accepted, 30, 400),
+    "folders in one another": Folder(put_depth, accepted, 25, 300),
     "long names": Folder(put_long_names, accepted, 10, 60),
     "long texts": Folder(put_long_texts, accepted, 10, 60),
     "long values": Folder(put_long_values, accepted, 30, 100),

@@ -1,14 +1,16 @@
 """What each command does about twice as much of anything is at most 2.3 times as much work, and takes at most 2.3 times as much memory.
 
 The pictures of each format grow in each way that the format knows, and folders and catalogues in theirs. Work is counted as calls, steps
-of SQLite, bytes that are hashed and bytes that are asked of the allocator, of which SQLite, zlib, expat and the library ask, too. A
+of SQLite, bytes that are hashed or written and bytes that are asked of the allocator, of which SQLite, zlib, expat and the library ask, too. A
 quadratic part shows at these sizes: if a picture has n fields, and each is compared with all others, the second size has four times the
 work. With --long the sizes are ten times as large, and the time of a processor is compared, which also knows the inside of calls.
 
 Each growth says what must be read of what it makes. That a picture never takes more than its limits allow is in test_attacks.py.
 """
 
+import itertools
 import json
+import os
 import shutil
 from collections import Counter
 
@@ -20,13 +22,21 @@ from exifnorm_pictures.cli.parser import parsers
 from exifnorm_pictures.extract.readers import FORMATS
 
 TIMES = 2.3
-FEW = {"calls": 3000, "steps": 20, "asked": 600_000, "hashed": 20_000, "memory": 200_000, "seconds": 0.3}  # that aren't about the input
+FEW = {
+    "calls": 3000,
+    "steps": 20,
+    "asked": 600_000,
+    "hashed": 20_000,
+    "written": 100_000,
+    "memory": 200_000,
+    "seconds": 0.3,
+}  # that aren't about the input
 LONG_TIMES = 7  # the time of a processor, for four times as much
 OF_A_PICTURE = 50_000  # bytes by which memory may grow for each further picture, whatever it has
 
 # What each command is given: P and Q are folders with the same names, A and B a picture of each, C and D their catalogues
 COMMANDS = {
-    "index": ["P --catalogue new --quiet --jobs 1 --pixels --sidecars"],
+    "index": ["P --catalogue C --quiet --jobs 1 --pixels --sidecars"],
     "merge": ["C D --catalogue merged"],
     "forget": ["P --catalogue kept"],
     "relocate": ["moving P Q"],
@@ -51,7 +61,15 @@ COMMANDS = {
     "mend": ["A mended"],
 }
 EACH = [f"{command} {words}" for command, calls in COMMANDS.items() for words in calls]
-OF_CATALOGUES = [it for it in EACH if not {"P", "A"} & set(it.split()) and not it.startswith("verify")]
+INDEX = EACH[0]  # which makes the catalogue C
+# A format, and most forms of a block, differ only in how they are read, which each command does alike: these do it in their own ways
+READING = [
+    INDEX,
+    "verify --catalogue C --quiet --jobs 1",
+    "show A --json",
+    "mend A mended",
+]
+OF_FORMS = [*READING, "compare A B --json --exact --no-exiftool", "captions P", "conflicts P --all", "export C written.sqlite --quiet"]
 
 
 def test_all_commands_and_formats_are_counted():
@@ -84,19 +102,17 @@ class Archive:
         assert work.status in statuses, (words, work.status, work.err[-3000:])
         return work
 
-    def index(self):
-        """The counts of `index`, which makes the catalogues."""
-        for side, catalogue in (("P", "C"), ("Q", "D")):
-            work = self.run(f"index {side} --catalogue {catalogue} --quiet --jobs 1 --pixels --sidecars")
-        for name, catalogue in (("kept", "C"), ("moving", "C"), ("nights", "D")):
-            shutil.copy(self.folder / catalogue, self.folder / name)
-        self.run("relocate nights Q P")  # all of P is changed since
-        return work.out.decode().strip()
-
     def works(self, commands):
-        """The work of each command."""
-        self.index()
-        return {it: self.run(it) for it in commands}
+        """The work of each command, the first of which makes the catalogue."""
+        works = {INDEX: self.run(INDEX)}
+        for name in ("kept", "moving"):
+            shutil.copy(self.folder / "C", self.folder / name)
+        if any({"B", "D", "nights"} & set(words.split()) for words in commands):
+            self.run(INDEX.replace(" P ", " Q ").replace(" C ", " D "))
+            shutil.copy(self.folder / "D", self.folder / "nights")
+            self.run("relocate nights Q P")  # all of P is changed since
+        works.update((words, self.run(words)) for words in commands if words != INDEX)
+        return works
 
 
 def of_size(counting, folder, put, number):
@@ -138,9 +154,13 @@ def check_seconds(start, once, four):
     return bad
 
 
-def grown(counting, start, folder, put, size, is_long, commands):
-    """What is bad about the work at a size and at twice that, and four times in the long form."""
-    once, twice = (of_size(counting, folder, put, it).works(commands) for it in (size, 2 * size))
+def grown(counting, start, folder, put, size, is_long, commands, look):
+    """What is bad about the work at a size and at twice that, and four times in the long form. `look` sees the archive of the first size, and
+    the work."""
+    archive = of_size(counting, folder, put, size)
+    once = archive.works(commands)
+    look(archive, once)
+    twice = of_size(counting, folder, put, 2 * size).works(commands)
     bad = check(start, once, twice)
     if is_long:
         bad.update(check_seconds(start, once, of_size(counting, folder, put, 4 * size).works(commands)))
@@ -173,17 +193,17 @@ def test_pictures_of_a_format(name, growth, counting, start, folder, is_long):
         (side / f"a.{ending}").write_bytes(make(growth.make(number, mark).parts))
 
     size = growth.long if is_long else growth.short
-    is_first = is_long or name == next(iter(MAKERS))  # what a catalogue has of a picture doesn't depend on its format
-    commands = [it for it in EACH if is_first or it not in OF_CATALOGUES]
-    (folder / "read").mkdir()
-    archive = of_size(counting, folder / "read", put, size)
+    is_first = is_long or name == next(iter(MAKERS))
     format = next(it for it in FORMATS if it.name == name)
     has = {kind for kind, places in zip(KINDS, (format.exif, format.iptc, format.xmp)) if places}
     expected = {kind: count for kind, count in growth.make(size, b"qa").texts.items() if kind in has}
     if name == "NAME.xmp" and growth.make.__name__ == "of_packets":
         expected = {"xmp": 1}  # the file is the packet
-    assert what_is_read(archive) == (expected, set())
-    bad, *_ = grown(counting, start, folder, put, size, is_long, commands)
+
+    def look(archive, _):
+        assert what_is_read(archive) == (expected, set())
+
+    bad, *_ = grown(counting, start, folder, put, size, is_long, EACH if is_first else READING, look)
     assert not bad, bad
 
 
@@ -192,13 +212,22 @@ def test_pictures(name, counting, start, folder, is_long):
     ending, growth = OTHERS[name]
 
     def put(number, mark, side):
-        (side / f"a.{ending}").write_bytes(growth.make(number, mark).octets)
+        whole: Whole = growth.make(number, mark)
+        (side / f"a.{ending}").write_bytes(whole.octets)
+        os.truncate(side / f"a.{ending}", len(whole.octets) + whole.hole)
 
     size = growth.long if is_long else growth.short
-    (folder / "read").mkdir()
-    whole: Whole = growth.make(size, b"qa")
-    assert what_is_read(of_size(counting, folder / "read", put, size)) == (whole.texts, {whole.cause} - {None})
-    bad, *_ = grown(counting, start, folder, put, size, is_long, EACH)
+    whole = growth.make(size, b"qa")
+
+    def look(archive, _):
+        assert what_is_read(archive) == (whole.texts, {whole.cause} - {None})
+
+    commands = growth.commands or (EACH if is_long else OF_FORMS)
+    bad, once, twice = grown(counting, start, folder, put, size, is_long, commands, look)
+    for words, what in itertools.product(once, growth.free):
+        grows = getattr(twice[words], what) - getattr(once[words], what)
+        if grows > FEW[what]:
+            bad[words, what] = grows, "and it costs nothing"
     assert not bad, bad
 
 
@@ -206,9 +235,11 @@ def test_pictures(name, counting, start, folder, is_long):
 def test_folders(name, counting, start, folder, is_long):
     growth = FOLDERS[name]
     size = growth.long if is_long else growth.short
-    (folder / "read").mkdir()
-    assert of_size(counting, folder / "read", growth.put, size).index() == growth.counts(size)
-    bad, once, twice = grown(counting, start, folder, growth.put, size, is_long, EACH)
+
+    def look(_, works):
+        assert works[INDEX].out.decode().strip() == growth.counts(size)
+
+    bad, once, twice = grown(counting, start, folder, growth.put, size, is_long, EACH, look)
     for words in once:
         grows = twice[words].memory - once[words].memory
         if grows > OF_A_PICTURE * size + FEW["memory"]:

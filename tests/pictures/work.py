@@ -21,7 +21,7 @@ from typing import NamedTuple
 from studio import TESTS_PATH, Studio
 
 SOURCE = Path(__file__).parent / "count_work.c"
-COUNTED = ("calls", "steps", "asked", "hashed", "memory")  # what doesn't depend on the machine
+COUNTED = ("calls", "steps", "asked", "hashed", "written", "memory")  # what doesn't depend on the machine
 SECONDS = 100  # of a processor, after which a command is ended
 
 
@@ -33,6 +33,7 @@ class Work(NamedTuple):
     steps: int  # of SQLite, in hundreds
     asked: int  # bytes, all requests together
     hashed: int
+    written: int  # bytes, by calls of the system
     memory: int  # bytes in use at one time, more than before the command
     resident: int  # bytes of the whole process, at most
     seconds: float
@@ -142,6 +143,11 @@ def status_memory(name):
         return next(int(line.split()[1]) << 10 for line in file if line.startswith(name))
 
 
+def written_bytes():
+    with open("/proc/self/io") as file:
+        return next(int(line.split()[1]) for line in file if line.startswith("wchar:"))
+
+
 def counted(library, words):
     """Runs a command in this process, and counts."""
     from exifnorm_pictures.cli import main
@@ -159,6 +165,7 @@ def counted(library, words):
     profile.argtypes, profile.restype = [ctypes.c_void_p, ctypes.c_void_p], None
     used, asked = number["used"].value, number["asked"].value
     number["peak"].value = used
+    written = written_bytes()
     before = resource.getrusage(resource.RUSAGE_SELF)
     profile(ctypes.cast(library.work_call, ctypes.c_void_p), None)
     try:
@@ -175,6 +182,7 @@ def counted(library, words):
         "steps": Steps.counted,
         "asked": number["asked"].value - asked,
         "hashed": Hash.hashed,
+        "written": written_bytes() - written,
         "memory": number["peak"].value - used,
         "resident": status_memory("VmHWM"),
         "seconds": after.ru_utime + after.ru_stime - before.ru_utime - before.ru_stime,
