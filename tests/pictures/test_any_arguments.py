@@ -2,30 +2,78 @@
 
 import argparse
 import os
+import re
+import shutil
+import socket
 
 import pytest
 from made_files import app1, exif, jpeg
 
 from exifnorm_pictures.cli.parser import parsers
 
-VALUES = ("--", "-", "", "a\nb\x1b[2J", "\udcff", "-1", "1e999", "**[", "a" * 70000, "/dev/null")
+VALUES = (
+    "--",
+    "-",
+    "",
+    "a\nb\x1b[2J",
+    "\udcff",
+    "-1",
+    "1e999",
+    "**[",
+    "a" * 70000,
+    "/dev/null",
+    "pipe",
+    "socket",
+    "loop",
+    "q",
+    "=cmd|' /C calc'!A0",
+)
 STATUSES = range(5)
+LISTS = ("--files-from", "--ignore-file", "--only-file")  # which may be pipes, as `<(find ..)`, and wait for who writes
 COMMANDS = parsers()[1]
 
 
-def forms(action: argparse.Action, value: str):
-    """An option or a position with a value."""
-    if not action.option_strings:
-        return [[value], ["--", value]]
-    return [[f"{action.option_strings[-1]}={value}"]]
+# What each command is given: the folder p has the picture a.jpg, c is its catalogue, q another folder, and rules a file of rules
+GIVEN = {
+    "index": ["p", "--catalogue", "c", "--quiet"],
+    "merge": ["c", "--catalogue", "new"],
+    "forget": ["nothing", "--catalogue", "c"],
+    "relocate": ["c", "p", "q"],
+    "verify": ["p", "--catalogue", "c", "--quiet", "--jobs", "1"],
+    "same": ["--catalogue", "c"],
+    "changed": ["c", "c"],
+    "history": ["p/a.jpg", "c", "c"],
+    "compare": ["p/a.jpg", "p/a.jpg"],
+    "list": ["c", "--where", "title = x"],
+    "check": ["rules", "c"],
+    "show": ["p/a.jpg"],
+    "captions": ["p/a.jpg"],
+    "conflicts": ["p/a.jpg"],
+    "explain": ["p/a.jpg"],
+    "report": ["--catalogue", "c", "--html", "r"],
+    "export": ["c", "t"],
+    "mend": ["p/a.jpg", "copy.jpg"],
+}
 
 
-def others(command: str):
-    """What a command needs beside the tried option."""
-    given = {"changed": ["c", "c"], "compare": ["p/a.jpg", "p/a.jpg"], "merge": ["--catalogue", "new", "c"], "export": ["c", "t"]}
-    given |= {it: ["--catalogue", "c"] for it in ("same", "report", "verify")} | {"forget": ["nothing", "--catalogue", "c"]}
-    given |= {"index": ["p", "--catalogue", "c", "--quiet"], "mend": ["p/a.jpg", "copy.jpg"], "report": ["--catalogue", "c", "--html", "r"]}
-    return given.get(command, ["p/a.jpg"])
+def calls(command: str, parser: argparse.ArgumentParser):
+    """The command with each value for each option, in place of each name that it is given, and as one more name."""
+    words = GIVEN[command]
+    names = next((at for at, word in enumerate(words) if word.startswith("--")), len(words))
+    yield []
+    yield words[names:]
+    for value in VALUES:
+        for action in parser._actions:
+            option = action.option_strings[-1:]
+            if not option or option[0] in ("--jobs", "--scheduler"):  # which take seconds
+                continue
+            if not (value == "pipe" and option[0] in LISTS):
+                yield [*words, f"{option[0]}={value}"]
+        for at in range(names):
+            replaced = [*words[:at], value, *words[at + 1 :]]
+            yield replaced
+            yield [*replaced[names:], "--", *replaced[:names]]
+        yield [*words[:names], value, *words[names:]]
 
 
 @pytest.fixture
@@ -36,6 +84,12 @@ def end(folder, monkeypatch, capsys):
     monkeypatch.chdir(folder)
     monkeypatch.setattr("sys.stdin", open(os.devnull))
     (folder / "p").mkdir()
+    (folder / "q").mkdir()
+    (folder / "rules").write_text("every picture needs title\n")
+    os.mkfifo(folder / "pipe")
+    (folder / "loop").symlink_to("loop")
+    with socket.socket(socket.AF_UNIX) as listening:
+        listening.bind("socket")
     (folder / "p/a.jpg").write_bytes(jpeg(app1(exif(b"abc"))))
 
     def call(words):
@@ -50,18 +104,24 @@ def end(folder, monkeypatch, capsys):
 
 
 @pytest.mark.parametrize("command", COMMANDS)
-def test_any_value_of_any_option(command, end, folder, checks):
-    for action in COMMANDS[command]._actions:
-        for value in VALUES:
-            for given in forms(action, value):
-                if {"--jobs", "--scheduler"} & {it.partition("=")[0] for it in given}:
-                    continue  # processes and a cluster, which take seconds
-                status, messages = end([command, *others(command), *given])
-                shown = f"{command} {given}"[:200]
-                checks.check(
-                    shown,
-                    status in STATUSES and "internal error" not in messages and "Traceback" not in messages,
-                    (status, messages[-300:]),
-                )
-                for made in ("t", "r", "copy.jpg", "new"):
-                    (folder / made).unlink(missing_ok=True)
+def test_any_value_of_any_argument(command, end, folder, checks):
+    before = {it.name for it in folder.iterdir()}
+    shutil.copy(folder / "c", folder / "kept")
+    statuses = set()
+    for words in calls(command, COMMANDS[command]):
+        status, messages = end([command, *words])
+        statuses.add(status)
+        shown = " ".join(map(ascii, [command, *words]))[:200]
+        is_told = "internal error" not in messages and "Traceback" not in messages
+        checks.check(shown, status in STATUSES and is_told, (status, messages[-300:]))
+        checks.check(shown, not re.search("[\0-\x09\x0b-\x1f\x7f-\x9f]", messages), ascii(messages[-300:]))
+        shutil.copy(folder / "kept", folder / "c")
+        for made in {it.name for it in folder.iterdir()} - before - {"kept"}:
+            (folder / made).unlink()
+    assert 3 in statuses and statuses & {0, 1, 2}, "it never did what it is for"
+
+
+def test_a_list_without_end(end):
+    """A device is read up to a limit."""
+    status, messages = end(["show", "--files-from", "/dev/zero", "-0"])
+    assert (status, len(messages.splitlines())) == (3, 1) and "standard input" in messages

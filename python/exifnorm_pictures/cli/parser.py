@@ -105,6 +105,8 @@ def parsed(words: Optional[Sequence[str]] = None) -> argparse.Namespace:
     for word in itertools.takewhile(lambda word: word != "--", given):
         if word.startswith("--") and word.endswith("=--"):  # of which argparse makes an empty list
             commands.get(given[0], whole).error(f"argument {word[:-3]}: expected a value, and not --")
+    if given.count("--") > 1:  # of which argparse makes an empty list, too, or nothing
+        commands.get(given[0], whole).error("a file that is called -- is given as ./--")
     arguments, others = whole.parse_known_args(given)
     if not others:
         return arguments

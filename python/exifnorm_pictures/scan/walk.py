@@ -11,7 +11,7 @@ from typing import Callable, Collection, Iterable, Iterator, NamedTuple, Optiona
 from ..extract.sidecars import Folder, Folders, Sidecar
 from ..model.errors import WrongUse
 from ..model.records import Stamp
-from ..model.texts import reason
+from ..model.texts import reason, shown_path
 from .excluded import Excluded
 
 
@@ -110,6 +110,9 @@ def _stamp(entry: "os.DirEntry[bytes]") -> Optional[Stamp]:
         return None
 
 
+LONGEST_LIST = 1 << 28  # bytes of a list that is a file, or a device that has no end
+
+
 def names_in_list(
     name: str, by_nul: bool, before_read: Callable[[], object] = bool, stdin: Optional[io.BufferedIOBase] = None
 ) -> Iterator[bytes]:
@@ -120,7 +123,9 @@ def names_in_list(
     """
     if name != "-":
         with open(name, "rb") as file:
-            octets = file.read()
+            octets = file.read(LONGEST_LIST + 1)
+        if len(octets) > LONGEST_LIST:
+            raise BadList(f"{shown_path(name)} has more than {LONGEST_LIST >> 20} MB: a longer list is read from standard input, by -")
         if not by_nul and b"\0" in octets:
             raise _ended_by_nul(name)
         yield from filter(None, octets.split(b"\0" if by_nul else b"\n"))
