@@ -46,6 +46,7 @@ GIVEN = {
     "compare": ["p/a.jpg", "p/a.jpg"],
     "list": ["c", "--where", "title = x"],
     "check": ["rules", "c"],
+    "nightly": ["p", "--catalogue", "c", "--rules", "rules"],
     "show": ["p/a.jpg"],
     "captions": ["p/a.jpg"],
     "conflicts": ["p/a.jpg"],
