@@ -386,8 +386,8 @@ def plain_hole(number, mark):
 OF_FILES = ("show A", "captions P", "conflicts P --all", "list P --json --where title=x --jobs 1 --quiet")
 OTHERS = {
     "pages of one packet": ("tif", Growth(one_packet, 300, 2000, (), OF_FILES)),
-    "a hole": ("jpg", Growth(plain_hole, 6, 100, ("written", "memory"))),
-    "a hole after a refused block": ("jpg", Growth(hole, 6, 100, ("written", "memory"))),
+    "a hole": ("jpg", Growth(plain_hole, 10, 100, ("written", "memory"))),
+    "a hole after a refused block": ("jpg", Growth(hole, 10, 100, ("written", "memory"))),
     "lines of a rare text": ("png", Growth(lines, 3000, 30_000)),
     "references of a rare text": ("png", Growth(references, 3000, 30_000)),
     "pieces of a rare text": ("png", Growth(pieces_of_text, 1000, 10_000)),

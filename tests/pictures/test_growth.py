@@ -27,7 +27,7 @@ FEW = {
     "steps": 20,
     "asked": 600_000,
     "hashed": 20_000,
-    "written": 100_000,
+    "written": 4_000_000,  # a cache of SQLite that is full begins to write
     "memory": 200_000,
     "seconds": 0.3,
 }  # that aren't about the input

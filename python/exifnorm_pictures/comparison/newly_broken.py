@@ -8,7 +8,7 @@ from typing import Iterator, Mapping
 
 from ..catalogue.checking import Broken, Checked
 
-_WAS = "CREATE TABLE was (path BLOB, number INTEGER, label TEXT, text TEXT); CREATE INDEX by_path ON was (path); BEGIN"
+_WAS = "CREATE TABLE was (path BLOB, number INTEGER, label TEXT, text TEXT); CREATE INDEX by_all ON was (path, number, label, text); BEGIN"
 _KNOWN = "SELECT 1 FROM was WHERE path = ? AND number = ? AND label = ? AND text IS ?"
 
 
