@@ -1,14 +1,20 @@
 """`verify`: files read again, against a catalogue of index --pixels. What happens to a file is done by other programs, or byte by byte."""
 
+import hashlib
 import json
 import os
+import re
 import shutil
 import subprocess
+import sys
 
 import pytest
 from made_files import A, B, app1, jpeg
 from made_more_files import gif
-from studio import SMALL_JPEG, needs, put, tool
+from studio import SMALL_JPEG, Studio, needs, put, tool
+
+from exifnorm_pictures.files import opening
+from exifnorm_pictures.scan import hashing, index as scan_index, looking
 
 PICTURE, CAPTIONED = jpeg(app1(A)), jpeg(app1(B))
 OTHER = jpeg(app1(A), base=SMALL_JPEG.replace(b"\xff\xdb\0\x43\0", b"\xff\xdb\0\x43\1", 1))
@@ -162,3 +168,124 @@ def test_index_goes_on_with_digests(archive, called, verified):
     written(archive / "a.jpg", CAPTIONED)
     called("index", "p", "--catalogue", "c", "--quiet")
     assert verified()[:2] == (0, {})
+
+
+# How often files are read
+
+
+@pytest.fixture
+def reads(monkeypatch):
+    """The bytes that are read of each file, by its name: of those that are opened as `opening` opens files."""
+    counts = {}
+    opened = opening.opened
+
+    def counting(path):
+        number, size = opened(path)
+        counts[os.path.basename(os.fsdecode(path))] = counts.get(os.path.basename(os.fsdecode(path)), 0) + size
+        return number, size
+
+    monkeypatch.setattr(opening, "opened", counting)
+    return counts
+
+
+@pytest.mark.parametrize("jobs", ["1", "3"])
+def test_a_file_as_it_was_is_read_once(jobs, archive, verified, reads, monkeypatch):
+    """And nobody looks into it. One with other bytes is looked into."""
+    looked = []
+    look = looking.look
+    monkeypatch.setattr(looking, "look", lambda file, *more: looked.append(os.path.basename(file.path)) or look(file, *more))
+    assert verified("--jobs", jobs)[0] == 0
+    sizes = {name: os.path.getsize(archive / name) for name in ("a.jpg", "b.jpg", "c.gif", "d.txt")}
+    assert ({name: reads[name] for name in sizes}, looked) == (sizes, [])
+    written(archive / "a.jpg", CAPTIONED)
+    assert verified("--jobs", jobs)[:2] == (0, {"a.jpg": ("captioned", None)}) and looked == [b"a.jpg"]
+
+
+def test_bytes_of_a_file_as_it_was(folder, called):
+    """By the system's own count: each byte once, in few calls."""
+    size = 3_000_000
+    put(folder / "p", {f"{number}.jpg": PICTURE + bytes([number]) * size for number in range(3)})
+    called("index", "p", "--catalogue", "c", "--pixels", "--quiet")
+    words = ["strace", "-f", "-y", "-e", "trace=read,pread64,readv,mmap", "-o", "trace", sys.executable, "-m", "exifnorm_pictures"]
+    ran = subprocess.run(
+        [*words, "verify", "--catalogue", "c", "--jobs", "2", "--quiet"], cwd=folder, capture_output=True, env=Studio.environment()
+    )
+    assert ran.returncode == 0, ran.stderr
+    with open(folder / "trace", encoding="utf-8", errors="replace") as trace:
+        calls = [line for line in trace if f"{folder}/p/" in line]
+    read = [int(it[1]) for it in (re.search(r"= (\d+)$", line) for line in calls) if it]
+    assert sum(read) == 3 * (size + len(PICTURE)) and len(read) <= 3 * (size // 1_000_000 + 3)
+
+
+def test_a_run_that_was_stopped(archive, called, verified, reads, monkeypatch):
+    """What it has read isn't read again, unless it was written to since; the state goes with the run that ends."""
+    monkeypatch.setattr(scan_index, "BATCH", 1)
+    digest = hashing.digest
+
+    def stops(path, *more):
+        if path.endswith(b"c.gif"):
+            raise KeyboardInterrupt
+        return digest(path, *more)
+
+    monkeypatch.setattr(hashing, "digest", stops)
+    status, _, messages = called("verify", "--catalogue", "c", "--state", "s", "--jobs", "1")
+    assert status == 130 and "goes on from there" in messages and os.listdir("s") == ["verified.catalogue"]
+    monkeypatch.setattr(hashing, "digest", digest)
+    written(archive / "b.jpg", OTHER)
+    reads.clear()
+    status, states, (summary,) = verified("--state", "s")
+    assert (status, states, summary["earlier"]) == (1, {"b.jpg": ("other picture", None)}, 1)
+    assert "a.jpg" not in reads and reads["c.gif"] == os.path.getsize(archive / "c.gif") and not os.path.exists("s")
+
+
+@pytest.mark.parametrize("name", ["c", "p"])
+def test_a_state_that_is_somebodys(name, archive, called):
+    """No file and no folder of anybody else is taken for a state."""
+    before = os.listdir(archive), (archive.parent / "c").read_bytes()
+    status, _, messages = called("verify", "--catalogue", "c", "--state", name)
+    assert status == 4 and name in messages
+    assert before == (os.listdir(archive), (archive.parent / "c").read_bytes())
+
+
+# Bags, as RFC 8493 has them
+
+
+def bagged(folder, files):
+    """A bag, whose manifest is made by sha256sum but for the names with the characters that are percent-encoded."""
+    put(os.fsencode(folder), {b"data/" + name: octets for name, octets in files.items()})
+    encoded = {name: name.replace(b"%", b"%25").replace(b"\n", b"%0A").replace(b"\r", b"%0D") for name in files}
+    lines = [hashlib.sha256(octets).hexdigest().encode() + b"  data/" + encoded[name] for name, octets in files.items()]
+    (folder / "manifest-sha256.txt").write_bytes(b"\n".join(lines) + b"\n")
+
+
+BAG = {b"a.jpg": PICTURE, b"sub/100%\n.jpg": CAPTIONED, b"\xff.txt": b"text", b"sub/ b .jpg": OTHER}
+
+
+def test_a_bag(folder, called):
+    bagged(folder / "bag", BAG)
+
+    def verified():
+        status, printed, _ = called("verify", "--bag", "bag", "--json")
+        *files, summary = map(json.loads, printed.splitlines())
+        return status, {os.path.basename(it["path"]): it["state"] for it in files}, summary["new"]
+
+    assert verified() == (0, {}, 0)
+    put(folder / "bag", {"data/a.jpg": CAPTIONED, "data/sub/ b .jpg": OTHER[:-20], "data/new.jpg": PICTURE})
+    os.rename(folder / "bag/data/sub/100%\n.jpg", folder / "bag/data/moved.jpg")
+    os.remove(os.fsencode(folder) + b"/bag/data/\xff.txt")
+    states = {"a.jpg": "other bytes", " b .jpg": "cut off", "100%\n.jpg": "moved", r"\xff.txt": "missing"}
+    assert verified() == (1, states, 1)
+    bagged(folder / "more", {b"a.jpg": PICTURE})
+    put(folder / "more", {"data/b.jpg": PICTURE})
+    assert called("verify", "--bag", "more")[0] == 1  # a bag has nothing that its manifest doesn't have
+
+
+@pytest.mark.parametrize(
+    "manifest", [None, b"x  data/a.jpg\n", b"%s  data/../a.jpg\n", b"%s  /etc/passwd\n", b"%s  data/\n", b"%s data\n", b"%s  a.jpg"]
+)
+def test_what_is_no_bag(manifest, folder, called):
+    put(folder / "bag", {"data/a.jpg": PICTURE})
+    if manifest:
+        (folder / "bag/manifest-sha256.txt").write_bytes(manifest.replace(b"%s", b"0" * 64))
+    status, printed, messages = called("verify", "--bag", "bag")
+    assert (status, printed) == (3, "") and "manifest-sha256.txt" in messages

@@ -47,7 +47,7 @@ def main(words: Optional[Sequence[str]] = None) -> int:
 
 def _run(words: Optional[Sequence[str]]) -> int:
     """Runs a command in a session: its temporary files and programs end with it."""
-    command, session = "", Session()
+    command, session, goes_on = "", Session(), False
     try:
         arguments = parsed(words)
         session.debug = session.debug or arguments.debug
@@ -55,6 +55,7 @@ def _run(words: Optional[Sequence[str]]) -> int:
         arguments.session, arguments.sheet = session, None
         # importing the modules of all commands would take longer than most commands do
         command = arguments.command
+        goes_on = command in ("index", "nightly") or bool(getattr(arguments, "state", None))
         module = importlib.import_module(f".{command}", __package__)
         gc.freeze()
         gc.set_threshold(COLLECTED)
@@ -63,7 +64,7 @@ def _run(words: Optional[Sequence[str]]) -> int:
                 return int(module.run(arguments))
             return _with_spreadsheet(module, arguments)
     except KeyboardInterrupt:
-        more = "; the same command goes on from there" if command == "index" else ""
+        more = "; the same command goes on from there" if goes_on else ""
         signals.say(f"exifnorm-pictures: stopped{more}")
         return STOPPED
     except MemoryError:

@@ -320,10 +320,12 @@ def _history_arguments(parser: argparse.ArgumentParser) -> None:
 def _verify_arguments(parser: argparse.ArgumentParser) -> None:
     _example(parser, "verify --catalogue archive.catalogue --evidence sums.txt")
     parser.add_argument("folders", nargs="*", type=_name, metavar="FOLDER", help="a folder, with all below it (all that were indexed)")
-    parser.add_argument(
-        "--catalogue", required=True, type=_name, metavar="FILE", help="a catalogue of index --pixels, which stays as it is"
-    )
+    parser.add_argument("--catalogue", type=_name, metavar="FILE", help="a catalogue of index --pixels, which stays as it is")
+    words = "in place of a catalogue, verify the files of a bag (BagIt) by its manifest-sha256.txt"
+    parser.add_argument("--bag", type=_name, metavar="BAG", help=words)
     parser.add_argument("--evidence", type=_name, metavar="FILE", help="write SHA-256 of each file to a new file, for sha256sum -c")
+    words = "keep what was read in this new folder until the run ends: a run that was stopped goes on from there"
+    parser.add_argument("--state", type=_name, metavar="DIR", help=words)
     _limit_arguments(parser)
     _jobs_argument(parser)
     parser.add_argument("--quiet", action="store_true", help="no progress on standard error")

@@ -8,8 +8,9 @@ import os
 import sys
 from collections import Counter
 from datetime import datetime, timezone
-from typing import BinaryIO, Dict, Iterator, List, Sequence
+from typing import BinaryIO, Dict, Iterator, List, Optional, Sequence, Type
 
+from ..catalogue import bags
 from ..catalogue.store import Catalogue, NoCatalogue
 from ..comparison import verified
 from ..comparison.verified import State
@@ -17,11 +18,13 @@ from ..files import atomic
 from ..model.errors import WrongUse
 from ..model.texts import escaped, path_members, shown_path
 from ..scan.batches import How
+from ..scan.hashing import looker
 from ..scan.index import IndexOptions, index
 from .exit_codes import DIFFERENCE, SUCCESS, UNKNOWN
 from .names import named
 from .objects import print_object
 from .output import closed_folder, print_line
+from .parser import refuse
 
 SHOWN = 10  # files that are named of each state
 
@@ -32,15 +35,18 @@ class NotThere(WrongUse):
 
 def run(arguments: argparse.Namespace) -> int:
     """Compares the files that are there with a catalogue."""
+    if (arguments.bag is None) == (arguments.catalogue is None):
+        refuse("verify", "give --catalogue FILE or --bag BAG")
     if arguments.evidence and os.path.lexists(arguments.evidence):
         raise atomic.NotReplaced(atomic.not_written(escaped(arguments.evidence), "it is there already"))
     counts: "Counter[State]" = Counter()
     listed: Dict[str, List[str]] = {}
     with contextlib.ExitStack() as open_:
-        before = open_.enter_context(Catalogue(arguments.catalogue))
+        before = open_.enter_context(_of_bag(arguments) if arguments.bag else Catalogue(arguments.catalogue))
         given = bool(arguments.folders or arguments.files_from)
         folders = _folders(named(arguments, arguments.folders) if given else [], before)
-        now = open_.enter_context(_read_again(folders, arguments, before))
+        reading = Reading(folders, arguments, before)
+        now = open_.enter_context(reading)
         for file in verified.verified(before, now, folders):
             counts[file.state] += 1
             if file.state != State.AS_IT_WAS or file.note:
@@ -50,15 +56,19 @@ def run(arguments: argparse.Namespace) -> int:
         if arguments.evidence:
             _write_evidence(arguments, now)
     if arguments.json:
-        print_object("verify", "summary", {"counts": dict(counts), "new": new, "files": files, "bytes": size})
+        print_object("verify", "summary", {"counts": dict(counts), "new": new, "files": files, "bytes": size, "earlier": reading.earlier})
     else:
-        for line in _lines(counts, listed, new, files, size):
+        print_line(f"{files:,} file{'s' * (files != 1)} read again, {_size(size)}{_by_earlier(reading.earlier)}.")
+        for line in _lines(counts, listed):
             print_line(line)
+        if new:
+            print_line(f"{new:>11,} that the {'manifest' if arguments.bag else 'catalogue'} doesn't know")
         if arguments.evidence:
             print_line(f"{escaped(arguments.evidence)}: SHA-256 of {files:,} files, for sha256sum -c")
     if any(it.is_good is None for it in counts):
         return UNKNOWN
-    return DIFFERENCE if any(it.is_good is False for it in counts) else SUCCESS
+    is_more = bool(arguments.bag and new)  # a bag has no other files than its manifest
+    return DIFFERENCE if is_more or any(it.is_good is False for it in counts) else SUCCESS
 
 
 def _folders(names: Sequence[bytes], catalogue: Catalogue) -> List[bytes]:
@@ -70,28 +80,64 @@ def _folders(names: Sequence[bytes], catalogue: Catalogue) -> List[bytes]:
     return folders
 
 
-def _read_again(folders: Sequence[bytes], arguments: argparse.Namespace, before: Catalogue) -> Catalogue:
-    """A new catalogue of the files that are there now, with their digests."""
-    room = arguments.session.room
-    catalogue = Catalogue(os.path.join(room, "catalogue"), make=True)
+def _of_bag(arguments: argparse.Namespace) -> Catalogue:
+    """A catalogue of the manifest of a bag."""
+    catalogue = Catalogue(os.path.join(arguments.session.room, "manifest"), make=True)
     try:
-        closed: List[str] = []
-        how = How(
-            arguments.jobs,
-            pixels=True,
-            sidecars=before.has_sidecars(),
-            seconds=arguments.limit,
-            room=room,
-            debug=arguments.session.debug,
-            lines=closed_folder,
-        )
-        index(IndexOptions(folders, quiet=arguments.quiet or not sys.stderr.isatty(), how=how, print_line=closed.append), catalogue)
-        if closed:
-            raise NoCatalogue("; ".join(closed))
+        bags.fill(catalogue, arguments.bag)
     except BaseException:
         catalogue.close()
         raise
     return catalogue
+
+
+class Reading:
+    """A new catalogue of the files that are there now. With --state it is kept where a run that is stopped leaves it for the next one."""
+
+    def __init__(self, folders: Sequence[bytes], arguments: argparse.Namespace, before: Catalogue) -> None:
+        self._folders, self._arguments, self._before = folders, arguments, before
+        self._state = arguments.state
+        self.earlier = 0  # files that a run which was stopped has read
+
+    def __enter__(self) -> Catalogue:
+        """Reads the files again, each once if it is as the catalogue has it."""
+        arguments, room = self._arguments, self._arguments.session.room
+        name = os.path.join(room, "catalogue")
+        if self._state:
+            _check_state(self._state)
+            with contextlib.suppress(FileExistsError):
+                os.mkdir(self._state)
+            name = os.path.join(self._state, _KEPT)
+        catalogue = Catalogue(name, make=True)
+        try:
+            closed: List[str] = []
+            sidecars, debug = self._before.has_sidecars(), arguments.session.debug
+            how = How(arguments.jobs, False, False, True, sidecars, arguments.limit, room, debug, closed_folder)
+            options = IndexOptions(self._folders, quiet=arguments.quiet or not sys.stderr.isatty(), how=how, print_line=closed.append)
+            options.look = looker(self._before)
+            self.earlier = index(options, catalogue)["unchanged"]
+            if closed:
+                raise NoCatalogue("; ".join(closed))
+        except BaseException:
+            catalogue.close()
+            raise
+        self.catalogue = catalogue
+        return catalogue
+
+    def __exit__(self, kind: Optional[Type[BaseException]], *_: object) -> None:
+        self.catalogue.close()
+        if self._state and kind is None:
+            os.unlink(os.path.join(self._state, _KEPT))
+            os.rmdir(self._state)
+
+
+_KEPT = "verified.catalogue"
+
+
+def _check_state(folder: str) -> None:
+    """Raises `NotReplaced` if a name is not that of a folder in which a run that was stopped has left its state."""
+    if os.path.lexists(folder) and not (os.path.isdir(folder) and all(it.startswith(_KEPT) for it in os.listdir(folder))):
+        raise atomic.NotReplaced(atomic.not_written(escaped(folder), "it is there, and is no state of an earlier run"))
 
 
 # What is printed
@@ -111,8 +157,11 @@ def _add(arguments: argparse.Namespace, listed: List[str], result: verified.Veri
         listed.append(shown_path(result.path) + (f" ({', '.join(words)})" if words else ""))
 
 
-def _lines(counts: "Counter[State]", listed: Dict[str, List[str]], new: int, files: int, size: int) -> Iterator[str]:
-    yield f"{files:,} file{'s' * (files != 1)} read again, {_size(size)}."
+def _by_earlier(count: int) -> str:
+    return f"; {count:,} of them by a run that was stopped" if count else ""
+
+
+def _lines(counts: "Counter[State]", listed: Dict[str, List[str]]) -> Iterator[str]:
     for state in State:
         if not counts[state]:
             continue
@@ -120,8 +169,6 @@ def _lines(counts: "Counter[State]", listed: Dict[str, List[str]], new: int, fil
         names = listed.get(state, [])
         yield from (f"              {it}" for it in names[:SHOWN])
         yield from ["              .."] * (len(names) > SHOWN)
-    if new:
-        yield f"{new:>11,} that the catalogue doesn't know"
 
 
 def _size(octets: int) -> str:

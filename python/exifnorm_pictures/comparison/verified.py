@@ -30,6 +30,7 @@ class State(Word):
     MOVED = ("moved", "moved: the same file under another name", True)
     OTHER = ("other picture", "edited or replaced: other picture, and a later time", False)
     OTHER_FILE = ("other file", "written since: other bytes, in a format whose pictures aren't compared", False)
+    NOT_LISTED_SO = ("other bytes", "with other bytes than the manifest has", False)
     ROTTED = ("DAMAGED", "DAMAGED: other bytes, though nothing was written", False)
     CUT = ("cut off", "DAMAGED: the file is cut off or broken", False)
     MISSING = ("missing", "missing", False)
@@ -56,6 +57,8 @@ def state_of(before: Picture, now: Picture) -> Tuple[State, str]:
         return State.AS_IT_WAS, now.damage and f"damaged before, too: {now.damage}"
     if now.damage and not before.damage:
         return State.CUT, now.damage
+    if before.stamp is None and before.coded_picture is None:  # of a manifest, which has nothing else
+        return State.NOT_LISTED_SO, ""
     is_same_picture = bool(before.coded_picture) and now.coded_picture == before.coded_picture
     if now.marks == before.marks:  # an edit has another ctime at least
         return State.ROTTED, "in its metadata" * is_same_picture

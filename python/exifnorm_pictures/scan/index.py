@@ -31,7 +31,7 @@ PrintLine = Callable[[str], None]
 Look = Callable[[Sequence[FoundFile], How], Iterator[Result]]
 
 
-def _looked(work: Sequence[FoundFile], how: How) -> Iterator[Result]:
+def looked(work: Sequence[FoundFile], how: How) -> Iterator[Result]:
     """The results for these files, in their order. What is needed takes long to import, and in most runs nothing has changed."""
     if how.processes == 1 or len(work) <= FEW:
         from .looking import in_this_process
@@ -51,7 +51,7 @@ class IndexOptions:
     quiet: bool = False
     how: How = How()
     print_line: Optional[PrintLine] = None  # prints a line about a picture that was looked at, once it is committed
-    look: Look = _looked
+    look: Look = looked
     excluded: Excluded = field(default_factory=Excluded)
     moved_line: Optional[Callable[[bytes, bytes, int], str]] = None  # makes one line for all pictures that moved with their folder
     lines: Optional[Lines] = None  # makes the lines about folders that can't be read and names without a file; that of `how` by default

@@ -1,0 +1,47 @@
+"""The manifest of a bag (BagIt, RFC 8493) as a catalogue that has nothing but SHA-256 of each file."""
+
+from __future__ import annotations
+
+import os
+import re
+from typing import Iterator
+
+from ..files import opening
+from ..model.errors import WrongUse
+from ..model.records import Picture
+from .store import Catalogue
+
+MANIFEST = "manifest-sha256.txt"
+PAYLOAD = b"data/"
+_LONGEST = 1 << 31  # bytes of a manifest
+_LONGEST_LINE = 20_000
+_LINE = re.compile(rb"([0-9A-Fa-f]{64})[ \t]+\*?(.+)")
+_ENCODED = re.compile(rb"%(0A|0D|25)", re.I)  # what a name may not have as it is, and only that
+
+
+class NoBag(WrongUse):
+    """A folder is no bag with a manifest of SHA-256."""
+
+
+def fill(catalogue: Catalogue, bag: str) -> None:
+    """Puts the files of a bag's manifest into a new catalogue. Raises `NoBag` and `OSError`."""
+    run = catalogue.begin_run("")
+    catalogue.put(run, _files(os.fsencode(os.path.abspath(bag)), os.path.join(bag, MANIFEST)))
+
+
+def _files(top: bytes, manifest: str) -> Iterator[Picture]:
+    """The files of a manifest: each lies below the folder of the payload."""
+    if not os.path.lexists(manifest):
+        raise NoBag(f"{manifest} isn't there: a bag is verified by its manifest of SHA-256")
+    root = os.path.join(top, PAYLOAD.rstrip(b"/"))
+    with opening.reading(os.fsencode(manifest)) as file:
+        for number in range(1, _LONGEST):
+            line = file.readline(_LONGEST_LINE)
+            if not line:
+                return
+            match = _LINE.fullmatch(line.rstrip(b"\r\n"))
+            name = _ENCODED.sub(lambda code: bytes.fromhex(code[1].decode()), match[2]) if match else b""
+            path = os.path.normpath(os.path.join(top, name))
+            if not match or not name.startswith(PAYLOAD) or not path.startswith(root + b"/"):
+                raise NoBag(f"{manifest}: line {number} is no SHA-256 of a file below data/")
+            yield Picture.of(path, root, sha256=match[1].decode().lower())

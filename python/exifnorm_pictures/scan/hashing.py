@@ -1,0 +1,77 @@
+"""Files that are only hashed: one with the SHA-256 that a catalogue has of it is what the catalogue knows of it, and isn't looked into."""
+
+from __future__ import annotations
+
+import hashlib
+import threading
+from collections import deque
+from concurrent.futures import Future, ThreadPoolExecutor
+from typing import Deque, Iterator, List, Optional, Sequence, Tuple
+
+from ..catalogue.store import PICTURE_COLUMNS, Catalogue
+from ..files import opening
+from ..model.problems import NOT_THERE
+from ..model.records import Picture, picture_of_row
+from .batches import How, Result
+from .index import Look, looked
+from .walk import FoundFile
+
+CHUNK = 1 << 20  # bytes: hashlib lets other threads run while it hashes
+_AHEAD = 4  # files of each thread that wait to be told
+
+
+def looker(before: Catalogue) -> Look:
+    """Looks only into those files that have another SHA-256 than a catalogue has."""
+
+    def look(work: Sequence[FoundFile], how: How) -> Iterator[Result]:
+        others: List[FoundFile] = []
+        for file, digest in _hashed(work, how.processes):
+            known = _known(before, file.path)
+            if digest and known.sha256 == digest and known.problem not in NOT_THERE:
+                yield known.stamped(file.stamp)._replace(path=file.path, root=file.root)
+            else:
+                others.append(file)
+        yield from looked(others, how)
+
+    return look
+
+
+def _known(catalogue: Catalogue, path: bytes) -> Picture:
+    query = f"SELECT {PICTURE_COLUMNS} FROM pictures WHERE path = ?"
+    return next(catalogue.rows(query, (path,), picture_of_row), Picture())
+
+
+def _hashed(work: Sequence[FoundFile], threads: int) -> Iterator[Tuple[FoundFile, str]]:
+    """The files with their SHA-256, in their order. Several threads read them, one file each."""
+    if threads == 1 or len(work) < 2:
+        yield from ((file, digest(file.path)) for file in work)
+        return
+    waiting: "Deque[Tuple[FoundFile, Future[str]]]" = deque()
+    is_stopped = threading.Event()
+    with ThreadPoolExecutor(threads) as pool:
+        try:
+            for file in work:
+                waiting.append((file, pool.submit(digest, file.path, is_stopped)))
+                if len(waiting) > _AHEAD * threads:
+                    first, future = waiting.popleft()
+                    yield first, future.result()
+            for first, future in waiting:
+                yield first, future.result()
+        finally:
+            is_stopped.set()
+            pool.shutdown(wait=True, cancel_futures=True)
+
+
+def digest(path: bytes, is_stopped: Optional[threading.Event] = None) -> str:
+    """SHA-256 of a file; empty if it can't be read, or if nobody needs it any more."""
+    whole = hashlib.sha256()
+    try:
+        with open(opening.opened(path)[0], "rb", buffering=0) as file:
+            space = memoryview(bytearray(CHUNK))
+            while length := file.readinto(space):
+                whole.update(space[:length])
+                if is_stopped and is_stopped.is_set():
+                    return ""
+    except OSError:
+        return ""
+    return whole.hexdigest()
