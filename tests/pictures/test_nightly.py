@@ -196,8 +196,12 @@ def test_a_damaged_picture(archive, night):
 @pytest.mark.parametrize("is_empty", [True, False])
 @pytest.mark.parametrize("name", ["", "web", "scans", "scans/old"])
 def test_a_disk_that_is_not_mounted(name, is_empty, archive, night, folder):
-    """It is one line each night. When it is back, what was edited meanwhile is news, and nothing else."""
+    """It is one line each night. When it is back, what was edited meanwhile is news, and nothing else. A picture that went before isn't counted."""
+    put(archive, {f"{place}/gone.jpg": picture(50 + at) for at, place in enumerate(("web", "scans/old"))})
     night()
+    for place in ("web", "scans/old"):
+        os.remove(archive / place / "gone.jpg")
+    assert night()[:2] == (1, {("gone", None): 2})
     os.rename(archive / name, folder / "disk")
     if is_empty:
         (archive / name).mkdir()

@@ -21,7 +21,7 @@ from ..model.budgets import ROW_BYTES, ROW_NUMBER, SQL_STEPS
 from ..model.columns import Damaged
 from ..model.errors import Failure
 from ..model.found import NotRead
-from ..model.problems import NO_BYTES
+from ..model.problems import GONE, NO_BYTES
 from ..model.records import BLOCKS, PICTURES, Block, Picture, Stamp, block_of_row, has_short, not_read_of_row, picture_of_row
 
 APPLICATION = 0x45584E50  # 'EXNP', which distinguishes a catalogue from other SQLite files
@@ -495,6 +495,10 @@ class Catalogue:
         """The number, path and problem of each picture below a folder, by path."""
         start = folder.rstrip(b"/") + b"/"
         yield from self.rows("SELECT id, path, problem FROM pictures WHERE path > ? AND path < ? ORDER BY path", (start, start[:-1] + b"0"))
+
+    def count_below(self, folder: bytes) -> int:
+        """How many pictures are below a folder, without those that are gone."""
+        return sum(problem not in GONE for _, _, problem in self.below(folder))
 
     def pictures(self, only: Optional[str] = None) -> Iterator[Picture]:
         """Each picture, by path; `only` is a table of paths, as `choose` makes it."""

@@ -105,7 +105,7 @@ class Night:
     def _add_closed(self, between: Between, last: Catalogue) -> None:
         """The folders that can't be read. One that isn't there is absent."""
         for folder in self.closed:
-            known = sum(1 for _ in last.below(folder.path))
+            known = last.count_below(folder.path)
             if known:
                 kind = Kind.CLOSED if os.path.lexists(folder.path) else Kind.ABSENT
                 between.tally.add(kind, between.shown(folder.path), os.fsdecode(folder.path), count=known)

@@ -196,7 +196,7 @@ def _gone(options: IndexOptions, work: Work, catalogue: Catalogue) -> Tuple[List
 def _named_wrong(work: Work, catalogue: Catalogue) -> Iterator[Picture]:
     """A line for each folder that can't be read, and for each name without a file. The catalogue keeps none of it."""
     for unlisted in work.unlisted:
-        known = sum(1 for _ in catalogue.below(unlisted.path))
+        known = catalogue.count_below(unlisted.path)
         kept = f"; its {known} pictures stay as they were" if known else ""
         yield Picture.of(unlisted.path, b"", problem=Problem.UNREADABLE, detail=unlisted.reason + kept)
 
