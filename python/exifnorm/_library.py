@@ -189,12 +189,37 @@ class Room:
         return status, 0, count, b""
 
 
+class PlaceRoom:
+    """The same for so many blocks of a JPEG, and so many bytes of those in several pieces."""
+
+    def __init__(self, blocks: int, joined: int) -> None:
+        self._blocks, self._joined = blocks, joined
+        self._places, self._out = (PlaceStruct * max(blocks, 1))(), ctypes.create_string_buffer(joined + 1)
+        self._octets = memoryview(self._places).cast("B")
+        self._sizes, self._fault = Sizes(), JpegFault()
+        self._outputs = self._places, blocks, self._out, joined, ctypes.byref(self._sizes), ctypes.byref(self._fault)
+
+    def places_of(self, call: Callable[..., int], picture: bytes) -> Tuple[Places, Tuple[int, ...]]:
+        """The places of the blocks; and the blocks and bytes for which a further call needs room, if these are more."""
+        status = call(picture, len(picture), *self._outputs)
+        blocks, joined = self._sizes.blocks, self._sizes.joined
+        if status == _TOO_LITTLE_ROOM and (blocks > self._blocks or joined > self._joined):
+            return (b"", b""), (blocks, joined)
+        if status not in (_DONE, _REFUSED):
+            return (status, 0, 0, b"", b""), ()
+        rows, octets = bytes(self._octets[: blocks * PLACE.size]), self._out.raw[:joined]
+        if status == _DONE:
+            return (rows, octets), ()
+        return (status, self._fault.cause, self._fault.place, rows, octets), ()
+
+
 class ByCtypes:
     """The calls for blocks and JPEGs, by ctypes."""
 
     def __init__(self, library: ctypes.CDLL) -> None:
         self._library = library
         self._rooms: Dict[Type[ctypes.Structure], List[Room]] = {PartStruct: [], ResourceStruct: []}  # those of which no call makes use now
+        self._places: List[PlaceRoom] = []
 
     def check(self, block: bytes) -> Number:
         kind, fault = ctypes.c_uint32(), Fault()
@@ -232,18 +257,15 @@ class ByCtypes:
         return same.value if status == _DONE else (status, fault.cause, fault.kind, fault.number, fault.place)
 
     def jpeg_blocks(self, picture: bytes) -> Places:
-        sizes, fault = Sizes(_FEW, 0), JpegFault()
-        while True:
-            room, length = sizes.blocks, sizes.joined
-            places, out = (PlaceStruct * room)(), ctypes.create_string_buffer(length + 1)
-            outputs = places, room, out, length, ctypes.byref(sizes), ctypes.byref(fault)
-            status = self._library.exifnorm_jpeg_blocks(picture, len(picture), *outputs)
-            rows, joined = bytes(memoryview(places).cast("B")[: sizes.blocks * PLACE.size]), out.raw[: sizes.joined]
-            if status == _DONE:
-                return rows, joined
-            if status != _TOO_LITTLE_ROOM or (sizes.blocks <= room and sizes.joined <= length):
-                return status, fault.cause, fault.place, rows, joined
-            sizes.blocks = max(sizes.blocks, 1)
+        try:
+            room = self._places.pop()
+        except IndexError:
+            room = PlaceRoom(_FEW, 0)
+        answer, more = room.places_of(self._library.exifnorm_jpeg_blocks, picture)
+        self._places.append(room)
+        while more:
+            answer, more = PlaceRoom(*more).places_of(self._library.exifnorm_jpeg_blocks, picture)
+        return answer
 
     def jpeg_unread(self, picture: bytes) -> UnreadPlace:
         unread, fault = UnreadStruct(), JpegFault()

@@ -14,6 +14,7 @@ if TYPE_CHECKING:
 
 Ratio = Tuple[int, int]  # numerator and denominator; `exifnorm.Ratio` is one too, whose package loads the library
 Content = Union[bytes, Tuple[int, ...], Tuple[Ratio, ...], Tuple[XmpValue, ...], Long]
+Identity = Tuple[str, str, str, int, Content]  # the directory, the tag, the type, the number of elements, and the content
 
 
 class Field:
@@ -81,7 +82,7 @@ class Field:
         return f"Field(name={self.name!r}, text={self.text!r})"
 
     @property
-    def identity(self) -> Tuple[str, str, str, int, Content]:
+    def identity(self) -> Identity:
         """What two fields share exactly if they mean the same."""
         return self.directory, self.tag, self.type, self.count, self.content
 

@@ -2,14 +2,14 @@
 
 from __future__ import annotations
 
-from itertools import islice
+from itertools import islice, starmap
 from typing import Iterable, List
 
 from exifnorm._forms import _READ, Place, places
 
 from ..model.budgets import FIELDS
 from ..model.xmp_values import Long
-from .field import Field
+from .field import Field, Identity
 from .listing import OCTETS, digest_of
 
 _LEAST = 5  # bytes of a field: the head of an empty DataSet
@@ -21,25 +21,30 @@ def fields_of_form(form: bytes) -> List[Field]:
     >>> fields_of_form(b"\\x1c\\x02\\x78\\x00\\x04Vase")
     [Field(name='IPTC:Caption-Abstract', text='Vase')]
     """
+    return list(starmap(Field, contents(form)))
+
+
+def contents(form: bytes) -> List[Identity]:
+    """What identifies each field of a normal form, where the time for objects matters."""
     each = places(form)
     if len(form) <= _LEAST * FIELDS:
         return _read(form, each)
     first_fields = _read(form, islice(each, FIELDS))  # 16 MB can be three million DataSets, for which Python needs 1 GB
     if next(each, None) is not None:
-        first_fields.append(Field("iptc", "more", "octets", len(form), Long(digest_of(form), b"")))
+        first_fields.append(("iptc", "more", "octets", len(form), Long(digest_of(form), b"")))
     return first_fields
 
 
-def _read(form: bytes, each: Iterable[Place]) -> List[Field]:
-    fields: List[Field] = []
+def _read(form: bytes, each: Iterable[Place]) -> List[Identity]:
+    fields: List[Identity] = []
     for where, tag, kind, elements, at in each:
         if kind in OCTETS:
-            fields.append(Field(where, f"{tag:04x}", kind, elements, form[at : at + elements]))
+            fields.append((where, f"{tag:04x}", kind, elements, form[at : at + elements]))
         elif kind == "DATASET":
-            fields.append(Field("iptc", f"{tag >> 8}:{tag & 255}", "octets", elements, form[at : at + elements]))
+            fields.append(("iptc", f"{tag >> 8}:{tag & 255}", "octets", elements, form[at : at + elements]))
         elif kind in ("JPEG", "STRIPS"):  # the thumbnail's JPEG, or each of its strips
             key = "jpeg" if kind == "JPEG" else "strip"
-            fields += [Field("thumb", key, "octets", size, form[start : start + size]) for start, size in at]
+            fields += [("thumb", key, "octets", size, form[start : start + size]) for start, size in at]
         else:
-            fields.append(Field(where, f"{tag:04x}", kind, elements, _READ[kind](form, at, elements)))
+            fields.append((where, f"{tag:04x}", kind, elements, _READ[kind](form, at, elements)))
     return fields

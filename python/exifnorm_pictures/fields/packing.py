@@ -15,16 +15,19 @@ from __future__ import annotations
 import hashlib
 import json
 import zlib
-from typing import Any, Callable, List, NamedTuple, Optional, Sequence
+from itertools import starmap
+from typing import Any, Callable, Iterable, List, NamedTuple, Optional, Sequence
 
 from ..model.budgets import FIELD_BYTES
 from ..model.columns import Damaged
 from ..model.xmp_values import Array, Literal, Long, Uri, Structure, XmpValue
-from .field import Content, Field
+from .field import Content, Field, Identity
 from .listing import LONGEST_BYTES, MAKER_NOTE, OCTETS, digest_of, kept_value, plain_text
 
 _SHORTEST = 200  # characters of a list that compression makes longer, or hardly shorter
 _SHORT = 4096  # characters of a list that is compressed with small buffers
+
+_NOTE = f'["{MAKER_NOTE[0]}","{MAKER_NOTE[1]}",'  # as the MakerNote begins
 
 _quoted: Callable[[str], str] = json.encoder.encode_basestring_ascii  # type: ignore[attr-defined]  # typeshed lacks it
 
@@ -42,13 +45,19 @@ def packed(fields: Sequence[Field]) -> Packed:
     >>> packed([Field("main", "010f", "ASCII", 4, b"abc\\0")]).octets
     b'[["main","010f","ASCII",4,"abc"]]'
     """
-    lines = list(map(_json_of_field, fields))
+    return packed_contents([field.identity for field in fields])
+
+
+def packed_contents(contents: Iterable[Identity]) -> Packed:
+    """The same of what identifies each field."""
+    lines = list(starmap(_json_of_field, contents))
     text = f"[{','.join(lines)}]".encode("ascii")
-    note = next((number for number, it in enumerate(fields) if it.tag == MAKER_NOTE[1] and it.directory == MAKER_NOTE[0]), None)
+    note = next((number for number, line in enumerate(lines) if line.startswith(_NOTE)), None)
     if note is None:
-        return Packed(_compressed(text, len(fields)), None)
+        return Packed(_compressed(text, len(lines)), None)
+    octets = _compressed(text, len(lines))
     del lines[note]
-    return Packed(_compressed(text, len(fields)), hashlib.blake2b(",".join(lines).encode("ascii"), digest_size=32).hexdigest())
+    return Packed(octets, hashlib.blake2b(",".join(lines).encode("ascii"), digest_size=32).hexdigest())
 
 
 def left_out(octets: bytes, count: int = 0) -> bytes:
@@ -88,16 +97,18 @@ def _compressed(text: bytes, count: int) -> bytes:
     return compressing.compress(text) + compressing.flush()
 
 
-def _json_of_field(field: Field) -> str:
-    kind = field.type
-    value = _json_of_octets(field) if kind in OCTETS else _json_of_others(field)
-    return f'["{field.directory}",{_quoted(field.tag)},"{kind}",{field.count},{value}]'
+def _json_of_field(directory: str, tag: str, kind: str, count: int, content: Content) -> str:
+    if kind in OCTETS:
+        value = _json_of_octets(directory, tag, kind, count, content)
+    else:
+        value = _json_of_others(directory, tag, kind, count, content)
+    return f'["{directory}",{_quoted(tag)},"{kind}",{count},{value}]'
 
 
-def _json_of_octets(field: Field) -> str:
-    value = field.content
-    if not isinstance(value, bytes) or len(value) > LONGEST_BYTES or field.directory == "thumb":  # which a short value needn't be asked
-        value = kept_value(field)
+def _json_of_octets(directory: str, tag: str, kind: str, count: int, content: Content) -> str:
+    value = content
+    if not isinstance(value, bytes) or len(value) > LONGEST_BYTES or directory == "thumb":  # which a short value needn't be asked
+        value = kept_value(Field(directory, tag, kind, count, content))
     if isinstance(value, bytes):
         text = plain_text(value)
         return _quoted(text) if text is not None else f'["{value.hex()}"]'
@@ -105,17 +116,17 @@ def _json_of_octets(field: Field) -> str:
     return f'["{value.digest}","{value.begins.hex()}"]'
 
 
-def _json_of_others(field: Field) -> str:
-    value: Any = field.content
-    if field.count == 1 and field.directory != "xmp" and not isinstance(value, Long):
+def _json_of_others(directory: str, tag: str, kind: str, count: int, content: Any) -> str:
+    value: Any = content
+    if count == 1 and directory != "xmp" and not isinstance(value, Long):
         number = value[0]
         return f"[{number[0]},{number[1]}]" if isinstance(number, tuple) else str(number)
-    value = kept_value(field)
+    value = kept_value(Field(directory, tag, kind, count, content))
     if isinstance(value, Long):
         return f'["{value.digest}",{_quoted(str(value.begins))}]'
-    if field.directory == "xmp":
+    if directory == "xmp":
         return f"[{','.join(map(_json_of_property, value))}]"
-    if field.type in ("RATIONAL", "SRATIONAL"):
+    if kind in ("RATIONAL", "SRATIONAL"):
         return f"[{','.join(['%d,%d' % one for one in value])}]"
     return str(value[0]) if len(value) == 1 else f"[{','.join(map(str, value))}]"
 

@@ -3,7 +3,7 @@
 from __future__ import annotations
 
 import hashlib
-from typing import Any, Dict, List, Optional, Set, Tuple
+from typing import Dict, List, Optional, Set, Tuple
 
 import exifnorm
 
@@ -11,11 +11,11 @@ from .. import xmp
 from ..extract import structure
 from ..fields import normal_form, xmp_properties
 from ..fields.block_fields import Fields
-from ..fields.packing import is_short, left_out, length, packed
+from ..fields.packing import Packed, is_short, left_out, length, packed, packed_contents
 from ..model import steps
 from ..model.budgets import KEPT_BYTES, Budget
 from ..model.found import COMPRESSED, EXIF, FEW, IPTC, NAMES, XMP, Blocks, FoundBlock
-from ..model.records import Block
+from ..model.records import BLOCKS, Block
 from ..model.sides import Status
 
 _BY_ITSELF = FoundBlock("", b"", "", "")  # where a block is that was given without a picture
@@ -40,9 +40,7 @@ def judge(kind: str, block: bytes, packs: bool = False, at: FoundBlock = _BY_ITS
     except MemoryError:
         return Block(kind, *at[2:5], Status.FAILED, None, "OutOfMemory", None, len(block), octets)
     digest = octets if form == block else hashlib.sha256(form).hexdigest()
-    return _with_fields(
-        Block(kind, *at[2:5], Status.ACCEPTED, digest, None, None, len(block), octets), Fields(normal_form.fields_of_form, form), packs
-    )
+    return _with_form(Block(kind, *at[2:5], Status.ACCEPTED, digest, None, None, len(block), octets), form, packs)
 
 
 def _misplaced(kind: str, block: bytes) -> str:
@@ -54,12 +52,16 @@ def _misplaced(kind: str, block: bytes) -> str:
     return "NoMarker" if kind == IPTC else "UnknownKind"
 
 
-def _with_fields(block: Block, fields: Fields[Any], packs: bool) -> Block:
-    """A block with its fields."""
+def _with_form(block: Block, form: bytes, packs: bool) -> Block:
+    """A block with the fields of its normal form."""
     if not packs:
-        return block._replace(fresh=fields)
-    kept = packed(fields.all())
-    return block._replace(fields=kept.octets, but_note=kept.but_note)
+        return block._replace(fresh=Fields(normal_form.fields_of_form, form))
+    return _with_packed(block, packed_contents(normal_form.contents(form)))
+
+
+def _with_packed(block: Block, kept: Packed) -> Block:
+    """A block with its fields as a catalogue keeps them. `_replace` takes three times as long."""
+    return Block._make((*block[: BLOCKS.width - 1], kept.octets, kept.but_note, None))
 
 
 def _repaired(refused: Block, block: bytes, packs: bool, budget: Optional[Budget]) -> Block:
@@ -70,7 +72,7 @@ def _repaired(refused: Block, block: bytes, packs: bool, budget: Optional[Budget
     if repair is None:
         return refused
     known = refused._replace(repair=steps.packed(repair.steps), repaired=hashlib.sha256(repair.form).hexdigest())
-    return _with_fields(known, Fields(normal_form.fields_of_form, repair.form), packs)
+    return _with_form(known, repair.form, packs)
 
 
 def _says_nothing(block: FoundBlock) -> bool:
@@ -125,8 +127,8 @@ def judge_all(blocks: Blocks, packs: bool = False) -> List[Block]:
             blocks.budget.check_time()
             known[at.kind, at.data] = block
         kept += len(block.fields or b"")
-        judged.append(_within(block, kept))
-    judged = _all_within(judged) if packs else judged
+        judged.append(block if kept <= KEPT_BYTES else _within(block, kept))
+    judged = _all_within(judged) if kept * _INFLATES > KEPT_BYTES else judged  # which nearly no picture has
     return judged + extended.not_named() if extended else judged
 
 
@@ -137,8 +139,6 @@ def _within(block: Block, kept: int) -> Block:
 
 def _all_within(blocks: List[Block]) -> List[Block]:
     """The blocks without the packed fields of those from which on all of them, unpacked, are more than are kept of a picture."""
-    if sum(len(it.fields or b"") for it in blocks) * _INFLATES <= KEPT_BYTES:  # as of nearly each picture
-        return blocks
     within: List[Block] = []
     kept = 0
     for block in blocks:
@@ -199,7 +199,9 @@ def _judge_xmp(at: FoundBlock, extensions: xmp.Extensions, left: Dict[str, bytes
     if statements is None:
         return _unreadable(XMP, at, len(at.data), octets.hexdigest(), cause)
     result = Block(XMP, *at[2:5], Status.ACCEPTED, xmp.digest_of_packet(statements), None, None, len(at.data), octets.hexdigest())
-    return _with_fields(result, Fields(xmp_properties.fields_of_statements, statements), packs)
+    if not packs:
+        return result._replace(fresh=Fields(xmp_properties.fields_of_statements, statements))
+    return _with_packed(result, packed(xmp_properties.fields_of_statements(statements)))
 
 
 def _unreadable(kind: str, at: FoundBlock, length: int, octets: str, cause: str) -> Block:

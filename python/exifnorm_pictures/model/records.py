@@ -179,10 +179,14 @@ class Picture(NamedTuple):
         **others: Any,
     ) -> "Picture":
         """A picture that was looked at. Several processes do that, and one writes, so what is compared is made here."""
-        about: Dict[str, Any] = {"type": type, "extractor": extractor, "problem": problem, "detail": detail, **_marks(stamp), **others}
-        if fault := cut(part.what for part in unread):
-            about["damage"] = fault
-        return cls(path=path, root=root, blocks=tuple(blocks), unread=tuple(unread), **_compared(problem, blocks, unread), **about)
+        values: Dict[str, Any] = {**cls._field_defaults, "path": path, "root": root, "type": type, "extractor": extractor}
+        values.update(problem=problem, detail=detail, blocks=tuple(blocks), unread=tuple(unread))
+        values.update(_compared(problem, blocks, unread))
+        values.update(zip(Stamp._fields, stamp or ()))
+        values.update(others)
+        if fault := cut(part.what for part in unread) if unread else "":
+            values["damage"] = fault
+        return cls._make(values.values())
 
     @classmethod
     def found(
@@ -232,7 +236,7 @@ class Picture(NamedTuple):
     @property
     def kept_bytes(self) -> int:
         """About how many bytes its fields have, if it was looked at just now."""
-        return sum(len(block.fields or b"") for block in self.blocks)
+        return sum([len(block.fields) for block in self.blocks if block.fields])
 
     @property
     def state(self) -> str:
@@ -272,6 +276,9 @@ def _marks(stamp: Optional[Stamp]) -> Dict[str, Any]:
     return dict(zip(Stamp._fields, stamp or (None,) * len(Stamp._fields)))
 
 
+_OCTETS = {kind: f"{kind}_octets" for kind in KINDS}
+
+
 def _compared(problem: Optional[str], blocks: Sequence[Block], unread: Sequence[NotRead]) -> Dict[str, Any]:
     """What is compared of a picture: columns by their names. Of one with a problem nothing is known."""
     if problem:
@@ -283,7 +290,7 @@ def _compared(problem: Optional[str], blocks: Sequence[Block], unread: Sequence[
     known: Dict[str, Any] = {}
     for word, side in zip(KINDS, sides):
         known[word] = side.digest if side.status == Status.ACCEPTED else "" if side.status == Status.ABSENT else None
-        known[f"{word}_octets"] = side.octets
+        known[_OCTETS[word]] = side.octets
     known["not_read"] = known["other_not_read"] = _parts_digest(unread)
     if known["not_read"]:
         known["other_not_read"] = _parts_digest([part for part in unread if not part.what.endswith(REACHED)])

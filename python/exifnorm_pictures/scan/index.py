@@ -2,6 +2,7 @@
 
 from __future__ import annotations
 
+import gc
 import importlib.util
 import os
 import time
@@ -25,6 +26,7 @@ from .walk import FoundFile, Unlisted, below
 
 BATCH = 1000  # pictures of one transaction
 FEW = 64  # pictures for which starting a further process takes too long
+GARBAGE = 20_000  # objects after which Python looks for rings of them: what is made of a picture has none
 FILES = 8  # of batches, which SQLite attaches at once; it can attach ten
 
 PrintLine = Callable[[str], None]
@@ -227,6 +229,7 @@ class _Looking:
         if not self.work.to_read:
             return
         self.progress.start()
+        gc.set_threshold(GARBAGE)
         import exifnorm  # in most runs nothing has changed, and they don't load the library
 
         self.version = exifnorm.version()
