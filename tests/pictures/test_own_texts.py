@@ -21,11 +21,13 @@ OF_CAMERAS = [
     ("GC-X1E Image", "Hitachi", "GC-X1E"),
     ("Minolta DSC", "Minolta Co., Ltd.", "DiMAGE 7"),
     ("Canon EOS 300D", "Canon", "Canon EOS 300D"),
+    ("iPhone XR", "", "iPhone XR"),
 ]
 PEOPLE = """
 Man with a digital camera|The Canon of the cathedral|Canon|A Leica M3, about 1955|Created with love|Portrait|Image|1998-7-vase.jpg|Vase
 Bowl, clay, 1820|040621-N-6536T-062|Photo|Screenshot of the catalogue|Advertisement for a DIGITAL CAMERA by OLYMPUS|C-1998-001|1998.10
-Digital image of a fresco|Default of a debtor|Made by Anna Wirth|Town plan, 1931.4||x
+Digital image of a fresco|Default of a debtor|Made by Anna Wirth|Town plan, 1931.4||x|19980012.001|Made with gimp and braid, 1870
+Made in the paint shop of the works, 1923|Made with adobe bricks, Taos|12|Apple|iPhone
 """.strip().replace("\n", "|").split("|")  # fmt: skip
 
 
@@ -42,6 +44,21 @@ def test_of_a_camera(text, make, model):
 @pytest.mark.parametrize("text", PEOPLE)
 def test_of_people(text):
     assert not is_own(text, "Apple", "iPhone 12")
+
+
+@pytest.mark.parametrize(
+    "text, make, model",
+    [
+        ("Mark", "Canon", "Canon EOS 5D Mark II"),
+        ("II", "Canon", "Canon EOS 5D Mark II"),
+        ("Black", "GoPro", "HERO9 Black"),
+        ("7", "Minolta Co., Ltd.", "DiMAGE 7"),
+        ("Canon", "Canon", "Canon EOS 300D"),
+    ],
+)
+def test_words_that_a_camera_and_a_person_use(text, make, model):
+    """A title of one word, or an inventory number, that the camera's name has too."""
+    assert not is_own(text, make, model) and is_own(f"{make} {model}", make, model)
 
 
 OLYMPUS, OTHER = b"OLYMPUS DIGITAL CAMERA", b"Vase with bands"

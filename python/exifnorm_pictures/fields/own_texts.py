@@ -31,9 +31,13 @@ _TEXTS = {
 # In capitals, as cameras write it: GE DIGITAL CAMERA, KODAK DIGITAL STILL CAMERA
 _CAMERA = r"(\S+ ){0,4}DIGITAL (STILL |VIDEO )?(CAMERA|CAMCORDER|IMAGE)( PICTURES?)?"
 # Design rule for Camera File system (JEITA CP-3461): DCIM, a folder of three digits and five letters, four letters and four digits
-_FILE = r"(.*\bDCIM[\\/])?(\d{3}\w{5}[\\/])?[A-Z0-9_]{4}\d{4}\.[A-Z0-9]{3,4}"
+_FILE = r"(.*\bDCIM[\\/])?(\d{3}\w{5}[\\/])?[A-Z0-9_]{4}\d{4}\.(?!\d+\Z)[A-Z0-9]{3,4}"  # and no inventory number, as 19980012.001
+_PRODUCTS = (
+    r"gimp( [\d.]+)?( on .*)?|adobe( systems)? (photoshop|illustrator|lightroom|imageready|fireworks|indesign)\b.*|paint shop pro\b.*"
+)
 _PROGRAM = (
-    r"(created|edited|made|processed|saved) (with|by|in|using) (the )?(gimp|adobe|imagemagick|inkscape|paint\.net|paint shop|picasa|ebay)\b.*"
+    r"(created|edited|made|processed|saved) (with|by|in|using) (the )?"
+    rf"({_PRODUCTS}|(imagemagick|inkscape|paint\.net|picasa|ebay)\b.*)"
     r"|software: .*|file written by adobe photoshop.*|creator: gd-jpeg .*|optimized by jpegmini .*|lead technologies inc\..*|intel\(r\) jpeg library.*"
 )
 _FILLING = {"DIGITAL", "STILL", "CAMERA", "IMAGE", "PICTURE", "PHOTO", "DSC", "JPEG", "EXIF", "CORPORATION", "CORP", "INC", "CO", "LTD"}
@@ -49,8 +53,7 @@ def is_own(text: str, make: str = "", model: str = "") -> bool:
     upper = line.upper()
     if upper in _TEXTS or _is_of_camera(line) or _is_file(line) or re.fullmatch(_PROGRAM, line, re.I):
         return True
-    names = set(_words(f"{make} {model}".upper())) - _FILLING
-    return bool(names) and _is_name(upper, names)
+    return _is_name(upper, set(_words(make.upper())) - _FILLING, set(_words(model.upper())) - _FILLING)
 
 
 def _is_of_camera(line: str) -> bool:
@@ -61,15 +64,14 @@ def _is_file(line: str) -> bool:
     return "." in line[-5:-3] and bool(re.fullmatch(_FILE, line, re.I))
 
 
-def _is_name(line: str, names: Set[str]) -> bool:
-    """Whether a line has one of these names, and else only words that say nothing."""
-    has_name = False
-    for word in _words(line):
-        if word in names:
-            has_name = True
-        elif word not in _FILLING:
-            return False
-    return has_name
+def _is_name(line: str, makes: Set[str], models: Set[str]) -> bool:
+    """Whether a line names the camera, and has no other word that says something: a make and a further word, a model's word of letters and
+    digits, or all words of a model. "Mark", "Black", "12" and "Apple" may be a person's titles, though they are in the names of cameras."""
+    words = list(_words(line))
+    if not set(words) <= makes | models | _FILLING:
+        return False
+    has_number = any(word in models and not word.isdigit() and any(map(str.isdigit, word)) for word in words)
+    return has_number or (len(words) > 1 and (any(word in makes for word in words) or (len(models) > 1 and models <= set(words))))
 
 
 def _words(text: str) -> Iterator[str]:
