@@ -1,17 +1,20 @@
 """--xlsx: the tables of --csv as spreadsheet files, whose texts stay texts. openpyxl and Gnumeric read them."""
 
 import csv
+import errno
+import os
 import sys
 
 import openpyxl
 import pytest
-from made_files import app1, exif, jpeg
+from made_files import app1, exif, jpeg, png, png_xmp, xmp
 from studio import needs, put, tool
 from test_captions import data_set, with_record
 
 from exifnorm_pictures.cli import sheets
 
 NUMBERS = ["1998.10", "1998.1", "2003-12", "007", "1E5", "=1+1", "+1/2", "+49", "@x", "TRUE", "12.4.2001", "http://a.example/"]
+AMPHORA = "\U0001f3fa"
 
 
 def rows_of(path):
@@ -105,3 +108,22 @@ def test_the_limits_of_a_sheet(folder, called, monkeypatch):
     monkeypatch.setattr(sheets, "ROWS", 2)
     status, _, messages = called("captions", ".", "--xlsx", "u.xlsx")
     assert status == 4 and "no more than 2 rows: use --csv" in messages and not (folder / "u.xlsx").exists()
+
+
+def test_a_long_text_beyond_the_first_plane(folder, called):
+    """A cell has room for 32,767 characters of UTF-16, of which those beyond the first plane take two each."""
+    put(folder, {"a.png": png(png_xmp(xmp(f"<dc:description>{AMPHORA * 20_000}</dc:description>")))})
+    called("captions", "a.png", "--xlsx", "t.xlsx")
+    (heads, row), _ = rows_of("t.xlsx")
+    text = row[heads.index("caption")]
+    assert len(text.encode("utf-16-le")) // 2 <= 32_767 and text.endswith(f"{AMPHORA}.. (20,000 characters)")
+
+
+def test_a_full_disk(folder, called, monkeypatch):
+    def full(*_, **__):
+        raise OSError(errno.ENOSPC, os.strerror(errno.ENOSPC))
+
+    put(folder, {"a.jpg": jpeg(app1(exif(b"abc")))})
+    monkeypatch.setattr("xlsxwriter.workbook.ZipFile", full)
+    status, _, messages = called("captions", "a.jpg", "--xlsx", "t.xlsx")
+    assert status == 4 and "no space left on device" in messages and "report it" not in messages and not (folder / "t.xlsx").exists()

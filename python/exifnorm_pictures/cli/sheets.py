@@ -11,11 +11,11 @@ from typing import Iterator, Sequence, Union
 from ..files import atomic
 from ..files.session import Session
 from ..model.errors import Failure
-from ..model.texts import escaped, safe_lines, shown_path
+from ..model.texts import escaped, reason, safe_lines, shown_path
 from .output import print_line
 from .tables import Cell
 
-ROWS, LONGEST = 1_048_576, 32_767  # of a sheet, and characters of a cell, of Excel and LibreOffice
+ROWS, LONGEST = 1_048_576, 32_767  # of a sheet, and characters of a cell in UTF-16, of Excel and LibreOffice
 WIDTH, WIDEST = 24, 60  # of a column, in characters
 
 
@@ -58,8 +58,14 @@ class Sheet:
         self.rows += 1
 
     def close(self) -> None:
-        """Writes what is left."""
-        self._book.close()
+        """Writes what is left. Raises `NoSpreadsheet`, as on a full disk."""
+        from xlsxwriter.exceptions import XlsxWriterException
+
+        try:
+            self._book.close()
+        except XlsxWriterException as error:
+            cause = error.args[0] if error.args and isinstance(error.args[0], OSError) else None
+            raise NoSpreadsheet(f"the spreadsheet can't be written: {reason(cause) if cause else error}") from None
 
 
 def _shown(cell: Union[str, bytes]) -> str:
@@ -73,10 +79,15 @@ def _fitting(text: str) -> str:
     >>> _fitting("Vase"), _fitting("a" * 40_000)[-27:]
     ('Vase', 'aaaaa.. (40,000 characters)')
     """
-    if len(text) <= LONGEST:
+    if len(text) <= LONGEST // 2 or _length(text) <= LONGEST:
         return text
     end = f".. ({len(text):,} characters)"
-    return text[: LONGEST - len(end)] + end
+    room = 2 * (LONGEST - len(end))  # bytes
+    return text.encode("utf-16-le", "surrogatepass")[:room].decode("utf-16-le", "ignore") + end
+
+
+def _length(text: str) -> int:
+    return len(text.encode("utf-16-le", "surrogatepass")) // 2
 
 
 @contextlib.contextmanager
