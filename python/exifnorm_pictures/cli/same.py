@@ -6,7 +6,7 @@ import argparse
 import contextlib
 import json
 from collections import Counter
-from typing import TYPE_CHECKING, Dict, Iterator, List, Sequence, Tuple
+from typing import TYPE_CHECKING, Dict, Iterator, List, Optional, Sequence, Tuple
 
 from ..catalogue.store import Catalogue
 from ..comparison.group import Group, Link
@@ -78,13 +78,7 @@ def run(arguments: argparse.Namespace) -> int:
         listed = _Listed(arguments, choice)
         for group in _asked(groups, arguments, kinds, choice):
             listed.add(group)
-        left = (
-            sum(coded_pictures(catalogue, only)[1:3])
-            if arguments.kind == PIXELS
-            else 0
-            if listed.table
-            else left_out(catalogue, kinds, only)
-        )
+        left = 0 if listed.table else _left_out(catalogue, arguments.kind, kinds, only)
         if arguments.json:
             print_object("same", "summary", _summary(listed, groups, left))
         elif listed.table:
@@ -95,6 +89,11 @@ def run(arguments: argparse.Namespace) -> int:
             _print_totals(listed, groups, left)
         say_unknown(chosen or (), catalogue.has)
     return UNKNOWN if groups.unknown else status_of_results(listed.results)
+
+
+def _left_out(catalogue: Catalogue, kind: str, kinds: Sequence[str], only: Optional[str]) -> int:
+    """How many pictures can't be in a group of this kind."""
+    return sum(coded_pictures(catalogue, only)[1:3]) if kind == PIXELS else left_out(catalogue, kinds, only)
 
 
 class NoDigests(WrongUse):

@@ -235,9 +235,13 @@ def _read_otherwise(comparison: Compared, lines: List[Difference], moved: bool) 
     comparison.changes[at : at + bool(lines)] = [change._replace(note=note)]
     if not any(verdict.result in (Result.DIFFERENT, Result.DIFFERENT_REPAIRED) for verdict in comparison.verdicts):
         comparison.result = Result.DIFFERENT
+    comparison.verdicts = [
+        Verdict(EXIF, Result.DIFFERENT) if it.kind == EXIF and it.result in _WITHOUT_DIFFERENCE else it for it in comparison.verdicts
+    ]
     comparison.note += f"; MakerNote {note} (ExifTool)"
 
 
+_WITHOUT_DIFFERENCE = (Result.SAME, Result.SAME_BUT, Result.SAME_NUMBERS)  # but for what ExifTool reads of a MakerNote
 _OF_EXIF = ("main", "exif", "interop", "gps", "thumb")
 
 
