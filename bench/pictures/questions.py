@@ -27,7 +27,7 @@ sys.dont_write_bytecode = True
 from exifnorm_pictures.catalogue.label_texts import kept_text
 from exifnorm_pictures.catalogue.store import Catalogue, put_rows
 from exifnorm_pictures.cli.main import main as command
-from exifnorm_pictures.model.records import Picture
+from exifnorm_pictures.model.records import PictureRecord
 
 WORDS = "bowl vase celadon glaze museum the of and a with kiln harbour evening portrait market street archive photograph plate 1911".split()
 QUESTIONS: Sequence[List[str]] = [
@@ -78,7 +78,7 @@ def make(name: str, count: int) -> None:
             numbers = range(first, min(first + 10_000, count + 1))
             digests = {"iptc": "", "xmp": "a" * 64, "not_read": "", "other_not_read": "", "xmp_octets": "b" * 64, "exif_octets": "c" * 64}
             pictures = [
-                Picture(
+                PictureRecord(
                     path=b"/archive/folder%03d/picture%08d.jpg" % (number % 500, number),
                     root=b"/archive",
                     exif=None if number % 10 == 0 else f"{number:064x}",

@@ -31,7 +31,7 @@ from exifnorm_pictures.catalogue.store import Catalogue
 from exifnorm_pictures.fields.field import Field
 from exifnorm_pictures.fields.packing import packed
 from exifnorm_pictures.model.found import EXIF, IPTC, NAMES, XMP
-from exifnorm_pictures.model.records import Block, Picture, Stamp
+from exifnorm_pictures.model.records import BlockRecord, PictureRecord, Stamp
 
 ROOT = b"/archive"
 BATCH = 1000  # rows at once: few, because the system counts the memory of this process into that of a command that it starts
@@ -83,14 +83,14 @@ def make_others(folder: str, count: int) -> bool:
     return True
 
 
-def row(number: int, says: int, path: bytes, fields: bool) -> Picture:
+def row(number: int, says: int, path: bytes, fields: bool) -> PictureRecord:
     """A picture as the catalogue keeps it, whose Exif, IPTC and XMP blocks contain a number."""
     kept = packed([Field("main", "010f", "ASCII", 4, b"%d\0" % says)]).octets if fields else None
     blocks = []
     for kind in (EXIF, IPTC, XMP):
         digest = hashlib.sha256(f"{kind} {says}".encode()).hexdigest()
-        blocks.append(Block(kind, NAMES[kind], "APP1 at 2", "own", "accepted", digest, None, None, 100, digest, fields=kept))
-    return Picture.of(ROOT + path, ROOT, Stamp(1000 + says, number, number, number), "JPEG", "own", blocks=tuple(blocks))
+        blocks.append(BlockRecord(kind, NAMES[kind], "APP1 at 2", "own", "accepted", digest, None, None, 100, digest, fields=kept))
+    return PictureRecord.of(ROOT + path, ROOT, Stamp(1000 + says, number, number, number), "JPEG", "own", blocks=tuple(blocks))
 
 
 def make_catalogue(name: str, count: int, says: Callable[[int], int], path: Callable[[int], bytes], fields: bool = True) -> str:

@@ -26,7 +26,7 @@ from .judge.reading import Reading
 from .model.budgets import Budget, TooMuch
 from .model.found import EXIF, NAMES, Blocks
 from .model.problems import Problem
-from .model.records import Block as Judged, Picture as Record, Stamp, is_marked_as
+from .model.records import BlockRecord, PictureRecord, Stamp, is_marked_as
 from .model.results import Result
 from .model.texts import described
 
@@ -109,7 +109,7 @@ class Block:
 
     __slots__ = ("_judged", "_data", "_fields")
 
-    def __init__(self, judged: Judged, data: bytes) -> None:
+    def __init__(self, judged: BlockRecord, data: bytes) -> None:
         self._judged, self._data = judged, data
         self._fields: Optional[Tuple[Field, ...]] = None
 
@@ -214,7 +214,7 @@ class Picture:
         self._name, self._reading, self._path, self._stamp, self._whole = name, reading, path, stamp, whole
         self._blocks: Optional[Tuple[Block, ...]] = None
         self._names: Optional[Dict[str, List[Field]]] = None
-        self._made: Optional[Record] = None
+        self._made: Optional[PictureRecord] = None
 
     @property
     def name(self) -> str:
@@ -270,14 +270,16 @@ class Picture:
             return None
         return "+".join(it or "-" for it in meanings)
 
-    def _record(self) -> Record:
+    def _record(self) -> PictureRecord:
         """The picture as the commands have it."""
         if self._made is None:
             reading = self._reading
-            self._made = Record.found(os.path.abspath(self._path) if self._path else b"", b"", self._stamp, reading.read, reading.blocks)
+            self._made = PictureRecord.found(
+                os.path.abspath(self._path) if self._path else b"", b"", self._stamp, reading.read, reading.blocks
+            )
         return self._made
 
-    def _whole_record(self) -> Record:
+    def _whole_record(self) -> PictureRecord:
         """The same with the digests of the coded picture and of the file, if the file is still the one that was read."""
         if self._whole is None and self._is_unchanged():
             with contextlib.suppress(OSError, TooMuch):
@@ -534,7 +536,7 @@ def compare(before: Union[Picture, Source], after: Union[Picture, Source], *, as
     return Comparison(compared.result.decided, str(compared.result), compared.note, differences, str(compared.picture), proved)
 
 
-def _difference(change: differing.Difference) -> Difference:
+def _difference(change: differing.FieldDifference) -> Difference:
     block = change.block or NAMES.get(change.directory, NAMES[EXIF])
     before, after = (tuple(it.in_block(block) for it in side) or None for side in (change.before, change.after))
     return Difference(change.name, before, after, change.is_equal_number, change.note)

@@ -16,7 +16,7 @@ from made_blocks import MAKE, block, with_exif
 from studio import SMALL_JPEG, Studio, WithPictures, interpreter_with, needs, run, write
 
 from exifnorm_pictures.extract import programs
-from exifnorm_pictures.model.records import Picture, Stamp
+from exifnorm_pictures.model.records import PictureRecord, Stamp
 from exifnorm_pictures.scan import cluster
 from exifnorm_pictures.scan.batches import How
 from exifnorm_pictures.scan.walk import FoundFile
@@ -222,7 +222,7 @@ def found(name, root=b"/p", size=1):
 
 
 def entry(it, **more):
-    return Picture.of(it.path, it.root, it.stamp, **more)
+    return PictureRecord.of(it.path, it.root, it.stamp, **more)
 
 
 class Tasks(unittest.TestCase):
@@ -235,7 +235,7 @@ class Tasks(unittest.TestCase):
 
         def look(it, how, session):
             self.seconds = session.seconds
-            return Picture.of(it.path, it.root, it.stamp, "GIF" if how.whole else "JPEG")
+            return PictureRecord.of(it.path, it.root, it.stamp, "GIF" if how.whole else "JPEG")
 
         with mock.patch.multiple(cluster, create=True, distributed=near, KilledWorker=Killed, CommClosedError=Closed), mock.patch.object(
             cluster.looking, "look", look
@@ -265,7 +265,7 @@ class Tasks(unittest.TestCase):
         self.assertEqual(near.waits, [(number, 2.0, "FIRST_COMPLETED") for number in (5, 4, 3, 2, 1)])
         self.assertEqual(self.seconds, 60.0)
         # there are no such files here, so they have no marks there
-        self.assertEqual(result, [Picture.of(it.path, it.root, None, "GIF") for it in work])
+        self.assertEqual(result, [PictureRecord.of(it.path, it.root, None, "GIF") for it in work])
         self.assertEqual((self.looked(near, []), len(near.calls)), ([], 7))
 
     def test_the_same_folder_at_another_path(self):
@@ -278,22 +278,22 @@ class Tasks(unittest.TestCase):
             result,
             [
                 entry(found(b"a", size=4), type="GIF"),
-                Picture.of(b"/p/b", b"/p", None, "GIF"),
-                Picture.of(b"/p/a", b"/p", None, "GIF"),
+                PictureRecord.of(b"/p/b", b"/p", None, "GIF"),
+                PictureRecord.of(b"/p/a", b"/p", None, "GIF"),
             ],
         )
 
     def test_results_of_workers(self):
         work = [found(b"a"), found(b"b"), found(b"c")]
         outcome = [
-            Picture.of(b"/there/a", b"/there", None, problem="Vanished", detail="gone"),
-            Picture.of(b"/there/b", b"/there", Stamp(1, 9, 9, 9), "PNG"),
-            Picture.of(b"/there/c", b"/there", Stamp(2, 2, 3, 4), problem="NoPicture", detail="no"),
+            PictureRecord.of(b"/there/a", b"/there", None, problem="Vanished", detail="gone"),
+            PictureRecord.of(b"/there/b", b"/there", Stamp(1, 9, 9, 9), "PNG"),
+            PictureRecord.of(b"/there/c", b"/there", Stamp(2, 2, 3, 4), problem="NoPicture", detail="no"),
         ]
-        missing = Picture.of(b"/p/a", b"/p", None, problem="Unreadable", detail="the worker has no such file: '/there/a'")
+        missing = PictureRecord.of(b"/p/a", b"/p", None, problem="Unreadable", detail="the worker has no such file: '/there/a'")
         self.assertEqual(
             self.looked(Near([outcome]), work),
-            [missing, entry(work[1], type="PNG"), Picture.of(b"/p/c", b"/p", None, problem="NoPicture", detail="no")],
+            [missing, entry(work[1], type="PNG"), PictureRecord.of(b"/p/c", b"/p", None, problem="NoPicture", detail="no")],
         )
         why = "the worker failed: ValueError: no package"
         self.assertEqual(self.looked(Near([ValueError("no package")]), work), [entry(it, problem="ToolFailed", detail=why) for it in work])

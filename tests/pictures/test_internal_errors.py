@@ -18,7 +18,7 @@ from exifnorm_pictures.fields.listing import exact
 from exifnorm_pictures.judge import judge
 from exifnorm_pictures.model import records
 from exifnorm_pictures.model.found import Blocks, NotRead
-from exifnorm_pictures.model.records import Block, Damaged, Picture, Stamp
+from exifnorm_pictures.model.records import BlockRecord, Damaged, PictureRecord, Stamp
 from made_files import jpeg, png as made_png
 from studio import errors, run
 
@@ -48,11 +48,11 @@ def command(capsys, tmp_path, monkeypatch):
 
 def of_pictures(name, *paths):
     made = Catalogue(str(name), make=True)
-    block = Block("exif", "Exif", "somewhere", "own", "refused", None, "Overlap", 34, 100, "0" * 64)
+    block = BlockRecord("exif", "Exif", "somewhere", "own", "refused", None, "Overlap", 34, 100, "0" * 64)
     parts = (NotRead("a part", "1" * 64),)
     made.put(
         made.begin_run("2000-01-01T00:00:00Z"),
-        [Picture.of(it, b"/", Stamp(1, 2, 3, 4), "JPEG", blocks=(block,), unread=parts) for it in paths],
+        [PictureRecord.of(it, b"/", Stamp(1, 2, 3, 4), "JPEG", blocks=(block,), unread=parts) for it in paths],
     )
     return made
 

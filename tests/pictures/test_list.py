@@ -333,7 +333,7 @@ def test_a_question_visits_few_rows(folder, called):
     from exifnorm_pictures.catalogue.label_texts import kept_text
     from exifnorm_pictures.catalogue.store import Catalogue, put_rows
     from exifnorm_pictures.fields.questions import question_of
-    from exifnorm_pictures.model.records import Picture
+    from exifnorm_pictures.model.records import PictureRecord
 
     steps = {}
     for count in (1_000, 10_000):
@@ -341,7 +341,7 @@ def test_a_question_visits_few_rows(folder, called):
         with Catalogue(name, make=True) as catalogue:
             run = catalogue.begin_run("2026-01-01T00:00:00Z")
             empty = {"exif": "", "iptc": "", "xmp": "", "not_read": "", "other_not_read": ""}
-            pictures = [Picture(path=b"/p/%06d" % number, root=b"/p", **empty) for number in range(count)]
+            pictures = [PictureRecord(path=b"/p/%06d" % number, root=b"/p", **empty) for number in range(count)]
             with catalogue.transaction():
                 put_rows(catalogue.base, run, 1, pictures)
                 texts = (

@@ -22,7 +22,7 @@ from exifnorm_pictures.files import atomic, opening, session, signals
 from exifnorm_pictures.model import records
 from exifnorm_pictures.model.found import NotRead
 from exifnorm_pictures.model.problems import TEXTS
-from exifnorm_pictures.model.records import Block, Damaged, Picture, Stamp
+from exifnorm_pictures.model.records import BlockRecord, Damaged, PictureRecord, Stamp
 from exifnorm_pictures.scan import looking, progress, walk, workers
 from exifnorm_pictures.scan.batches import How
 from exifnorm_pictures.scan.walk import FoundFile
@@ -375,7 +375,7 @@ class Messages(WithPictures):
 
     def test_of_files(self):
         found = FoundFile(b"/a", b"/", Stamp(1, 2, 3, 4))
-        at, rest = Picture(path=b"/a", root=b"/"), {}
+        at, rest = PictureRecord(path=b"/a", root=b"/"), {}
         marked = at.stamped(found.stamp)
         for why, expected in (
             (programs.Failed("exiv2 failed"), marked._replace(problem="ToolFailed", detail="exiv2 failed", extractor="own", **rest)),
@@ -446,9 +446,9 @@ class OfPictures(unittest.TestCase):
 
     def test_each_result(self):
         digest, octets = "d" * 64, "0" * 64
-        good = Block("iptc", "IPTC", "somewhere", "own", "accepted", digest, None, None, 7, octets)
-        refused = Block("exif", "second Exif", "somewhere", "own", "refused", None, "Overlap", 34, 100, octets)
-        at_0, packet = refused._replace(name="Exif", place=0), Block(
+        good = BlockRecord("iptc", "IPTC", "somewhere", "own", "accepted", digest, None, None, 7, octets)
+        refused = BlockRecord("exif", "second Exif", "somewhere", "own", "refused", None, "Overlap", 34, 100, octets)
+        at_0, packet = refused._replace(name="Exif", place=0), BlockRecord(
             "xmp", "XMP", "somewhere", "own", "unreadable", None, "NoRDF", None, 9, octets
         )
         failed, long = (
@@ -506,7 +506,7 @@ class OfPictures(unittest.TestCase):
                 },
             ),
         ):
-            it = Picture.of(b"/a\n\xff", b"/", type="JPEG", **more)
+            it = PictureRecord.of(b"/a\n\xff", b"/", type="JPEG", **more)
             self.assertEqual(output.record_lines(it), [f"/a\\n\\xff: {line}" for line in printed])
             shape = {
                 "schema": "exifnorm-pictures/index/1",
@@ -521,6 +521,6 @@ class OfPictures(unittest.TestCase):
 
     def test_a_folder_that_cannot_be_read(self):
         """It is in no folder of a catalogue; a file that can't be read has its own row."""
-        it = Picture.of(b"/a\n/b", b"", problem="Unreadable", detail="permission denied")
+        it = PictureRecord.of(b"/a\n/b", b"", problem="Unreadable", detail="permission denied")
         self.assertEqual(output.closed_folder(it), ["the folder /a\\n/b can't be read: permission denied"])
         self.assertEqual(output.closed_folder(it._replace(root=b"/a")), [])

@@ -29,7 +29,7 @@ from exifnorm_pictures.files import session
 from exifnorm_pictures.judge import judge
 from exifnorm_pictures.model import xmp_names as short_names
 from exifnorm_pictures.model.found import Broken, NotRead
-from exifnorm_pictures.model.records import Picture
+from exifnorm_pictures.model.records import PictureRecord
 from exifnorm_pictures.refusals import explain, mend
 from exifnorm_pictures.scan import index, walk
 
@@ -140,8 +140,10 @@ class Indexed(WithPictures):
         names = [b"\x01", b" ", b"~", b"\x7f", "é".encode(), b"\xff", b"z/\xff"]
         with Catalogue(self.path("c"), make=True) as made:
             run = made.begin_run("2000-01-01T00:00:00Z")
-            made.put(run, [Picture.of(b"/a/" + it, b"/a", problem="NoPicture") for it in names])
-            made.put(run, [Picture.of(it, b"/", problem="NoPicture") for it in (b"/a", b"/a0", b"/a!/b", b"/a0/b", b"/ab/c", b"/\xff")])
+            made.put(run, [PictureRecord.of(b"/a/" + it, b"/a", problem="NoPicture") for it in names])
+            made.put(
+                run, [PictureRecord.of(it, b"/", problem="NoPicture") for it in (b"/a", b"/a0", b"/a!/b", b"/a0/b", b"/ab/c", b"/\xff")]
+            )
             self.assertEqual([path for _, path, _ in made.below(b"/a")], sorted(b"/a/" + it for it in names))
 
     def test_slow_pictures_are_committed_one_by_one(self):
@@ -153,7 +155,7 @@ class Indexed(WithPictures):
             def looked(found, _):
                 for number, it in enumerate(found):
                     self.assertEqual(made.base.execute("SELECT count(*) FROM pictures").fetchone(), (number,))
-                    yield Picture.of(it.path, it.root, it.stamp, problem="NoPicture")
+                    yield PictureRecord.of(it.path, it.root, it.stamp, problem="NoPicture")
 
             with mock.patch.object(index, "LONGEST_WAIT", -1):
                 index.index(index.IndexOptions([os.fsencode(self.path("p"))], quiet=True, look=looked), made)
@@ -241,10 +243,10 @@ class Parts(unittest.TestCase):
         """Its digest is that of the names and of the bytes, in the order of the file; without the bytes there is none."""
         parts = [NotRead("a trailer", "1" * 64), NotRead("a chunk", "2" * 64)]
         others_ = [parts[::-1], parts[:1], [parts[0], NotRead("a chunk", "3" * 64)], [parts[0], NotRead("a trailer", "2" * 64)], []]
-        found = [Picture.of(b"/a", b"/", unread=it).not_read for it in (parts, *others_)]
+        found = [PictureRecord.of(b"/a", b"/", unread=it).not_read for it in (parts, *others_)]
         self.assertEqual((len(set(found)), found[-1]), (6, ""))
-        self.assertEqual(Picture.of(b"/a", b"/", unread=parts).not_read, found[0])
-        self.assertIsNone(Picture.of(b"/a", b"/", unread=(parts[0], NotRead("a chunk", ""))).not_read)
+        self.assertEqual(PictureRecord.of(b"/a", b"/", unread=parts).not_read, found[0])
+        self.assertIsNone(PictureRecord.of(b"/a", b"/", unread=(parts[0], NotRead("a chunk", ""))).not_read)
 
 
 class Printed(unittest.TestCase):

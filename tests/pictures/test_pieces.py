@@ -21,7 +21,7 @@ from exifnorm_pictures.fields.field import Field
 from exifnorm_pictures.files import session
 from exifnorm_pictures.model import records, sides, texts, verdicts
 from exifnorm_pictures.model.found import Blocks, NotRead
-from exifnorm_pictures.model.records import Picture, Stamp
+from exifnorm_pictures.model.records import PictureRecord, Stamp
 from exifnorm_pictures.model.sides import Side
 from exifnorm_pictures.model.verdicts import Verdict
 from exifnorm_pictures.report import thumbnails
@@ -319,7 +319,7 @@ class Work(WithPictures):
         found = [FoundFile(b"/%d" % it, b"/", None) for it in range(4)]
         times = iter([0.0, 1.9, 2.0, 2.1])
         with mock.patch.object(
-            workers, "_look", lambda it, how: Picture.of(it.path, it.root, problem="NoPicture" if how.whole else "Vanished")
+            workers, "_look", lambda it, how: PictureRecord.of(it.path, it.root, problem="NoPicture" if how.whole else "Vanished")
         ), mock.patch.object(workers.time, "monotonic", lambda: next(times)):
             it = workers.look_at_some(workers.Task(found, self.path("rows")), batches.How(whole=True))
         self.assertEqual((it.file, it.states, it.lines, it.unread, it.left), (self.path("rows"), {"NoPicture": 3}, [], [], found[3:]))
@@ -327,10 +327,10 @@ class Work(WithPictures):
     def test_rows_of_a_part(self):
         """Those that can't be read have none: if they were known before, their earlier results stay."""
         entries = [
-            Picture.of(b"/a", b"/", Stamp(1, 2, 3, 4), "JPEG", "own"),
-            Picture.of(b"/b", b"/", problem="Unreadable", detail="why"),
-            Picture.of(b"/c", b"/", problem="Vanished"),
-            Picture.of(b"/d", b"/", extractor="exiftool", problem="NoPicture", detail="d"),
+            PictureRecord.of(b"/a", b"/", Stamp(1, 2, 3, 4), "JPEG", "own"),
+            PictureRecord.of(b"/b", b"/", problem="Unreadable", detail="why"),
+            PictureRecord.of(b"/c", b"/", problem="Vanished"),
+            PictureRecord.of(b"/d", b"/", extractor="exiftool", problem="NoPicture", detail="d"),
         ]
         it = batches.batch(self.path("rows"), entries, [FoundFile(b"/e", b"/", None)], lambda it: [os.fsdecode(it.path), it.detail])
         self.assertEqual(
@@ -351,12 +351,12 @@ class Work(WithPictures):
             [(1, b"/a", 1, 4, None, "", 0), (2, b"/d", None, None, "NoPicture", "d", 0)],
         )
         self.assertEqual(batches.batch(self.path("more"), entries[:1], [], None).lines, [])
-        self.assertEqual(Picture.of(b"/a", b"/").state, "no block")
+        self.assertEqual(PictureRecord.of(b"/a", b"/").state, "no block")
 
     def test_programs_that_have_read_a_picture(self):
         """They have extracted its blocks, or have found that it has none; or ExifTool has read its MakerNotes."""
-        blocks = [records.Block("exif", "Exif", "place", it, "accepted", "d", None, None, 1, "o") for it in ("own", "exiv2")]
-        own = Picture.of(b"/a", b"/", extractor="own")
+        blocks = [records.BlockRecord("exif", "Exif", "place", it, "accepted", "d", None, None, 1, "o") for it in ("own", "exiv2")]
+        own = PictureRecord.of(b"/a", b"/", extractor="own")
         found = [
             it.programs for it in (own, own._replace(notes=b"[]"), own._replace(extractor="exiftool"), own._replace(blocks=tuple(blocks)))
         ]

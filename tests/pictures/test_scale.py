@@ -12,7 +12,7 @@ from studio import WithPictures, needs, read, run, write
 
 from exifnorm_pictures.catalogue.store import Catalogue
 from exifnorm_pictures.model.found import EXIF
-from exifnorm_pictures.model.records import Block, Picture, Stamp
+from exifnorm_pictures.model.records import BlockRecord, PictureRecord, Stamp
 
 EXV = b"\xff\x01Exiv2\xff\xd9"  # exiv2's own format, which has no reader here and goes to ExifTool
 GROWTH = 8  # MB by which ten times as many pictures may need more: SQLite's caches (2 MB each) and Python's own memory, no list of all
@@ -98,8 +98,8 @@ class Scale(WithPictures):
     def catalogue(self, name, count, says="n / 20", folder="one", mark=0, named="n"):
         """A catalogue with this many pictures, each with a number as its meaning; all is SQL over the number n of a picture."""
         with Catalogue(self.path(name), make=True) as made_:
-            block = Block(EXIF, "Exif", "APP1 at 2", "own", "accepted", "0" * 64, None, None, 100, "0" * 64)
-            one = Picture.of(b"/archive", b"/archive", Stamp(1000, 0, 0, 0), "JPEG", "own", blocks=(block,))
+            block = BlockRecord(EXIF, "Exif", "APP1 at 2", "own", "accepted", "0" * 64, None, None, 100, "0" * 64)
+            one = PictureRecord.of(b"/archive", b"/archive", Stamp(1000, 0, 0, 0), "JPEG", "own", blocks=(block,))
             made_.put(made_.begin_run("2000-01-01T00:00:00Z"), [one])
             many_rows(made_.base, count, says, folder, mark, named)
         return name

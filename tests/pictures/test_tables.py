@@ -26,7 +26,7 @@ from exifnorm_pictures.fields.listing import numbers_text
 from exifnorm_pictures.fields.packing import packed
 from exifnorm_pictures.files.session import Session
 from exifnorm_pictures.model.found import EXIF, IPTC, NAMES, XMP, NotRead
-from exifnorm_pictures.model.records import PICTURES, Block, Picture, Stamp
+from exifnorm_pictures.model.records import PICTURES, BlockRecord, PictureRecord, Stamp
 from exifnorm_pictures.model.results import Result
 from exifnorm_pictures.report import contents, lists
 from exifnorm_pictures.report.changes import Changes
@@ -44,8 +44,8 @@ def block_of(kind, text):
     """A block that means a text; one that begins with ! is refused, and its bytes are the text."""
     fields = packed([Field("main", "010f", "ASCII", len(text), text.encode())]).octets
     if text.startswith("!"):
-        return Block(kind, NAMES[kind], "somewhere", "own", "refused", None, text[1:], 7, 100, digest(text))
-    return Block(kind, NAMES[kind], "somewhere", "own", "accepted", digest(text), None, None, 100, digest(text), fields=fields)
+        return BlockRecord(kind, NAMES[kind], "somewhere", "own", "refused", None, text[1:], 7, 100, digest(text))
+    return BlockRecord(kind, NAMES[kind], "somewhere", "own", "accepted", digest(text), None, None, 100, digest(text), fields=fields)
 
 
 def written_since(it):
@@ -59,7 +59,7 @@ def picture(name, blocks=BASE, parts=(), number=0, problem=None, root="/a", file
         raise ValueError(root)
     path = os.fsencode(f"{root.rstrip('/')}/{name}")
     number = number or int(digest(name)[:8], 16)
-    return Picture.of(
+    return PictureRecord.of(
         path,
         os.fsencode(root),
         Stamp(number, number, number, number),
@@ -75,7 +75,7 @@ def picture(name, blocks=BASE, parts=(), number=0, problem=None, root="/a", file
 
 def with_blocks(it, blocks):
     """A picture in the same file with other blocks, and without a problem."""
-    return Picture.of(it.path, it.root, it.stamp, it.type, it.extractor, None, it.detail, tuple(blocks), it.unread, file=it.file)
+    return PictureRecord.of(it.path, it.root, it.stamp, it.type, it.extractor, None, it.detail, tuple(blocks), it.unread, file=it.file)
 
 
 class Tables(WithPictures):
@@ -345,8 +345,8 @@ class Details(WithPictures):
         number = len(os.listdir(self.folder))
         sides = []
         for name, blocks in (("before", before), ("after", after)):
-            it = blocks if isinstance(blocks, Picture) else with_blocks(picture("p", number=1), blocks)
-            by = "own" if isinstance(blocks, Picture) or all(one.extractor == "own" for one in it.blocks) else "exiftool"
+            it = blocks if isinstance(blocks, PictureRecord) else with_blocks(picture("p", number=1), blocks)
+            by = "own" if isinstance(blocks, PictureRecord) or all(one.extractor == "own" for one in it.blocks) else "exiftool"
             sides.append(self.catalogue(f"{name}{number}", (it if name == "before" else written_since(it))._replace(extractor=by)))
         (found,) = changed.changed(*sides, Counter(), every=True)
         return (
@@ -538,7 +538,7 @@ class File(WithPictures):
         marks = {"size": 1, "modified": 2, "changed": 3, "inode": 4, "device": 5}
         about = {"path": b"/a/b", "root": b"/a", "type": "JPEG", "extractor": "own", "problem": "TooSlow", "detail": "why"}
         more = {"file": "file", "coded_picture": "coded", "beside": "icc", "damage": "cut", "sha256": "whole", "sidecars": "beside"}
-        record = Picture.of(**about, **more, stamp=Stamp(**marks))._replace(**compared)
+        record = PictureRecord.of(**about, **more, stamp=Stamp(**marks))._replace(**compared)
         with Catalogue(self.path("c"), make=True) as made:
             run = made.begin_run("2000-01-01T00:00:00Z")
             made.put(run, [record])

@@ -23,7 +23,7 @@ from exifnorm_pictures.judge import judge
 from exifnorm_pictures.model import found as found_
 from exifnorm_pictures.model.found import EXIF, NotRead
 from exifnorm_pictures.model.problems import TEXTS
-from exifnorm_pictures.model.records import Block, Damaged, Picture, Stamp, block_of_row
+from exifnorm_pictures.model.records import BlockRecord, Damaged, PictureRecord, Stamp, block_of_row
 from exifnorm_pictures.scan import batches, index
 
 # The columns of each table that are read, and a value of another type in SQL for each type of a column, as SQLite keeps it there.
@@ -36,10 +36,10 @@ class RowsOfCatalogues(WithPictures):
     def catalogue(self, *names, name="c"):
         made = Catalogue(self.path(name), make=True)
         self.addCleanup(made.close)
-        block = Block(EXIF, "Exif", "somewhere", "own", "refused", None, "Overlap", 34, 100, "0" * 64)
+        block = BlockRecord(EXIF, "Exif", "somewhere", "own", "refused", None, "Overlap", 34, 100, "0" * 64)
         made.put(
             made.begin_run("2000-01-01T00:00:00Z"),
-            [Picture.of(it, b"/", Stamp(1, 2, 3, 4), "JPEG", blocks=(block,), unread=(NotRead("a part", "1" * 64),)) for it in names],
+            [PictureRecord.of(it, b"/", Stamp(1, 2, 3, 4), "JPEG", blocks=(block,), unread=(NotRead("a part", "1" * 64),)) for it in names],
         )
         return made
 
@@ -143,7 +143,7 @@ class SingleBlocks(unittest.TestCase):
             ("too long", "NormalTooLong", None, "NormalTooLong", "refused: NormalTooLong"),
             ("failed", "OutOfMemory", None, "OutOfMemory", "failed: OutOfMemory"),
         ):
-            it = Block(EXIF, "Exif", "somewhere", "own", status, None, cause, place, 9, "0" * 64)
+            it = BlockRecord(EXIF, "Exif", "somewhere", "own", status, None, cause, place, 9, "0" * 64)
             self.assertEqual((it.refusal, it.line), (refusal, line))
 
     def test_blocks_of_a_kind(self):

@@ -8,7 +8,7 @@ from typing import Iterator
 
 from ..files import opening
 from ..model.errors import WrongUse
-from ..model.records import Picture
+from ..model.records import PictureRecord
 from .store import Catalogue
 
 MANIFEST = "manifest-sha256.txt"
@@ -29,7 +29,7 @@ def fill(catalogue: Catalogue, bag: str) -> None:
     catalogue.put(run, _files(os.fsencode(os.path.abspath(bag)), os.path.join(bag, MANIFEST)))
 
 
-def _files(top: bytes, manifest: str) -> Iterator[Picture]:
+def _files(top: bytes, manifest: str) -> Iterator[PictureRecord]:
     """The files of a manifest: each lies below the folder of the payload."""
     if not os.path.lexists(manifest):
         raise NoBag(f"{manifest} isn't there: a bag is verified by its manifest of SHA-256")
@@ -44,4 +44,4 @@ def _files(top: bytes, manifest: str) -> Iterator[Picture]:
             path = os.path.normpath(os.path.join(top, name))
             if not match or not name.startswith(PAYLOAD) or not path.startswith(root + b"/"):
                 raise NoBag(f"{manifest}: line {number} is no SHA-256 of a file below data/")
-            yield Picture.of(path, root, sha256=match[1].decode().lower())
+            yield PictureRecord.of(path, root, sha256=match[1].decode().lower())

@@ -11,7 +11,7 @@ from contextlib import suppress
 from typing import Callable, Iterator, List, Tuple
 
 from ..fields.block_fields import with_fields
-from ..model.records import Picture
+from ..model.records import PictureRecord
 from .label_texts import rows_of
 from .store import Catalogue, NoCatalogue, texts_table
 
@@ -82,7 +82,7 @@ def _add(catalogue: Catalogue, table: str, after: int) -> List[int]:
 
 def _rows(catalogue: Catalogue, number: int) -> Iterator[Tuple[object, ...]]:
     """The texts of a picture as rows."""
-    picture = Picture(number)
+    picture = PictureRecord(number)
     blocks = with_fields(catalogue.blocks_of(picture))
     reading = None
     if any(block.note is not None for block, _ in blocks):

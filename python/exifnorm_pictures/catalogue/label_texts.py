@@ -10,7 +10,7 @@ from ..fields.labels import POSITION, PRIVATE, decoded
 from ..fields.field import Field
 from ..fields.listing import LONGEST_TEXT, is_rest
 from ..fields.places import position_of
-from ..model.records import Block
+from ..model.records import BlockRecord
 from ..model.xmp_values import Long, texts_in
 from .store import HEAD
 from .texts import PictureTexts, texts_of
@@ -40,7 +40,7 @@ MORE = KeptText("", "", "", None)  # in place of texts that aren't kept
 _MOST_CHARACTERS = 1 << 20  # of the texts of a picture
 
 
-def rows_of(blocks: Sequence[Tuple[Block, List[Field]]], maker_notes: Mapping[str, str] = {}) -> Tuple[KeptText, ...]:
+def rows_of(blocks: Sequence[Tuple[BlockRecord, List[Field]]], maker_notes: Mapping[str, str] = {}) -> Tuple[KeptText, ...]:
     """The texts of a picture by its blocks, each with its fields, and by what ExifTool reads of its MakerNotes: a text that several fields
     have once.
 

@@ -22,7 +22,7 @@ from ..model.columns import Damaged
 from ..model.errors import Failure
 from ..model.found import NotRead
 from ..model.problems import GONE, NO_BYTES
-from ..model.records import BLOCKS, PICTURES, Block, Picture, Stamp, block_of_row, has_short, not_read_of_row, picture_of_row
+from ..model.records import BLOCKS, PICTURES, BlockRecord, PictureRecord, Stamp, block_of_row, has_short, not_read_of_row, picture_of_row
 
 APPLICATION = 0x45584E50  # 'EXNP', which distinguishes a catalogue from other SQLite files
 VERSION = 6
@@ -381,7 +381,7 @@ class Catalogue:
                     self.base.execute("ROLLBACK")
                 raise
 
-    def put(self, run: int, entries: Iterable[Picture], files: Sequence[str] = ()) -> None:
+    def put(self, run: int, entries: Iterable[PictureRecord], files: Sequence[str] = ()) -> None:
         """Keeps some pictures, and those of `files`, which `make_rows` began, in one transaction; the last one with a path counts."""
         with contextlib.ExitStack() as attached:
             names = [attached.enter_context(self.attached(name, f"batch{number}")) for number, name in enumerate(files)]
@@ -434,7 +434,7 @@ class Catalogue:
             raise Damaged(f"{number} is no number of a row")
         return number
 
-    def _is_kept(self, run: int, picture: Picture) -> bool:
+    def _is_kept(self, run: int, picture: PictureRecord) -> bool:
         """Whether a picture that can't be read now was known before. Its earlier results are kept."""
         if picture.problem in NO_BYTES:
             words = (picture.problem, picture.detail, run, picture.path)
@@ -500,17 +500,17 @@ class Catalogue:
         """How many pictures are below a folder, without those that are gone."""
         return sum(problem not in GONE for _, _, problem in self.below(folder))
 
-    def pictures(self, only: Optional[str] = None) -> Iterator[Picture]:
+    def pictures(self, only: Optional[str] = None) -> Iterator[PictureRecord]:
         """Each picture, by path; `only` is a table of paths, as `choose` makes it."""
         where = f"WHERE path IN {only}" if only else ""
         yield from self.rows(f"SELECT {PICTURE_COLUMNS} FROM pictures {where} ORDER BY path", (), picture_of_row)
 
-    def not_read_of(self, picture: Picture) -> List[NotRead]:
+    def not_read_of(self, picture: PictureRecord) -> List[NotRead]:
         """The parts of a picture that were not read."""
         query = "SELECT what, digest FROM not_read WHERE picture = ? ORDER BY number"
         return list(self.rows(query, (picture.id,), _bounded(not_read_of_row)))
 
-    def blocks_of(self, picture: Picture) -> List[Block]:
+    def blocks_of(self, picture: PictureRecord) -> List[BlockRecord]:
         """The blocks of a picture."""
         query = f"SELECT {BLOCK_COLUMNS} FROM blocks WHERE picture = ? ORDER BY number"
         return list(self.rows(query, (picture.id,), _bounded(block_of_row)))
@@ -544,7 +544,7 @@ class Catalogue:
         with self.transaction():
             self.base.executemany("UPDATE pictures SET device = ? WHERE id = ?", devices)
 
-    def maker_notes(self, picture: Picture, unpack: Callable[[bytes], Made]) -> Optional[Made]:
+    def maker_notes(self, picture: PictureRecord, unpack: Callable[[bytes], Made]) -> Optional[Made]:
         """The result of `unpack` for what ExifTool read of a picture's MakerNotes, if it was asked."""
         return next(self.rows("SELECT readings FROM maker_notes WHERE picture = ?", (picture.id,), lambda row: unpack(row[0])), None)
 
@@ -585,7 +585,7 @@ def make_rows(base: sqlite3.Connection) -> None:
         base.execute(statement)
 
 
-def put_rows(base: sqlite3.Connection, run: int, first: int, entries: Iterable[Picture]) -> None:
+def put_rows(base: sqlite3.Connection, run: int, first: int, entries: Iterable[PictureRecord]) -> None:
     """Adds rows for some pictures, which get the numbers from `first` on."""
     numbered = list(enumerate(entries, first))
     base.executemany(_PUT_PICTURE, [(number, *it[1 : PICTURES.width], run) for number, it in numbered])

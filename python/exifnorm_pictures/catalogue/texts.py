@@ -7,7 +7,7 @@ from typing import List, NamedTuple, Sequence, Set, Tuple
 from ..fields.labels import STANDARDS, LABEL_WORDS, LabelText, camera_of, not_kept, of_block, with_own
 from ..fields.field import Field
 from ..model.found import NAMES
-from ..model.records import Block
+from ..model.records import BlockRecord
 
 
 class PictureTexts(NamedTuple):
@@ -17,7 +17,7 @@ class PictureTexts(NamedTuple):
     missing: Set[str]
 
 
-def texts_of(blocks: Sequence[Tuple[Block, List[Field]]], wanted: Sequence[str] = LABEL_WORDS) -> PictureTexts:
+def texts_of(blocks: Sequence[Tuple[BlockRecord, List[Field]]], wanted: Sequence[str] = LABEL_WORDS) -> PictureTexts:
     """The texts of a picture by its blocks, each with its fields."""
     texts: List[LabelText] = []
     missing: Set[str] = set()

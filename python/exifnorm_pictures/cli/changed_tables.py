@@ -7,7 +7,7 @@ from typing import TYPE_CHECKING, Iterable, Optional, Sequence, Tuple
 
 from ..comparison.changed import Compared
 from ..comparison.coded import Coded
-from ..comparison.differing import Difference, exact_side
+from ..comparison.differing import FieldDifference, exact_side
 from ..comparison.wording import plain_sides
 from ..fields.choosing import Choice
 from ..fields.left_out import lines, members_of
@@ -82,7 +82,7 @@ def _repair_members(name: str, before: Sequence[Step], after: Sequence[Step]) ->
     return {"name": name, "before": [one._asdict() for one in before], "after": [one._asdict() for one in after]}
 
 
-def field_members(difference: Difference) -> Members:
+def field_members(difference: FieldDifference) -> Members:
     """A field that differs, as an object."""
     plain = plain_sides(difference)
     sides = {"before": _side_members(plain[0], difference.before), "after": _side_members(plain[1], difference.after)}

@@ -16,7 +16,7 @@ from ..fields.choosing import Choice
 from ..fields.left_out import lines, members_of
 from ..fields.typed import together
 from ..model.problems import NO_BYTES
-from ..model.records import Picture
+from ..model.records import PictureRecord
 from ..model.results import Result
 from ..model.texts import Members, escaped, shown_path
 from ..scan.batches import How
@@ -54,7 +54,7 @@ def run(arguments: argparse.Namespace) -> int:
     return _status(comparison)
 
 
-def _choice(arguments: argparse.Namespace, *records: Picture) -> Choice:
+def _choice(arguments: argparse.Namespace, *records: PictureRecord) -> Choice:
     """The fields that count. Raises `UnknownField` for a name that is no field's, and that neither picture has."""
     choice = choice_of(arguments)
     for block in (block for record in records for block in record.blocks) if choice else ():

@@ -9,7 +9,7 @@ from typing import Callable, Iterator, List, Tuple
 from ..extract.named import blocks_of_named
 from ..judge.reading import Reading
 from ..model.found import FoundBlock
-from ..model.records import Block
+from ..model.records import BlockRecord
 from ..model.texts import Members, escaped, path_members, shown_path
 from .exit_codes import SUCCESS, UNKNOWN
 from .names import each_name, is_list
@@ -18,7 +18,7 @@ from .output import block_members, output
 
 
 Described = Tuple[List[str], Members]
-Describe = Callable[[bytes, FoundBlock, Block], Described]  # of a picture by its name
+Describe = Callable[[bytes, FoundBlock, BlockRecord], Described]  # of a picture by its name
 
 
 def status_of_reading(reading: Reading) -> int:
@@ -83,5 +83,5 @@ def _of_folder(command: str, name: bytes) -> str:
     return f"a folder: {command} takes pictures, such as {files}; captions, conflicts and index take folders"
 
 
-def _refused(block: Block) -> Described:
+def _refused(block: BlockRecord) -> Described:
     return [f"{block.name}: {block.line}"], block_members(block)

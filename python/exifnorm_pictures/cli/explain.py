@@ -13,7 +13,7 @@ from ..files.session import Session
 from ..model import steps
 from ..model.budgets import TooMuch
 from ..model.found import EXIF, XMP, FoundBlock
-from ..model.records import Block
+from ..model.records import BlockRecord
 from ..model.texts import Members
 from ..model.sides import Status
 from ..refusals import damage, explain, mend
@@ -25,7 +25,7 @@ def run(arguments: argparse.Namespace) -> int:
     """Explains refusals, and tries whether `mend` helps."""
     tried = functools.lru_cache(maxsize=1)(functools.partial(_tried, arguments.session))
 
-    def describe(name: bytes, at: FoundBlock, block: Block) -> Described:
+    def describe(name: bytes, at: FoundBlock, block: BlockRecord) -> Described:
         line = f"{block.name}: {'ok' if block.is_accepted else block.line}"
         if block.is_accepted:
             return [line], block_members(block)
@@ -58,7 +58,7 @@ def _members(tried: Optional[mend.Mended]) -> Optional[Members]:
     return None if tried is None else {"step": tried.remedy, "lost": tried.lost, "gained": tried.gained}
 
 
-def _repair(block: Block) -> List[str]:
+def _repair(block: BlockRecord) -> List[str]:
     """The repair in memory of a refused Exif block, and what it loses."""
     if not block.repair:
         return ["  Repair in memory: none is known"] if block.status == Status.REFUSED and block.kind == EXIF else []

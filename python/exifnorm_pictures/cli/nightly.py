@@ -19,7 +19,7 @@ from ..comparison.newly_broken import newly_broken, newly_unread
 from ..fields.rules import Rule
 from ..files import signals
 from ..model.problems import NOT_READABLE
-from ..model.records import Picture
+from ..model.records import PictureRecord
 from ..model.texts import escaped, path_members, shown_path
 from ..scan.excluded import Excluded
 from ..scan.index import IndexOptions, index
@@ -42,7 +42,7 @@ class Night:
         self.arguments, self.nights, self.folders, self.rules = arguments, nights, folders, rules
         self.is_first = nights.is_first
         self.excluded = Excluded(arguments.exclude)
-        self.closed: List[Picture] = []  # folders that can't be read
+        self.closed: List[PictureRecord] = []  # folders that can't be read
         self.since = ""
         self.pictures = self.with_news = 0
         self.news: List[News] = []
@@ -67,7 +67,7 @@ class Night:
             how = how_of(self.arguments, session.room)
             index(IndexOptions(self.folders, quiet=quiet, how=how, excluded=self.excluded, lines=self._note, own=own), tonight)
 
-    def _note(self, picture: Picture) -> List[str]:
+    def _note(self, picture: PictureRecord) -> List[str]:
         self.closed.append(picture)
         return []
 

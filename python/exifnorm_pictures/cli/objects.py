@@ -5,7 +5,7 @@ from __future__ import annotations
 import json
 from typing import List, Optional
 
-from ..model.records import Block, Picture
+from ..model.records import BlockRecord, PictureRecord
 from ..model.texts import Members, path_members
 
 # The version of a command's objects. It grows if a key is renamed or removed, or gets another meaning; a new key alone doesn't count.
@@ -42,13 +42,13 @@ def picture_object(path: bytes, problem: Optional[str], detail: str) -> Members:
     return {**path_members(path), "problem": problem or None, "detail": detail or None}
 
 
-def unread_members(picture: Picture) -> Members:
+def unread_members(picture: PictureRecord) -> Members:
     """What was not read of a picture that was looked at just now, and what isn't known of a damaged one."""
     parts = [one.what for one in picture.unread]
     return {"not_read": parts, "damage": picture.damage or None, "not_known": picture.not_known}
 
 
-def block_object(block: Block) -> Members:
+def block_object(block: BlockRecord) -> Members:
     """A block."""
     return {
         "kind": block.kind,
@@ -61,7 +61,7 @@ def block_object(block: Block) -> Members:
     }
 
 
-def record_lines(picture: Picture) -> List[str]:
+def record_lines(picture: PictureRecord) -> List[str]:
     """The line for a picture that `index` looked at."""
     about = {**picture_object(picture.path, picture.problem, picture.detail), "type": picture.type or None}
     blocks = [block_object(one) for one in picture.blocks]

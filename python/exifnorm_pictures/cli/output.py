@@ -11,7 +11,7 @@ from typing import TYPE_CHECKING, List, Optional, Sequence
 
 from ..model.found import damage
 from ..model.problems import Problem
-from ..model.records import Block, Picture
+from ..model.records import BlockRecord, PictureRecord
 from ..model.steps import loses, words
 from ..model.texts import Members, safe, shown_path
 from .columns import NARROWEST, folded
@@ -53,7 +53,7 @@ def table_of(arguments: argparse.Namespace, heads: Sequence[str]) -> Optional[Ta
 DAMAGED = {"File is empty": "the file is empty", "Entire file is binary zeros": "the file has only zeros"}
 
 
-def record_lines(picture: Picture) -> List[str]:
+def record_lines(picture: PictureRecord) -> List[str]:
     """Lines for a picture with a problem: the problem, the refusal of a block, or what is left of a damaged file. None if the
     problem was there at the last run, which the counts say."""
     if picture.is_known or (picture.problem is None and not picture.unread and all(one.is_accepted for one in picture.blocks)):
@@ -69,12 +69,12 @@ def record_lines(picture: Picture) -> List[str]:
     return lines
 
 
-def closed_folder(picture: Picture) -> List[str]:
+def closed_folder(picture: PictureRecord) -> List[str]:
     """A line for a folder that can't be read, which has no row in a catalogue and so no folder above it."""
     return [] if picture.root else [f"the folder {shown_path(picture.path)} can't be read: {picture.detail}"]
 
 
-def refused_line(block: Block) -> str:
+def refused_line(block: BlockRecord) -> str:
     """A block that isn't accepted, in a line."""
     if block.repair:
         lost = " and ".join(loses(block.steps))
@@ -91,7 +91,7 @@ def kind_of_part(what: str) -> str:
     return re.sub(r" of [\d,]+ bytes| \(.*?\)|^[\d,]+ (?=byte)", "", what).replace("byte that", "bytes that")
 
 
-def block_members(block: Block) -> Members:
+def block_members(block: BlockRecord) -> Members:
     """A block as a JSON object."""
     known = {
         "kind": block.kind,

@@ -20,7 +20,7 @@ from ..files import signals
 from ..model.results import Result
 from ..model.errors import WrongUse
 from ..model.found import KINDS
-from ..model.records import Picture
+from ..model.records import PictureRecord
 from ..model.texts import Members, path_members, shown_path
 from .choice import choice_of, listings_of, note_absent, refuse_unknown
 from .exit_codes import UNKNOWN, status_of_results
@@ -218,7 +218,7 @@ def _add_notes(table: Table, groups: Groups, choice: Choice) -> None:
         signals.say(f"exifnorm-pictures: note: {note}")
 
 
-def _note(group: Group, picture: Picture, keep: Keep) -> str:
+def _note(group: Group, picture: PictureRecord, keep: Keep) -> str:
     others = group.others.get(picture.id, 0)
     more = [f"and {others:,} that {'are' if others > 1 else 'is'} in an earlier group with it"] if others else []
     more += [keep.note or KEEP_ALL * group.rests_on_readings]
@@ -261,6 +261,6 @@ def _print_group(number: int, group: Group, keeps: Keeps) -> None:
     print("]}")
 
 
-def _picture_members(group: Group, picture: Picture, keep: Keep) -> Members:
+def _picture_members(group: Group, picture: PictureRecord, keep: Keep) -> Members:
     known = {"keep": keep.keep, "keep_note": keep.note or None, "reason": group.reasons.get(picture.id) or None}
     return {**path_members(picture.path), **known, "others": group.others.get(picture.id, 0)}

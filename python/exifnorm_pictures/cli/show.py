@@ -13,7 +13,7 @@ from ..judge.reading import Reading
 from ..model import steps
 from ..model.budgets import SHOWN_CHARACTERS, SHOWN_FIELDS
 from ..model.found import PROGRAMS, FoundBlock
-from ..model.records import Block
+from ..model.records import BlockRecord
 from ..model.texts import Members, escaped
 from .columns import width
 from .each_block import Described, each_block, each_picture, status_of_reading
@@ -48,7 +48,7 @@ class _Shown:
         self._fields, self._characters = SHOWN_FIELDS, SHOWN_CHARACTERS
         self.has_more = False  # whether a field of the last block is left out
 
-    def of(self, block: Block) -> List[Field]:
+    def of(self, block: BlockRecord) -> List[Field]:
         """The fields of a block, or the first ones."""
         if self._is_full:  # then no further fields are made
             self.has_more = bool(block.is_accepted or block.repair)
@@ -80,7 +80,7 @@ class _Lines:
     def __init__(self, is_exact: bool) -> None:
         self._is_exact, self._shown = is_exact, _Shown()
 
-    def of(self, _: bytes, __: FoundBlock, block: Block) -> Described:
+    def of(self, _: bytes, __: FoundBlock, block: BlockRecord) -> Described:
         """The lines of a block."""
         by = f", extracted by {PROGRAMS[block.extractor]}" if block.extractor in PROGRAMS else ""
         fields = self._shown.of(block)
@@ -97,7 +97,7 @@ def _plain_line(field: Field) -> str:
 _COLUMN = 30  # characters of a name, of which few have more
 
 
-def _repaired(block: Block) -> List[str]:
+def _repaired(block: BlockRecord) -> List[str]:
     """The lines before fields that are read after a repair."""
     lost = steps.loses(block.steps)
     text = f"  read after repair in memory ({steps.words(block.steps)}), which is tested, and not proved; the file is as it was"
@@ -149,7 +149,7 @@ def _members(reading: Reading) -> Members:
     return {**about, "blocks": blocks, "not_read": reading.not_read, **damage_members(reading)}
 
 
-def _block_members(block: Block, shown: _Shown) -> Members:
+def _block_members(block: BlockRecord, shown: _Shown) -> Members:
     repair = [step._asdict() for step in block.steps]
     fields = list(map(_field_members, shown.of(block)))
     return {"extractor": block.extractor, "repair": repair, "fields": fields, "has_more_fields": shown.has_more}

@@ -21,13 +21,13 @@ from ..model import steps
 from ..model.budgets import WAITING_BYTES
 from ..model.found import EXIF, NAMES, OWN, PROGRAMS, cut
 from ..model.problems import Problem
-from ..model.records import Block, Picture, is_same_file
+from ..model.records import BlockRecord, PictureRecord, is_same_file
 from ..model.results import Result
 from ..model.sides import REACHED
 from ..model.steps import Step
 from ..model.verdicts import Verdict, left_open, result_of, sentence_of_verdicts, verdicts
 from .coded import Coded, coded_result as result_of_coded
-from .differing import Difference, differences
+from .differing import FieldDifference, differences
 from .missing import Missing
 from .pairs import AFTER, BEFORE, Pair, Pairs
 
@@ -42,7 +42,7 @@ class Compared:
     name: bytes
     result: Result
     note: str = ""  # the kinds that were compared, and the result
-    changes: List[Difference] = field(default_factory=list)
+    changes: List[FieldDifference] = field(default_factory=list)
     verdicts: List[Verdict] = field(default_factory=list)
     moved_to: Optional[bytes] = None
     maker_note: "Optional[List[maker_notes.NoteDifference]]" = None  # the values that ExifTool reads otherwise, if it was asked
@@ -144,7 +144,7 @@ def _compared(pair: Pair, pairs: Sides, session: Optional[Session], choice: Choi
     return comparison
 
 
-def _unread(name: bytes, picture: Picture, other: Picture) -> Compared:
+def _unread(name: bytes, picture: PictureRecord, other: PictureRecord) -> Compared:
     """Two files of which one or both were not read: their bytes are compared, if they are known."""
     if picture.problem and picture.problem == other.problem:
         is_picture = picture.problem != Problem.NO_PICTURE
@@ -160,7 +160,7 @@ def _unread(name: bytes, picture: Picture, other: Picture) -> Compared:
 
 
 def _judge_maker_notes(
-    comparison: Compared, old: Picture, new: Picture, pairs: Sides, parts: List[str], session: Optional[Session]
+    comparison: Compared, old: PictureRecord, new: PictureRecord, pairs: Sides, parts: List[str], session: Optional[Session]
 ) -> List[str]:
     """Asks ExifTool where the bytes or the place of a MakerNote differ, or the bytes that only it can reach. Returns the parts that stay open."""
     lines = [change for change in comparison.changes if change[:2] == MAKER_NOTE and change.before and change.after]
@@ -213,7 +213,7 @@ def _judge_maker_notes(
 
 
 def _in_doubt(
-    comparison: Compared, lines: List[Difference], moved: bool, notes: "maker_notes.ComparedNotes", parts: List[str]
+    comparison: Compared, lines: List[FieldDifference], moved: bool, notes: "maker_notes.ComparedNotes", parts: List[str]
 ) -> List[str]:
     """A MakerNote of which no value differs, though that may mean nothing. Returns the parts that stay open."""
     has_moved = "has moved, " * moved
@@ -226,11 +226,11 @@ def _in_doubt(
     return parts
 
 
-def _read_otherwise(comparison: Compared, lines: List[Difference], moved: bool) -> None:
+def _read_otherwise(comparison: Compared, lines: List[FieldDifference], moved: bool) -> None:
     """One change for all values of MakerNotes that ExifTool reads otherwise."""
     count = len(comparison.maker_note or [])
     note = f"{'has moved, and ' if moved else ''}now reads otherwise: {count} value{'s' * (count > 1)}"
-    change = lines[0] if lines else Difference(*MAKER_NOTE, (), ())
+    change = lines[0] if lines else FieldDifference(*MAKER_NOTE, (), ())
     at = comparison.changes.index(change) if lines else len(comparison.changes)
     comparison.changes[at : at + bool(lines)] = [change._replace(note=note)]
     if not any(verdict.result in (Result.DIFFERENT, Result.DIFFERENT_REPAIRED) for verdict in comparison.verdicts):
@@ -253,14 +253,14 @@ def _named_parts(parts: Sequence[str]) -> Tuple[str, ...]:
     return tuple(it for it in parts if not cut([it]))
 
 
-def _extracted(blocks: Iterable[Block]) -> str:
+def _extracted(blocks: Iterable[BlockRecord]) -> str:
     """Which programs extracted blocks that no reader here reads."""
     used = {it.extractor for it in blocks}
     return "".join(f"; extracted by {PROGRAMS[it]}" for it in PROGRAMS if it in used)
 
 
 def _add_details(
-    comparison: Compared, blocks: List[Sequence[Block]], pairs: Sides, parts: List[str], choice: Choice, missing: Missing
+    comparison: Compared, blocks: List[Sequence[BlockRecord]], pairs: Sides, parts: List[str], choice: Choice, missing: Missing
 ) -> None:
     """Adds the fields that differ, and the causes of refusals."""
     left = _Left(choice)
@@ -301,7 +301,7 @@ def _add_details(
         comparison.result = Result.ONLY_NUMBERS
 
 
-def _known(differences: List[Difference], old: Optional[Block], new: Optional[Block]) -> Tuple[List[Difference], str]:
+def _known(differences: List[FieldDifference], old: Optional[BlockRecord], new: Optional[BlockRecord]) -> Tuple[List[FieldDifference], str]:
     """The differences without those fields that one block has, and that the repair of the other one may have lost; and a note about these."""
     lost = [steps.lost_fields(block.steps) if block else frozenset() for block in (old, new)]
     unknown = [it for it in differences if (not it.before and _is_of(it, lost[0])) or (not it.after and _is_of(it, lost[1]))]
@@ -312,7 +312,7 @@ def _known(differences: List[Difference], old: Optional[Block], new: Optional[Bl
     return [it for it in differences if it not in unknown], f"; {many}: the repair of the other one may have lost them"
 
 
-def _is_of(difference: Difference, lost: FrozenSet[str]) -> bool:
+def _is_of(difference: FieldDifference, lost: FrozenSet[str]) -> bool:
     return difference.directory in lost or f"{difference.directory} {difference.tag}" in lost
 
 
@@ -326,7 +326,7 @@ class _Left:
         self.by_numbers: Set[str] = set()  # kinds of which equal numbers count as equal
         self.rest: Set[str] = set()  # kinds with a difference that counts, or that no field shows
 
-    def without(self, kind: str, differences: List[Difference], is_equal: bool) -> List[Difference]:
+    def without(self, kind: str, differences: List[FieldDifference], is_equal: bool) -> List[FieldDifference]:
         """The differences of a block that count. If there is none at all, and the blocks aren't equal, something else differs."""
         kept = [it for it in differences if self.choice.counts(it.directory, it.tag, it.block)]
         if len(kept) < len(differences):
@@ -352,7 +352,7 @@ class _Left:
             comparison.result = result_of(comparison.verdicts, parts)
 
 
-def _leave_out_kinds(comparison: Compared, picture: Picture, other: Picture, parts: List[str], choice: Choice) -> List[str]:
+def _leave_out_kinds(comparison: Compared, picture: PictureRecord, other: PictureRecord, parts: List[str], choice: Choice) -> List[str]:
     """Leaves out whole kinds of blocks, and what only MakerNotes lead to. Returns the parts that stay open."""
     if not choice:
         return parts
@@ -376,7 +376,7 @@ def _leave_out_kinds(comparison: Compared, picture: Picture, other: Picture, par
     return parts
 
 
-def _repairs_of(comparison: Compared, name: str, old: Optional[Block], new: Optional[Block]) -> str:
+def _repairs_of(comparison: Compared, name: str, old: Optional[BlockRecord], new: Optional[BlockRecord]) -> str:
     """Why a block is refused, and by which repairs its fields are read."""
     first, second = (block.steps if block else () for block in (old, new))
     if not first and not second:
@@ -393,7 +393,7 @@ def _repairs_of(comparison: Compared, name: str, old: Optional[Block], new: Opti
     return text + (f" (the repair loses {' and '.join(lost)}, so nothing is called the same by it)" if lost else "")
 
 
-def _repair_of(block: Optional[Block]) -> str:
+def _repair_of(block: Optional[BlockRecord]) -> str:
     if block is None:
         return "none"
     if not block.repair:
@@ -401,7 +401,7 @@ def _repair_of(block: Optional[Block]) -> str:
     return f"{block.status}, {block.refusal}, read after repair: {steps.words(block.steps)}"
 
 
-def _report_of(name: str, block: Optional[Block], other: Optional[Block]) -> str:
+def _report_of(name: str, block: Optional[BlockRecord], other: Optional[BlockRecord]) -> str:
     """The report on one block besides its fields: that only one side has it, or why it is refused."""
     texts = [None if it is None else it.refusal if not it.is_accepted else "accepted" for it in (block, other)]
     if block and other and block.octets == other.octets and not block.is_accepted:

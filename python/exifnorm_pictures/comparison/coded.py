@@ -5,7 +5,7 @@ from __future__ import annotations
 from collections import Counter
 from typing import NamedTuple, Optional
 
-from ..model.records import Picture
+from ..model.records import PictureRecord
 from ..model.words import Word
 
 
@@ -50,7 +50,7 @@ class CodedResult(NamedTuple):
     note: str = ""
 
 
-def coded_result(picture: Optional[Picture], other: Optional[Picture]) -> CodedResult:
+def coded_result(picture: Optional[PictureRecord], other: Optional[PictureRecord]) -> CodedResult:
     """Whether two files have the same coded picture. One that is damaged is no other picture than a whole one, and isn't the same either."""
     if picture is None or other is None:
         return CodedResult()

@@ -14,7 +14,7 @@ from ..model.xmp_values import Long
 NUMBERS = ("BYTE", "SHORT", "LONG", "WHOLE", "SSHORT", "SLONG", "RATIONAL", "SRATIONAL")
 
 
-class Difference(NamedTuple):
+class FieldDifference(NamedTuple):
     """A field that only one block has, or that has other values in the two."""
 
     directory: str
@@ -91,7 +91,7 @@ def _number(value: Any) -> object:
     return Fraction(above, below) if below else ("no number", (above > 0) - (above < 0))
 
 
-def differences(before: Sequence[Field], after: Sequence[Field], block: str = "") -> List[Difference]:
+def differences(before: Sequence[Field], after: Sequence[Field], block: str = "") -> List[FieldDifference]:
     """The fields that differ, in the order of a listing; values of a repeated DataSet are compared as one list.
 
     >>> [it.name for it in differences([Field("main", "010f", "ASCII", 2, b"a\\0")], [Field("main", "010f", "ASCII", 2, b"b\\0")])]
@@ -101,7 +101,7 @@ def differences(before: Sequence[Field], after: Sequence[Field], block: str = ""
     differ = [key for key in first.keys() | second.keys() if first.get(key) != second.get(key)]
     directories = [{where for where, _ in side} for side in (first, second)]
     return [
-        Difference(*key, tuple(first.get(key, ())), tuple(second.get(key, ())), block, _directory(key[0], directories))
+        FieldDifference(*key, tuple(first.get(key, ())), tuple(second.get(key, ())), block, _directory(key[0], directories))
         for key in sorted(differ, key=order_of)
     ]
 

@@ -8,7 +8,7 @@ from typing import Dict, Iterator, List, NamedTuple, Optional, Tuple
 
 from ..model.found import EXIF, KINDS
 from ..model.problems import Problem
-from ..model.records import Picture
+from ..model.records import PictureRecord
 from ..model.results import Result
 from ..model.words import Word
 
@@ -63,13 +63,13 @@ class Link(NamedTuple):
 class Files:
     """The files of some pictures, as they are now."""
 
-    pictures: List[Picture] = field(default_factory=list)  # different files that are there as they were looked at
+    pictures: List[PictureRecord] = field(default_factory=list)  # different files that are there as they were looked at
     links: List[Link] = field(default_factory=list)
     gone: List[bytes] = field(default_factory=list)
     changed: List[bytes] = field(default_factory=list)
-    lost: List[Picture] = field(default_factory=list)  # those that are gone or have changed, where their MakerNotes count
+    lost: List[PictureRecord] = field(default_factory=list)  # those that are gone or have changed, where their MakerNotes count
 
-    def only(self, pictures: List[Picture]) -> "Files":
+    def only(self, pictures: List[PictureRecord]) -> "Files":
         """These pictures, with their further names."""
         here = {it.path for it in pictures}
         return Files(pictures, [it for it in self.links if it.of in here], self.gone, self.changed)
@@ -92,7 +92,7 @@ class Group:
         return self.shared.basis
 
     @property
-    def members(self) -> List[Picture]:
+    def members(self) -> List[PictureRecord]:
         """The pictures that are listed."""
         return self.files.pictures
 
@@ -154,6 +154,6 @@ class Group:
         return len({it.maker_notes for it in self.members}) > 1
 
 
-def meaning_of_exif(picture: Picture) -> Optional[str]:
+def meaning_of_exif(picture: PictureRecord) -> Optional[str]:
     """The digest of what Exif means, after repair too."""
     return picture.exif_repaired if picture.exif is None else picture.exif

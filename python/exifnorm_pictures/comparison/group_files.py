@@ -6,16 +6,16 @@ import os
 from typing import Dict, Iterable, List, Optional, Sequence, Tuple
 
 from ..extract.sidecars import Folders
-from ..model.records import Picture, Stamp, is_marked_as
+from ..model.records import PictureRecord, Stamp, is_marked_as
 from .group import Files, Link
 
 
-def files_of(pictures: Iterable[Picture], look: bool, folders: Optional[Folders], keeps_lost: bool) -> Files:
+def files_of(pictures: Iterable[PictureRecord], look: bool, folders: Optional[Folders], keeps_lost: bool) -> Files:
     """The different files of some pictures that are there; the further names of each, and those that are gone or have changed. With
     `keeps_lost` the pictures of these are kept, too."""
     files = Files()
     places: Dict[object, Dict[object, int]] = {}  # of each file among the pictures, by device and inode
-    further: Dict[int, List[Picture]] = {}
+    further: Dict[int, List[PictureRecord]] = {}
     for picture in pictures:
         state, (device, inode) = _state(picture) if look else ("", (picture.device, picture.inode))
         if not state and folders and not folders.is_marked_as(picture.path, picture.sidecars):
@@ -35,27 +35,27 @@ def files_of(pictures: Iterable[Picture], look: bool, folders: Optional[Folders]
     return files
 
 
-def _add_links(files: Files, at: int, names: List[Picture], look: bool) -> None:
+def _add_links(files: Files, at: int, names: List[PictureRecord], look: bool) -> None:
     """Takes one of several names of a file for its picture, and the others for links to it."""
     first = files.pictures[at] = _real(names) if look else names[0]
     files.links += [Link.to(it.path, first.path) if look else Link(it.path, first.path) for it in names if it is not first]
 
 
-def _shrunk(picture: Picture, before: Sequence[Picture]) -> Picture:
+def _shrunk(picture: PictureRecord, before: Sequence[PictureRecord]) -> PictureRecord:
     """Drops the marks, which were needed to look at the file, and takes what is equal in the picture before it from there: a group may have
     all pictures of an archive, and is in memory."""
     picture = picture._replace(modified=None, changed=None, inode=None, device=None, sidecars="")
     for other in before:
-        picture = Picture._make(theirs if theirs == ours else ours for ours, theirs in zip(picture, other))
+        picture = PictureRecord._make(theirs if theirs == ours else ours for ours, theirs in zip(picture, other))
     return picture
 
 
-def _real(names: List[Picture]) -> Picture:
+def _real(names: List[PictureRecord]) -> PictureRecord:
     """Of several names of one file one that leads through no symbolic link, if there is one: whoever keeps it keeps the file."""
     return next((it for it in names if os.path.realpath(it.path) == it.path), names[0])
 
 
-def _state(picture: Picture) -> Tuple[str, Tuple[int, int]]:
+def _state(picture: PictureRecord) -> Tuple[str, Tuple[int, int]]:
     """`gone`, `changed`, or nothing for a file that is as it was; and the device and inode of the file."""
     try:
         now = os.stat(picture.path)

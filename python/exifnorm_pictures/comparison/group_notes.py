@@ -6,7 +6,7 @@ from dataclasses import replace
 from typing import Dict, Iterable, Iterator, List, Tuple
 
 from ..model.found import EXIF
-from ..model.records import Picture
+from ..model.records import PictureRecord
 from .group import Basis, Group, meaning_of_exif
 from .readings import NotKnown, Readings
 
@@ -22,7 +22,7 @@ def by_reading(group: Group, readings: Readings) -> Iterator[Group]:
         yield group
         return
     known = readings.of(written.values())
-    parts: Dict[Tuple[object, object], List[Picture]] = {}
+    parts: Dict[Tuple[object, object], List[PictureRecord]] = {}
     for picture in group.members:
         asked = written[_note_of(picture)]
         reading = known.get(asked.id)
@@ -40,7 +40,7 @@ def by_maker_notes(group: Group, readings: Readings) -> Iterator[Group]:
         return
     written = _written(group.members)
     known = readings.of(written.values())
-    parts: Dict[bytes, List[Picture]] = {}
+    parts: Dict[bytes, List[PictureRecord]] = {}
     for picture in group.members:
         asked = written[_note_of(picture)]
         reading = known.get(asked.id)
@@ -58,24 +58,24 @@ def by_maker_notes(group: Group, readings: Readings) -> Iterator[Group]:
         yield part
 
 
-def _part_of(group: Group, pictures: List[Picture]) -> Group:
+def _part_of(group: Group, pictures: List[PictureRecord]) -> Group:
     """A group with some of its pictures."""
     return replace(group, files=group.files.only(pictures), reasons={}, others={})
 
 
-def _written(pictures: Iterable[Picture]) -> Dict[_Note, Picture]:
+def _written(pictures: Iterable[PictureRecord]) -> Dict[_Note, PictureRecord]:
     """The first picture with each MakerNote."""
-    written: Dict[_Note, Picture] = {}
+    written: Dict[_Note, PictureRecord] = {}
     for picture in pictures:
         written.setdefault(_note_of(picture), picture)
     return written
 
 
-def _note_of(picture: Picture) -> _Note:
+def _note_of(picture: PictureRecord) -> _Note:
     """What can make a MakerNote read differently: where it is, and the bytes of the blocks."""
     return (picture.maker_notes, picture.exif_octets) if picture.maker_notes else ("", "")
 
 
-def _is_repaired(picture: Picture) -> bool:
+def _is_repaired(picture: PictureRecord) -> bool:
     """Whether the meaning of a picture is known after a repair."""
     return picture.exif is None and None not in (picture.iptc, picture.xmp)

@@ -5,7 +5,7 @@ from __future__ import annotations
 from typing import Dict, List, Sequence
 
 from ..model.found import EXIF, KINDS, NAMES, XMP, lost_kinds
-from ..model.records import Picture
+from ..model.records import PictureRecord
 from ..model.results import Result
 from ..model.verdicts import clause, with_verb, none_of
 from .group import Basis, Group
@@ -56,7 +56,7 @@ def _of_notes(group: Group) -> str:
     return f"; MakerNote {', '.join([*words, 'reads the same'])} (ExifTool)"
 
 
-def _of_metadata(pictures: Sequence[Picture]) -> str:
+def _of_metadata(pictures: Sequence[PictureRecord]) -> str:
     """What is true of the metadata of pictures that may have different ones."""
     refused = "refused or unreadable"
     known: Dict[str, List[str]] = {Result.SAME: [], Result.DIFFERENT: [], refused: [], Result.ABSENT: []}

@@ -17,7 +17,7 @@ from ..files.session import Session
 from ..model import steps
 from ..model.found import EXIF, KINDS, NAMES, each_kind
 from ..model.problems import NOT_THERE
-from ..model.records import Picture, picture_of_row
+from ..model.records import PictureRecord, picture_of_row
 from ..model.results import Result
 from .group import Basis, Group, Shared
 from .group_files import files_of
@@ -115,7 +115,7 @@ class Groups:
                 yield group
 
 
-def _found(catalogue: Catalogue, query: _Query, kinds: Tuple[str, ...], table: str) -> Iterator[Tuple[Shared, Iterator[Picture]]]:
+def _found(catalogue: Catalogue, query: _Query, kinds: Tuple[str, ...], table: str) -> Iterator[Tuple[Shared, Iterator[PictureRecord]]]:
     """What pictures in a table have in common, and these pictures, by path."""
     key = ", ".join(query.key)
     heads = f"SELECT {key} FROM {table} WHERE {query.where} GROUP BY {key} HAVING {query.having} ORDER BY count(*) DESC, min(path)"
@@ -173,7 +173,7 @@ _DIFFERENT_BUT_NOTES = "count(DISTINCT other_whole), count(DISTINCT other_listin
 
 def _take_one_of_each(group: Group) -> None:
     """Leaves in a group one picture of each earlier group, and counts the others."""
-    by_key: Dict[Tuple[object, ...], List[Picture]] = {}
+    by_key: Dict[Tuple[object, ...], List[PictureRecord]] = {}
     for picture in group.members:
         by_key.setdefault(_class_of(picture, group.shared.kinds), []).append(picture)
     group.files = group.files.only([same[0] for same in by_key.values()])
@@ -192,7 +192,7 @@ def _add_details(catalogue: Catalogue, group: Group) -> None:
             group.reasons[picture.id] = texts.setdefault(reason, reason)
 
 
-def _class_of(picture: Picture, kinds: Sequence[str]) -> Tuple[object, ...]:
+def _class_of(picture: PictureRecord, kinds: Sequence[str]) -> Tuple[object, ...]:
     """What is equal for pictures of one earlier group."""
     at = [KINDS.index(kind) for kind in kinds]
     meaning = tuple(picture.octets[number] if picture.meanings[number] is None else picture.meanings[number] for number in at)
@@ -208,7 +208,7 @@ def _result(group: Group) -> Optional[Result]:
     return Result.ONLY_MAKER_NOTE if group.has_other_notes else Result.ONLY_REACHED
 
 
-def _reason(catalogue: Catalogue, picture: Picture, basis: Basis) -> str:
+def _reason(catalogue: Catalogue, picture: PictureRecord, basis: Basis) -> str:
     """Why a picture of a group isn't simply accepted: its refusals, or its repairs."""
     query = "SELECT name, cause, repair FROM blocks WHERE picture = ? AND status != 'accepted' ORDER BY number"
     reasons = []

@@ -8,7 +8,7 @@ import contextlib
 from collections import Counter
 from typing import Dict, List, NamedTuple, Optional, Sequence, Tuple
 
-from ..model.records import Picture
+from ..model.records import PictureRecord
 from ..model.texts import shown_path
 from .group import Group
 
@@ -43,7 +43,7 @@ def keeping(group: Group, reads: bool = True) -> Dict[int, Keep]:
     members = sorted(group.members, key=lambda it: it.path)
     keys = _keys(members, reads)
     damages = {it.id: it.damage for it in members if it.damage}
-    equal: Dict[_Key, List[Picture]] = {}
+    equal: Dict[_Key, List[PictureRecord]] = {}
     for picture in members:
         if picture.id in keys:
             equal.setdefault(keys[picture.id], []).append(picture)
@@ -54,7 +54,9 @@ def keeping(group: Group, reads: bool = True) -> Dict[int, Keep]:
     return {it.id: _keep(it, keys, equal, damages, has_unknown) for it in members}
 
 
-def _keep(picture: Picture, keys: Dict[int, _Key], equal: Dict[_Key, List[Picture]], damages: Dict[int, str], has_unknown: bool) -> Keep:
+def _keep(
+    picture: PictureRecord, keys: Dict[int, _Key], equal: Dict[_Key, List[PictureRecord]], damages: Dict[int, str], has_unknown: bool
+) -> Keep:
     if picture.id in damages:
         return Keep(why=f"damaged: {damages[picture.id]}")
     if picture.id not in keys:
@@ -75,7 +77,7 @@ def _keep(picture: Picture, keys: Dict[int, _Key], equal: Dict[_Key, List[Pictur
     return Keep(True, "" if has_equal_bytes else NOT_ALL)
 
 
-def _keys(members: Sequence[Picture], reads: bool) -> Dict[int, _Key]:
+def _keys(members: Sequence[PictureRecord], reads: bool) -> Dict[int, _Key]:
     """What is known of each picture: the digest of its coded picture, or else of its file."""
     keys: Dict[int, _Key] = {}
     sizes = Counter(it.size for it in members if not it.coded_picture)
@@ -94,7 +96,7 @@ def _keys(members: Sequence[Picture], reads: bool) -> Dict[int, _Key]:
     return keys
 
 
-def _damage_of(picture: Picture) -> str:
+def _damage_of(picture: PictureRecord) -> str:
     from ..extract import coded_picture
     from ..model.budgets import Budget
 

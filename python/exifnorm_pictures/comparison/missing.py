@@ -6,17 +6,17 @@ from __future__ import annotations
 from typing import Dict, List, Optional, Sequence, Set
 
 from ..model.found import OWN, NotRead, lost_kinds
-from ..model.records import Block, Picture
+from ..model.records import BlockRecord, PictureRecord
 from ..model.results import Result
 from ..model.sides import Side, Status
 from ..model.verdicts import Verdict
-from .differing import Difference
+from .differing import FieldDifference
 
 
 class Missing:
     """What may be missing of two pictures, before and after."""
 
-    def __init__(self, pictures: Sequence[Picture] = (), unread: Sequence[Sequence[NotRead]] = (), is_alike: bool = False) -> None:
+    def __init__(self, pictures: Sequence[PictureRecord] = (), unread: Sequence[Sequence[NotRead]] = (), is_alike: bool = False) -> None:
         """By their parts that were not read; `is_alike` is whether both have the same ones."""
         self.kinds = [lost_kinds(picture.type, [it.what for it in parts]) for picture, parts in zip(pictures, unread)] or [(), ()]
         self.is_alike = is_alike
@@ -31,13 +31,15 @@ class Missing:
         is_open = [side.status == Status.ABSENT and verdict.kind in kinds for side, kinds in zip(sides, self.kinds)]
         return Verdict(verdict.kind, Result.NOT_KNOWN, all(is_open) and self.is_alike) if any(is_open) else verdict
 
-    def has(self, kind: str, *blocks: Optional[Block]) -> bool:
+    def has(self, kind: str, *blocks: Optional[BlockRecord]) -> bool:
         """Whether a block that only one picture has may be missing of the other one."""
         is_open = any(block is None and kind in kinds for block, kinds in zip(blocks, self.kinds))
         self._open.update([kind] if is_open else ())
         return is_open
 
-    def without(self, kind: str, differences: List[Difference], is_equal: bool, *blocks: Optional[Block]) -> List[Difference]:
+    def without(
+        self, kind: str, differences: List[FieldDifference], is_equal: bool, *blocks: Optional[BlockRecord]
+    ) -> List[FieldDifference]:
         """The differences of two blocks without the fields that another program didn't find in a damaged file."""
         first, second = (block is not None and block.extractor != OWN and kind in kinds for block, kinds in zip(blocks, self.kinds))
         known = [it for it in differences if not (first and not it.before) and not (second and not it.after)]

@@ -13,7 +13,7 @@ from ..fields.block_fields import with_fields
 from ..fields.labels import POSITION, fields_by_label
 from ..files.session import Session
 from ..model.problems import NOT_READABLE, Problem
-from ..model.records import Picture, picture_of_row
+from ..model.records import PictureRecord, picture_of_row
 from ..model.results import Result
 from ..model.words import Word
 from ..scan.moved import moved_together
@@ -123,9 +123,9 @@ class Between:
     def _full(self, side: int, name: bytes) -> bytes:
         return os.path.join(self._roots[side], name)
 
-    def _picture(self, side: int, name: bytes) -> Picture:
+    def _picture(self, side: int, name: bytes) -> PictureRecord:
         query = f"SELECT {PICTURE_COLUMNS} FROM pictures WHERE path = ?"
-        return next(self._sides[side].rows(query, (self._full(side, name),), picture_of_row), Picture())
+        return next(self._sides[side].rows(query, (self._full(side, name),), picture_of_row), PictureRecord())
 
     def _texts(self, side: int, name: bytes) -> Dict[str, Set[str]]:
         """The texts of a picture by label, also its position, serial numbers and owner."""

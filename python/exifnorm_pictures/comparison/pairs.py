@@ -16,7 +16,7 @@ from ..files import signals
 from ..model.columns import Damaged
 from ..model.found import NotRead
 from ..model.problems import NOT_THERE
-from ..model.records import PICTURES, Block, Picture, block_of_row, not_read_of_row, picture_of_row
+from ..model.records import PICTURES, BlockRecord, PictureRecord, block_of_row, not_read_of_row, picture_of_row
 from ..scan.moved import content_key
 from .coded import SQL, Coded
 
@@ -55,8 +55,8 @@ class Pair(NamedTuple):
     """A picture that was there before, what it is now, and where it is now if it has moved. It has both pictures if it was edited too."""
 
     name: bytes
-    old: Optional[Picture]  # None if the other one is: then no more is known than the name
-    new: Optional[Picture]
+    old: Optional[PictureRecord]  # None if the other one is: then no more is known than the name
+    new: Optional[PictureRecord]
     place: Optional[bytes]
 
 
@@ -218,25 +218,25 @@ class Pairs:
         """Whether a picture of a side is so."""
         return next(self._rows(f"SELECT 1 FROM {base}.pictures WHERE {condition} LIMIT 1", bool), False)
 
-    def blocks(self, side: int, picture: Picture) -> List[Block]:
+    def blocks(self, side: int, picture: PictureRecord) -> List[BlockRecord]:
         """A picture's blocks."""
         query = f"SELECT {BLOCK_COLUMNS} FROM {_BASES[side]}.blocks WHERE picture = ? ORDER BY number"
         return self._of(side, query, picture, block_of_row)
 
-    def fields(self, side: int, block: Optional[Block]) -> List[Field]:
+    def fields(self, side: int, block: Optional[BlockRecord]) -> List[Field]:
         """The fields of a block; none if they aren't kept, or if there is no block."""
         return self._made(side, fields_of, block) if block else []
 
-    def maker_notes(self, side: int, picture: Picture, unpack: Callable[[bytes], Made]) -> Optional[Made]:
+    def maker_notes(self, side: int, picture: PictureRecord, unpack: Callable[[bytes], Made]) -> Optional[Made]:
         """The result of `unpack` for what ExifTool read of a picture's MakerNotes, if it was asked."""
         return self.catalogues[side].maker_notes(picture, unpack)
 
-    def not_read(self, side: int, picture: Picture) -> List[NotRead]:
+    def not_read(self, side: int, picture: PictureRecord) -> List[NotRead]:
         """The parts of a picture that were not read."""
         query = f"SELECT what, digest FROM {_BASES[side]}.not_read WHERE picture = ? ORDER BY number"
         return self._of(side, query, picture, not_read_of_row)
 
-    def _of(self, side: int, query: str, picture: Picture, factory: Callable[..., Made]) -> List[Made]:
+    def _of(self, side: int, query: str, picture: PictureRecord, factory: Callable[..., Made]) -> List[Made]:
         with self.catalogues[side].guarded():
             return [factory(row) for row in self.base.execute(query, (picture.id,))]
 

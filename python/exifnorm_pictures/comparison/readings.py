@@ -8,7 +8,7 @@ from typing import TYPE_CHECKING, Dict, Iterable, NamedTuple, Optional, Set
 
 from ..catalogue.store import Catalogue
 from ..files.session import Session
-from ..model.records import Picture
+from ..model.records import PictureRecord
 from ..model.words import Word
 
 if TYPE_CHECKING:
@@ -67,7 +67,7 @@ class Readings:
         self._known: Dict[int, Optional[Read]] = {}
         self._counted: Set[int] = set()
 
-    def of(self, pictures: Iterable[Picture]) -> Dict[int, Optional[Read]]:
+    def of(self, pictures: Iterable[PictureRecord]) -> Dict[int, Optional[Read]]:
         """The readings of some pictures and of earlier ones, by their numbers: None for one at which ExifTool fails."""
         from ..judge import maker_notes  # which is seldom needed
         from ..extract.programs import Missing
@@ -84,7 +84,7 @@ class Readings:
                 self._known[picture.id] = None if reading is None else Read.of(reading)
         return self._known
 
-    def count(self, picture: Picture, asked: Picture) -> None:
+    def count(self, picture: PictureRecord, asked: PictureRecord) -> None:
         """Counts a picture once, of which the reading isn't known, or may mean nothing; `asked` is the one with the same MakerNote."""
         if picture.id in self._counted:
             return

@@ -11,7 +11,7 @@ from ..fields.choosing import EVERYTHING, Choice
 from ..fields.field import Field
 from ..fields.listing import exact
 from .changed import Compared
-from .differing import NUMBERS, Difference
+from .differing import NUMBERS, FieldDifference
 from .wording import What, cut, what
 
 VALUES = 50  # values of a field that are counted one by one
@@ -60,7 +60,7 @@ class FieldCount:
         """The number of pictures by which fields are ordered."""
         return max(self.has_value, self.went)
 
-    def add(self, difference: Difference) -> None:
+    def add(self, difference: FieldDifference) -> None:
         """Counts one more picture."""
         if difference.sign == "-":
             self.went += 1
@@ -134,12 +134,12 @@ class Summary:
             if not change.is_equal_number and not (change.part and self._has_parts and not _is_labelled(change.name)):
                 self._add_field(self._fields, change)
 
-    def _add_equal(self, difference: Difference) -> None:
+    def _add_equal(self, difference: FieldDifference) -> None:
         self.equal_example = self.equal_example or " -> ".join(map(_number, (difference.before[0], difference.after[0])))
         if len(self.equal_numbers) < FIELDS:
             self.equal_numbers.add(cut(difference.name, LONGEST_NAME))
 
-    def _add_part(self, sign: str, name: str, changes: Sequence[Difference]) -> None:
+    def _add_part(self, sign: str, name: str, changes: Sequence[FieldDifference]) -> None:
         if len(self.parts) == PARTS and (sign, name) not in self.parts:
             self.has_more = True
             return
@@ -151,7 +151,7 @@ class Summary:
             if sign == "+" and not _is_labelled(change.name):
                 self._add_field(part.fields, change)
 
-    def _add_field(self, counted: Dict[str, FieldCount], difference: Difference) -> None:
+    def _add_field(self, counted: Dict[str, FieldCount], difference: FieldDifference) -> None:
         name = cut(difference.name, LONGEST_NAME)
         if name not in counted and self._count >= FIELDS and not _is_labelled(name):
             self.has_more = True

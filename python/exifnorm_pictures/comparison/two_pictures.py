@@ -18,14 +18,14 @@ from ..files.session import Session
 from ..judge.sides import Fresh
 from ..model.found import EXIF, IPTC, KINDS, NAMES
 from ..model.problems import Problem
-from ..model.records import Picture, Stamp
+from ..model.records import PictureRecord, Stamp
 from ..model.results import Result
 from ..scan.batches import How
 from ..scan.looking import look
 from ..scan.walk import FoundFile
 from . import proved
 from .changed import Compared, compared
-from .differing import Difference, exact_side
+from .differing import FieldDifference, exact_side
 from .pairs import Pair
 
 
@@ -38,7 +38,7 @@ class FieldRow(NamedTuple):
     name: str
     plain: Tuple[Optional[str], Optional[str]]
     exact: Tuple[Optional[str], Optional[str]]
-    differences: Tuple[Difference, ...] = ()
+    differences: Tuple[FieldDifference, ...] = ()
     note: str = ""  # in place of the values
 
     @property
@@ -51,7 +51,7 @@ class FieldRow(NamedTuple):
 class ComparedPair:
     """Two pictures, and what `changed` finds."""
 
-    records: Tuple[Picture, Picture]
+    records: Tuple[PictureRecord, PictureRecord]
     found: Compared
     is_identical: bool  # whether the files have the same bytes
     has_only_fields: bool  # whether only some fields were compared, and no pictures
@@ -78,14 +78,14 @@ class ComparedPair:
         )
 
 
-def read(name: bytes, how: How, session: Session) -> Picture:
+def read(name: bytes, how: How, session: Session) -> PictureRecord:
     """Reads a picture as `index --pixels` does, always with the digest of its file, if it can be read."""
     path = os.path.abspath(name)
     stamp = None
     with contextlib.suppress(OSError):
         stamp = Stamp.of(os.stat(path))
     if stamp is None and not os.path.lexists(path):
-        return Picture.of(path, b"", problem=Problem.NO_FILE, detail=Problem.NO_FILE.text)
+        return PictureRecord.of(path, b"", problem=Problem.NO_FILE, detail=Problem.NO_FILE.text)
     picture = look(FoundFile(path, os.path.dirname(path), stamp), how, session, packs=False)
     with contextlib.suppress(OSError):
         if picture.sha256 is None:  # as of one for which ExifTool is needed
@@ -94,7 +94,7 @@ def read(name: bytes, how: How, session: Session) -> Picture:
 
 
 def compare(
-    picture: Picture, other: Picture, session: Optional[Session], choice: Choice = EVERYTHING, heads: Heads = (None, None)
+    picture: PictureRecord, other: PictureRecord, session: Optional[Session], choice: Choice = EVERYTHING, heads: Heads = (None, None)
 ) -> ComparedPair:
     """Compares two pictures that were read with the digests of their files, by the fields that count. In a session ExifTool is asked for the
     values of MakerNotes. `heads` are the heads of two JPEGs, for the proved comparison."""
@@ -138,7 +138,7 @@ def _place(row: FieldRow) -> int:
     return KINDS.index({"iptc": KINDS[1], "xmp": KINDS[2]}.get(where, KINDS[0]))
 
 
-def _row(difference: Difference) -> FieldRow:
+def _row(difference: FieldDifference) -> FieldRow:
     both = [exact_side(side) for side in (difference.before, difference.after)]
     values = (
         both if difference.note else ["; ".join(it.text for it in side) if side else None for side in (difference.before, difference.after)]
@@ -148,7 +148,7 @@ def _row(difference: Difference) -> FieldRow:
     return FieldRow(difference.name, (values[0], values[1]), (both[0], both[1]), (difference,), difference.note)
 
 
-def with_position(rows: List[FieldRow], picture: Picture, other: Picture) -> List[FieldRow]:
+def with_position(rows: List[FieldRow], picture: PictureRecord, other: PictureRecord) -> List[FieldRow]:
     """The rows with the four fields of a position as one, in degrees, if both positions are known."""
     ours = [
         row
@@ -168,13 +168,13 @@ def with_position(rows: List[FieldRow], picture: Picture, other: Picture) -> Lis
     return [*(it for it in rows[:at] if it not in ours), row, *(it for it in rows[at:] if it not in ours)]
 
 
-def _gps(picture: Picture) -> Dict[str, Field]:
+def _gps(picture: PictureRecord) -> Dict[str, Field]:
     return {one.tag: one for block in picture.blocks if block.name == NAMES[KINDS[0]] for one in fields_of(block) if one.directory == "gps"}
 
 
-def _has_position(picture: Picture) -> bool:
+def _has_position(picture: PictureRecord) -> bool:
     return any(key in POSITION_TAGS for key in _gps(picture))
 
 
-def _position(picture: Picture) -> Optional[str]:
+def _position(picture: PictureRecord) -> Optional[str]:
     return position(_gps(picture))

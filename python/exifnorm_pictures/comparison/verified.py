@@ -6,7 +6,7 @@ from typing import Iterator, NamedTuple, Optional, Sequence, Tuple
 
 from ..catalogue.store import PICTURE_COLUMNS, Catalogue
 from ..model.problems import NOT_THERE, TEXTS
-from ..model.records import Picture, picture_of_row
+from ..model.records import PictureRecord, picture_of_row
 from ..model.results import Result
 from ..model.verdicts import result_of, verdicts
 from ..model.words import Word
@@ -47,7 +47,7 @@ class Verified(NamedTuple):
     place: Optional[bytes] = None  # where it is now, or where the same picture is
 
 
-def state_of(before: Picture, now: Picture) -> Tuple[State, str]:
+def state_of(before: PictureRecord, now: PictureRecord) -> Tuple[State, str]:
     """The state of a file that is there, and more words about it."""
     if not now.sha256:
         return State.UNREADABLE, now.detail or TEXTS.get(now.problem or "", "")
@@ -85,11 +85,11 @@ def verified(before: Catalogue, now: Catalogue, folders: Sequence[bytes]) -> Ite
             yield Verified(picture.path, *state_of(picture, there))
 
 
-def _at(catalogue: Catalogue, path: bytes) -> Optional[Picture]:
+def _at(catalogue: Catalogue, path: bytes) -> Optional[PictureRecord]:
     return next(catalogue.rows(f"SELECT {PICTURE_COLUMNS} FROM pictures WHERE path = ?", (path,), picture_of_row), None)
 
 
-def _gone(before: Catalogue, now: Catalogue, picture: Picture) -> Verified:
+def _gone(before: Catalogue, now: Catalogue, picture: PictureRecord) -> Verified:
     """A file that isn't there: one that the catalogue doesn't know may be this one, and another may have the same picture."""
     for column, digest, words in (
         ("sha256", picture.sha256, "the same file is"),

@@ -13,7 +13,7 @@ from ..fields.field import Field
 from ..fields.listing import MAKER_NOTE
 from ..fields.plain_texts import quoted, text_of, xmp_texts
 from ..fields.plain_values import in_line
-from .differing import Difference, exact_side
+from .differing import FieldDifference, exact_side
 
 NONE = "(none)"  # in place of a value that isn't there
 WIDEST = 60  # characters of a value in a summary
@@ -33,10 +33,10 @@ class What(NamedTuple):
     step: str = ""  # how much later or earlier a date is
 
 
-def sides(difference: Difference, exactly: bool = False) -> Tuple[Optional[str], Optional[str]]:
+def sides(difference: FieldDifference, exactly: bool = False) -> Tuple[Optional[str], Optional[str]]:
     """Both values of a field in one line: plain, or exact if that is asked for or if both look alike. None where there is no such field.
 
-    >>> sides(Difference("main", "0112", (), (Field("main", "0112", "SHORT", 1, (6,)),)))
+    >>> sides(FieldDifference("main", "0112", (), (Field("main", "0112", "SHORT", 1, (6,)),)))
     (None, 'turn 90° clockwise to view')
     """
     plain = [", ".join(map(in_line, one)) if one else None for one in (difference.before, difference.after)]
@@ -45,17 +45,17 @@ def sides(difference: Difference, exactly: bool = False) -> Tuple[Optional[str],
     return plain[0], plain[1]
 
 
-def plain_sides(difference: Difference) -> Tuple[Optional[str], Optional[str]]:
+def plain_sides(difference: FieldDifference) -> Tuple[Optional[str], Optional[str]]:
     """Both values as they are, without quotes and escapes, for tables and programs; exact if both look alike.
 
-    >>> plain_sides(Difference("main", "013b", (), (Field("main", "013b", "ASCII", 5, b"Otto\\0"),)))
+    >>> plain_sides(FieldDifference("main", "013b", (), (Field("main", "013b", "ASCII", 5, b"Otto\\0"),)))
     (None, 'Otto')
     """
     values = ["; ".join(it.text for it in one) if one else None for one in (difference.before, difference.after)]
     return (values[0], values[1]) if values[0] != values[1] else (exact_side(difference.before), exact_side(difference.after))
 
 
-def line_of(difference: Difference, exactly: bool = False) -> str:
+def line_of(difference: FieldDifference, exactly: bool = False) -> str:
     """A field that differs, in a line: `~ IFD0:Artist: "A" -> "B"`, `+` for a field that came, and `-` for one that went."""
     if difference.note:
         return f"~ {difference.name}: {difference.note}"
@@ -63,14 +63,14 @@ def line_of(difference: Difference, exactly: bool = False) -> str:
     return f"{difference.sign} {name}: {' -> '.join(one for one in sides(difference, exactly) if one is not None)}"
 
 
-def tag_of(difference: Difference) -> str:
+def tag_of(difference: FieldDifference) -> str:
     """The number of a field's tag or DataSet, where it isn't its name."""
     if difference.directory == "xmp" or difference.tag in difference.name:
         return ""
     return difference.tag if ":" in difference.tag else f"0x{difference.tag}" if len(difference.tag) == 4 else ""
 
 
-def what(difference: Difference) -> What:
+def what(difference: FieldDifference) -> What:
     """What happened to a field that came or changed."""
     if difference.note:
         note = difference.note.partition(":")[0]  # without the number of values, which differs from picture to picture
@@ -127,7 +127,7 @@ def apart(before: str, after: str, widest: int) -> str:
 # Lists
 
 
-def _of_list(difference: Difference) -> str:
+def _of_list(difference: FieldDifference) -> str:
     """What a list has more and less, if that is little; empty for a field that is no list."""
     before, after = _members(difference.before), _members(difference.after)
     if before is None or after is None:
@@ -158,11 +158,11 @@ def _members(fields: Sequence[Field]) -> Optional[List[str]]:
 _DATE = re.compile(r"(\d{4})[:-](\d\d)[:-](\d\d)[ T](\d\d):(\d\d)(?::(\d\d))?(.*)", re.S)
 
 
-def shift(difference: Difference) -> str:
+def shift(difference: FieldDifference) -> str:
     """How much later or earlier a date is; empty for a field that is no date.
 
     >>> first, second = (Field("main", "0132", "ASCII", 20, b"2020:01:0%d 10:00:00\\0" % day) for day in (1, 2))
-    >>> shift(Difference("main", "0132", (first,), (second,)))
+    >>> shift(FieldDifference("main", "0132", (first,), (second,)))
     '1 day later'
     """
     matches = [_DATE.fullmatch(text_of(side[0]) or "") if len(side) == 1 else None for side in (difference.before, difference.after)]

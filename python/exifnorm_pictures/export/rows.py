@@ -19,7 +19,7 @@ from ..fields.typed import typed
 from ..files.session import Session
 from ..model import steps
 from ..model.budgets import CACHED
-from ..model.records import Block, Picture
+from ..model.records import BlockRecord, PictureRecord
 from ..model.texts import shown_path
 from ..scan.progress import Progress
 from .tables import Row, Tables
@@ -48,7 +48,7 @@ class Export:
             about = (number, group.basis, sentence_of(group))
             self.tables.add("groups", ((*about, it.id, *_keep_row(keeps.get(it.id, Keep()))) for it in group.members))
 
-    def _picture(self, picture: Picture) -> None:
+    def _picture(self, picture: PictureRecord) -> None:
         self.tables.add("pictures", [_picture_row(picture)])
         with self.catalogue.guarded():
             blocks = with_fields(self.catalogue.blocks_of(picture))
@@ -61,7 +61,7 @@ class Export:
             parts = self.catalogue.not_read_of(picture)
             self.tables.add("not_read", ((picture.id, at, part.what) for at, part in enumerate(parts)))
 
-    def _texts(self, picture: Picture, blocks: Sequence[Tuple[Block, List[Field]]]) -> None:
+    def _texts(self, picture: PictureRecord, blocks: Sequence[Tuple[BlockRecord, List[Field]]]) -> None:
         texts = texts_of(blocks)
         self.missing += bool(texts.missing)
         rows = [*_text_rows(texts.texts), *((word, *(None,) * 6) for word in sorted(texts.missing))]
@@ -70,7 +70,7 @@ class Export:
         self.tables.add("conflicts", ((picture.id, one.label, one.kind, one.detail or None) for one in known))
 
 
-def _picture_row(picture: Picture) -> Row:
+def _picture_row(picture: PictureRecord) -> Row:
     path, is_escaped = _path(picture.path)
     names = (path, int(is_escaped), picture.path if is_escaped else None, _path(picture.root)[0])
     about = (picture.type or None, _state(picture), picture.problem, picture.detail or None, picture.size, _time(picture.modified))
@@ -94,7 +94,7 @@ def _path(path: bytes) -> Tuple[str, bool]:
         return shown_path(path), True
 
 
-def _state(picture: Picture) -> str:
+def _state(picture: PictureRecord) -> str:
     return "not read" if picture.problem else "no metadata" if picture.state == "no block" else picture.state
 
 
@@ -108,7 +108,7 @@ def _time(nanoseconds: Optional[int]) -> Optional[str]:
         return None
 
 
-def _block_row(picture: Picture, number: int, block: Block) -> Row:
+def _block_row(picture: PictureRecord, number: int, block: BlockRecord) -> Row:
     repair = steps.words(block.steps) or None
     about = (block.kind, block.name, block.source, block.extractor, block.status, block.cause, block.place, block.length)
     return (picture.id, number, *about, repair, block.digest, int(block.note is not None))

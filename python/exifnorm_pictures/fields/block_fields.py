@@ -6,7 +6,7 @@ from typing import Callable, Generic, List, Optional, Sequence, Tuple, TypeVar
 
 from ..model.budgets import KEPT_BYTES
 from ..model.columns import Damaged
-from ..model.records import Block
+from ..model.records import BlockRecord
 from .field import Field
 from .packing import length, unpacked
 
@@ -29,14 +29,14 @@ class Fields(Generic[Source]):
         return self._made
 
 
-def fields_of(block: Block) -> List[Field]:
+def fields_of(block: BlockRecord) -> List[Field]:
     """The fields of a block; none of one that has no meaning, or in a catalogue that doesn't have them. Raises `Damaged`."""
     if isinstance(block.fresh, Fields):
         return block.fresh.all()
     return unpacked(block.fields) if block.fields else []
 
 
-def with_fields(blocks: Sequence[Block]) -> List[Tuple[Block, List[Field]]]:
+def with_fields(blocks: Sequence[BlockRecord]) -> List[Tuple[BlockRecord, List[Field]]]:
     """The blocks of a picture of a catalogue, each with its fields. Raises `Damaged`, also if they are more than `index` keeps."""
     if sum(length(it.fields) for it in blocks if it.fields) > KEPT_BYTES:
         raise Damaged("the fields of a picture are too long")

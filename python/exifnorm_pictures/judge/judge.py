@@ -15,13 +15,13 @@ from ..fields.packing import Packed, is_short, left_out, length, packed, packed_
 from ..model import steps
 from ..model.budgets import KEPT_BYTES, Budget
 from ..model.found import COMPRESSED, EXIF, FEW, IPTC, NAMES, XMP, Blocks, FoundBlock
-from ..model.records import BLOCKS, Block
+from ..model.records import BLOCKS, BlockRecord
 from ..model.sides import Status
 
 _BY_ITSELF = FoundBlock("", b"", "", "")  # where a block is that was given without a picture
 
 
-def judge(kind: str, block: bytes, packs: bool = False, at: FoundBlock = _BY_ITSELF, budget: Optional[Budget] = None) -> Block:
+def judge(kind: str, block: bytes, packs: bool = False, at: FoundBlock = _BY_ITSELF, budget: Optional[Budget] = None) -> BlockRecord:
     """Judges a block that was taken as one of `kind`; a refused block never gets a digest. With `packs` its fields are packed for a catalogue,
     otherwise they are made when they are asked for. Raises `TooLong` if a repair takes too much time."""
     octets = hashlib.sha256(block).hexdigest()
@@ -29,18 +29,18 @@ def judge(kind: str, block: bytes, packs: bool = False, at: FoundBlock = _BY_ITS
         return _unreadable(kind, at, len(block), octets, "Compressed")
     misplaced = _misplaced(kind, block)
     if misplaced:
-        return Block(kind, *at[2:5], Status.REFUSED, None, misplaced, 0, len(block), octets)
+        return BlockRecord(kind, *at[2:5], Status.REFUSED, None, misplaced, 0, len(block), octets)
     try:
         form = exifnorm.normal(block)
     except exifnorm.Refused as refused:
-        result = Block(kind, *at[2:5], Status.REFUSED, None, refused.cause, refused.offset, len(block), octets)
+        result = BlockRecord(kind, *at[2:5], Status.REFUSED, None, refused.cause, refused.offset, len(block), octets)
         return _repaired(result, block, packs, budget) if kind == EXIF else result
     except exifnorm.NormalTooLong:
-        return Block(kind, *at[2:5], Status.TOO_LONG, None, "NormalTooLong", None, len(block), octets)
+        return BlockRecord(kind, *at[2:5], Status.TOO_LONG, None, "NormalTooLong", None, len(block), octets)
     except MemoryError:
-        return Block(kind, *at[2:5], Status.FAILED, None, "OutOfMemory", None, len(block), octets)
+        return BlockRecord(kind, *at[2:5], Status.FAILED, None, "OutOfMemory", None, len(block), octets)
     digest = octets if form == block else hashlib.sha256(form).hexdigest()
-    return _with_form(Block(kind, *at[2:5], Status.ACCEPTED, digest, None, None, len(block), octets), form, packs)
+    return _with_form(BlockRecord(kind, *at[2:5], Status.ACCEPTED, digest, None, None, len(block), octets), form, packs)
 
 
 def _misplaced(kind: str, block: bytes) -> str:
@@ -52,19 +52,19 @@ def _misplaced(kind: str, block: bytes) -> str:
     return "NoMarker" if kind == IPTC else "UnknownKind"
 
 
-def _with_form(block: Block, form: bytes, packs: bool) -> Block:
+def _with_form(block: BlockRecord, form: bytes, packs: bool) -> BlockRecord:
     """A block with the fields of its normal form."""
     if not packs:
         return block._replace(fresh=Fields(normal_form.fields_of_form, form))
     return _with_packed(block, packed_contents(normal_form.contents(form)))
 
 
-def _with_packed(block: Block, kept: Packed) -> Block:
+def _with_packed(block: BlockRecord, kept: Packed) -> BlockRecord:
     """A block with its fields as a catalogue keeps them. `_replace` takes three times as long."""
-    return Block._make((*block[: BLOCKS.width - 1], kept.octets, kept.but_note, None))
+    return BlockRecord._make((*block[: BLOCKS.width - 1], kept.octets, kept.but_note, None))
 
 
-def _repaired(refused: Block, block: bytes, packs: bool, budget: Optional[Budget]) -> Block:
+def _repaired(refused: BlockRecord, block: bytes, packs: bool, budget: Optional[Budget]) -> BlockRecord:
     """A refused block with what a repair makes of it."""
     from . import repairs  # which takes long to import, and few blocks are refused
 
@@ -88,7 +88,7 @@ _INFLATES = 1032  # bytes that a byte of zlib can become
 _NOTHING = (b"II*\0\x08\0\0\0\0\0", b"MM\0*\0\0\0\x08\0\0")  # a header, and a directory without entries
 
 
-def _with_notes(block: Block, at: FoundBlock, blocks: Blocks) -> Block:
+def _with_notes(block: BlockRecord, at: FoundBlock, blocks: Blocks) -> BlockRecord:
     """An Exif block with the place of its MakerNote; the bytes that only it can reach are noted as not read."""
     if not structure.may_have_notes(at.data):
         return block
@@ -98,15 +98,15 @@ def _with_notes(block: Block, at: FoundBlock, blocks: Blocks) -> Block:
     return block if notes.place is None else block._replace(note=notes.place if at.note is None else at.note)
 
 
-def judge_all(blocks: Blocks, packs: bool = False) -> List[Block]:
+def judge_all(blocks: Blocks, packs: bool = False) -> List[BlockRecord]:
     """Judges all blocks of a picture, in their order. Extended XMP is judged with the packet that refers to it. Raises `TooMuch`."""
     if any(map(_says_nothing, blocks.found)):
         blocks.found = [it for it in blocks.found if not _says_nothing(it)]
     extended = _Extended(blocks) if any(it.extends for it in blocks.found) else None
     none = xmp.Extensions({}, blocks.budget)
-    known: Dict[Tuple[str, bytes], Block] = {}
+    known: Dict[Tuple[str, bytes], BlockRecord] = {}
     many = len(blocks.found) > FEW
-    judged: List[Block] = []
+    judged: List[BlockRecord] = []
     kept = 0
     for at in blocks.found:
         if at.extends:
@@ -132,14 +132,14 @@ def judge_all(blocks: Blocks, packs: bool = False) -> List[Block]:
     return judged + extended.not_named() if extended else judged
 
 
-def _within(block: Block, kept: int) -> Block:
+def _within(block: BlockRecord, kept: int) -> BlockRecord:
     """A block without its packed fields, if so many bytes are kept of a picture: its pages may share one long text."""
     return block if kept <= KEPT_BYTES or block.fields is None else block._replace(fields=left_out(block.fields))
 
 
-def _all_within(blocks: List[Block]) -> List[Block]:
+def _all_within(blocks: List[BlockRecord]) -> List[BlockRecord]:
     """The blocks without the packed fields of those from which on all of them, unpacked, are more than are kept of a picture."""
-    within: List[Block] = []
+    within: List[BlockRecord] = []
     kept = 0
     for block in blocks:
         is_long = block.fields is not None and not is_short(block.fields)
@@ -160,12 +160,12 @@ class _Extended:
         self.named = {part: xmp.Extensions(some, blocks.budget) for part, some in self.every.items()}
         self.none = xmp.Extensions({}, blocks.budget)
 
-    def judge(self, block: FoundBlock, packs: bool) -> Block:
+    def judge(self, block: FoundBlock, packs: bool) -> BlockRecord:
         """A packet with its extended XMP."""
         part = _part(block)
         return _judge_xmp(block, self.named.get(part, self.none), self.remaining.get(part, {}), packs)
 
-    def not_named(self) -> List[Block]:
+    def not_named(self) -> List[BlockRecord]:
         """What no packet beside it named."""
         left = [it for it in self.found if it.extends in self.remaining[_part(it)] or it.data != self.every[_part(it)][it.extends]]
         return [_unreadable(XMP, it, len(it.data), hashlib.sha256(it.data).hexdigest(), "ExtensionNotNamed") for it in left]
@@ -177,14 +177,14 @@ def _part(block: FoundBlock) -> str:
     return part
 
 
-def judge_packet(packet: bytes, packs: bool = False) -> Block:
+def judge_packet(packet: bytes, packs: bool = False) -> BlockRecord:
     """Judges an XMP packet by itself."""
     if packet.startswith(COMPRESSED):
         return judge(XMP, packet)
     return _judge_xmp(_BY_ITSELF._replace(data=packet), xmp.Extensions({}), {}, packs)
 
 
-def _judge_xmp(at: FoundBlock, extensions: xmp.Extensions, left: Dict[str, bytes], packs: bool) -> Block:
+def _judge_xmp(at: FoundBlock, extensions: xmp.Extensions, left: Dict[str, bytes], packs: bool) -> BlockRecord:
     """Reads a packet with its extended XMP, which is taken out of `left`."""
     used: Set[str] = set()
     try:
@@ -198,11 +198,11 @@ def _judge_xmp(at: FoundBlock, extensions: xmp.Extensions, left: Dict[str, bytes
         left.pop(name, None)
     if statements is None:
         return _unreadable(XMP, at, len(at.data), octets.hexdigest(), cause)
-    result = Block(XMP, *at[2:5], Status.ACCEPTED, xmp.digest_of_packet(statements), None, None, len(at.data), octets.hexdigest())
+    result = BlockRecord(XMP, *at[2:5], Status.ACCEPTED, xmp.digest_of_packet(statements), None, None, len(at.data), octets.hexdigest())
     if not packs:
         return result._replace(fresh=Fields(xmp_properties.fields_of_statements, statements))
     return _with_packed(result, packed(xmp_properties.fields_of_statements(statements)))
 
 
-def _unreadable(kind: str, at: FoundBlock, length: int, octets: str, cause: str) -> Block:
-    return Block(kind, *at[2:5], Status.UNREADABLE, None, cause, None, length, octets)
+def _unreadable(kind: str, at: FoundBlock, length: int, octets: str, cause: str) -> BlockRecord:
+    return BlockRecord(kind, *at[2:5], Status.UNREADABLE, None, cause, None, length, octets)

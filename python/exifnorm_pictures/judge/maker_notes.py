@@ -15,7 +15,7 @@ from ..extract import exiftool, programs
 from ..files.session import Session
 from ..model.budgets import FIELD_BYTES
 from ..model.columns import Damaged
-from ..model.records import Picture, Stamp, has, is_marked_as
+from ..model.records import PictureRecord, Stamp, has, is_marked_as
 from .sides import Sides
 
 Values = Dict[str, str]
@@ -147,7 +147,7 @@ class ComparedNotes(NamedTuple):
     is_new: bool = False
 
 
-def compared_notes(session: Session, sides: Sides, picture: Picture, other: Picture) -> Optional[ComparedNotes]:
+def compared_notes(session: Session, sides: Sides, picture: PictureRecord, other: PictureRecord) -> Optional[ComparedNotes]:
     """Two pictures compared; None if a reading isn't known: a file has changed since, or there is no ExifTool."""
     known: Dict[int, NotesReading] = {}
     for number, side in enumerate((picture, other)):
@@ -166,7 +166,7 @@ def compared_notes(session: Session, sides: Sides, picture: Picture, other: Pict
     return ComparedNotes(changes) if changes else ComparedNotes([], second.doubt or first.doubt, first.warnings != second.warnings)
 
 
-def is_as_it_was(picture: Picture) -> bool:
+def is_as_it_was(picture: PictureRecord) -> bool:
     """Whether the file is the one that was looked at."""
     try:
         return is_marked_as(Stamp.of(os.stat(picture.path)), picture.marks)

@@ -9,7 +9,7 @@ from ..extract.extraction import too_much
 from ..fields.block_fields import fields_of
 from ..model.budgets import TooMuch
 from ..model.found import EXIF, NAMES, Blocks, FoundBlock, cut, damage, not_known
-from ..model.records import Block
+from ..model.records import BlockRecord
 from .judge import judge_all
 
 if TYPE_CHECKING:
@@ -22,7 +22,7 @@ class Reading:
 
     name: bytes
     read: Blocks
-    blocks: List[Block]
+    blocks: List[BlockRecord]
     _texts: Optional[List[LabelText]] = field(default=None, repr=False, compare=False)
 
     @classmethod
@@ -79,6 +79,6 @@ class Reading:
             self._texts = with_own(sorted(texts, key=lambda it: STANDARDS.index(it.standard)), *camera)
         return self._texts
 
-    def found(self, block: Block) -> FoundBlock:
+    def found(self, block: BlockRecord) -> FoundBlock:
         """A block as it was found."""
         return next(it for it in self.read.found if it.name == block.name)

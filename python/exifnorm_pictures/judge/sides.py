@@ -7,7 +7,7 @@ from typing import Callable, List, Optional, Protocol, Sequence, TypeVar
 from ..fields.field import Field
 from ..fields.block_fields import fields_of
 from ..model.found import NotRead
-from ..model.records import Block, Picture
+from ..model.records import BlockRecord, PictureRecord
 
 
 Made = TypeVar("Made")
@@ -16,19 +16,19 @@ Made = TypeVar("Made")
 class Sides(Protocol):
     """The pictures of two sides, numbered 0 and 1."""
 
-    def blocks(self, side: int, picture: Picture) -> Sequence[Block]:
+    def blocks(self, side: int, picture: PictureRecord) -> Sequence[BlockRecord]:
         """A picture's blocks."""
         ...
 
-    def fields(self, side: int, block: Optional[Block]) -> List[Field]:
+    def fields(self, side: int, block: Optional[BlockRecord]) -> List[Field]:
         """The fields of a block; none if they aren't kept, or if there is no block."""
         ...
 
-    def not_read(self, side: int, picture: Picture) -> Sequence[NotRead]:
+    def not_read(self, side: int, picture: PictureRecord) -> Sequence[NotRead]:
         """The parts of a picture that were not read."""
         ...
 
-    def maker_notes(self, side: int, picture: Picture, unpack: Callable[[bytes], Made]) -> Optional[Made]:
+    def maker_notes(self, side: int, picture: PictureRecord, unpack: Callable[[bytes], Made]) -> Optional[Made]:
         """The result of `unpack` for ExifTool's readings of its MakerNotes; None if they aren't kept."""
         ...
 
@@ -36,18 +36,18 @@ class Sides(Protocol):
 class Fresh:
     """Pictures that were looked at just now, and so have all that there is of them."""
 
-    def blocks(self, _: int, picture: Picture) -> Sequence[Block]:
+    def blocks(self, _: int, picture: PictureRecord) -> Sequence[BlockRecord]:
         """A picture's blocks."""
         return picture.blocks
 
-    def fields(self, _: int, block: Optional[Block]) -> List[Field]:
+    def fields(self, _: int, block: Optional[BlockRecord]) -> List[Field]:
         """The fields of a block; none if there is no block."""
         return fields_of(block) if block else []
 
-    def not_read(self, _: int, picture: Picture) -> Sequence[NotRead]:
+    def not_read(self, _: int, picture: PictureRecord) -> Sequence[NotRead]:
         """The parts of a picture that were not read."""
         return picture.unread
 
-    def maker_notes(self, _: int, picture: Picture, unpack: Callable[[bytes], Made]) -> Optional[Made]:
+    def maker_notes(self, _: int, picture: PictureRecord, unpack: Callable[[bytes], Made]) -> Optional[Made]:
         """The result of `unpack` for its readings, if ExifTool was asked."""
         return unpack(picture.notes) if picture.notes else None

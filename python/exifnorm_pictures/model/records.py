@@ -19,7 +19,7 @@ _STEPS, _EACH = 1 << 20, 1 << 20  # characters of the steps of a repair, and of 
 AS_BEFORE = " as before"
 
 
-class Block(NamedTuple):
+class BlockRecord(NamedTuple):
     """A block: its name, its position in the file, its reader, and the result of judging it. `fields.block_fields` has its fields."""
 
     kind: Annotated[str, "exif, iptc, xmp"]
@@ -124,7 +124,7 @@ def is_marked_as(now: Stamp, marks: Sequence[Optional[int]]) -> bool:
     return tuple(now[:4]) == tuple(marks) if marks[2] != RACY else (now[0], now[1], now[3]) == (marks[0], marks[1], marks[3])
 
 
-class Picture(NamedTuple):
+class PictureRecord(NamedTuple):
     """A picture and what is known of it: after it was looked at, or as a catalogue keeps it."""
 
     id: Annotated[int, Is(sql="INTEGER PRIMARY KEY")] = 0  # its number in a catalogue
@@ -159,7 +159,7 @@ class Picture(NamedTuple):
     sha256: Annotated[Optional[str], "SHA-256 of the whole file; empty: it can't be read; NULL: not requested"] = None
     sidecars: Annotated[str, Is("names, sizes, times and inodes of its XMP sidecars; empty if there is none", longest=_EACH)] = ""
     # What other tables of a catalogue have, and what it doesn't have, if the picture was looked at just now
-    blocks: Tuple[Block, ...] = ()
+    blocks: Tuple[BlockRecord, ...] = ()
     unread: Tuple[NotRead, ...] = ()
     notes: Optional[bytes] = None  # what ExifTool reads of its MakerNotes, if it was asked
     is_known: bool = False  # whether it had the same problem when it was looked at before
@@ -174,10 +174,10 @@ class Picture(NamedTuple):
         extractor: str = "",
         problem: Optional[str] = None,
         detail: str = "",
-        blocks: Sequence[Block] = (),
+        blocks: Sequence[BlockRecord] = (),
         unread: Sequence[NotRead] = (),
         **others: Any,
-    ) -> "Picture":
+    ) -> "PictureRecord":
         """A picture that was looked at. Several processes do that, and one writes, so what is compared is made here."""
         values: Dict[str, Any] = {**cls._field_defaults, "path": path, "root": root, "type": type, "extractor": extractor}
         values.update(problem=problem, detail=detail, blocks=tuple(blocks), unread=tuple(unread))
@@ -190,8 +190,8 @@ class Picture(NamedTuple):
 
     @classmethod
     def found(
-        cls, path: bytes, root: bytes, stamp: Optional[Stamp], blocks: Blocks, judged: Sequence[Block] = (), **others: Any
-    ) -> "Picture":
+        cls, path: bytes, root: bytes, stamp: Optional[Stamp], blocks: Blocks, judged: Sequence[BlockRecord] = (), **others: Any
+    ) -> "PictureRecord":
         """A picture by its blocks, as they were found and judged."""
         about = (blocks.type, blocks.extractor, blocks.problem, blocks.detail)
         return cls.of(path, root, stamp, *about, judged, blocks.not_read, **others)
@@ -203,7 +203,7 @@ class Picture(NamedTuple):
             return None
         return Stamp(self.size, self.modified, self.changed, self.inode, self.device or 0)
 
-    def stamped(self, stamp: Optional[Stamp]) -> "Picture":
+    def stamped(self, stamp: Optional[Stamp]) -> "PictureRecord":
         """The same picture with other marks."""
         return self._replace(**_marks(stamp))
 
@@ -259,7 +259,7 @@ class Picture(NamedTuple):
         return by_kind
 
 
-def is_same_file(picture: Picture, other: Picture) -> bool:
+def is_same_file(picture: PictureRecord, other: PictureRecord) -> bool:
     """Whether nothing was written to a file and its sidecars between two looks: size, times and inode are the same. Not if it may have been
     edited again without a mark, and not if it has rotted, so that something of it has another digest."""
     if picture.path and picture == other:  # of one look; bytes have no path
@@ -279,11 +279,11 @@ def _marks(stamp: Optional[Stamp]) -> Dict[str, Any]:
 _OCTETS = {kind: f"{kind}_octets" for kind in KINDS}
 
 
-def _compared(problem: Optional[str], blocks: Sequence[Block], unread: Sequence[NotRead]) -> Dict[str, Any]:
+def _compared(problem: Optional[str], blocks: Sequence[BlockRecord], unread: Sequence[NotRead]) -> Dict[str, Any]:
     """What is compared of a picture: columns by their names. Of one with a problem nothing is known."""
     if problem:
         return {}
-    by_kind: Dict[str, List[Block]] = {kind: [] for kind in KINDS}
+    by_kind: Dict[str, List[BlockRecord]] = {kind: [] for kind in KINDS}
     for block in blocks:
         by_kind[block.kind].append(block)
     sides = [side_of(ours) for ours in by_kind.values()]
@@ -300,7 +300,7 @@ def _compared(problem: Optional[str], blocks: Sequence[Block], unread: Sequence[
     return known
 
 
-def _exif_but_notes(blocks: Sequence[Block]) -> str:
+def _exif_but_notes(blocks: Sequence[BlockRecord]) -> str:
     """A digest of what some Exif blocks mean without their MakerNotes, after repairs too; empty if that of one isn't known."""
     if any(it.meaning is None for it in blocks):
         return ""
@@ -341,9 +341,9 @@ def kind_of(word: str) -> str:
     return word
 
 
-PICTURES = Columns(Picture, last=["run INTEGER NOT NULL REFERENCES runs(id)"])
+PICTURES = Columns(PictureRecord, last=["run INTEGER NOT NULL REFERENCES runs(id)"])
 BLOCKS = Columns(
-    Block,
+    BlockRecord,
     ["picture INTEGER NOT NULL REFERENCES pictures(id) ON DELETE CASCADE", "number INTEGER NOT NULL -- the order in the file"],
     ["PRIMARY KEY (picture, number)"],
 )
@@ -352,7 +352,7 @@ BLOCKS = Columns(
 picture_of_row = PICTURES.record
 
 
-def block_of_row(row: Tuple[Any, ...]) -> Block:
+def block_of_row(row: Tuple[Any, ...]) -> BlockRecord:
     """A block of a row of the columns of BLOCKS."""
     block = BLOCKS.record((kind_of(row[0]), *row[1:]))
     unpacked(block.repair)

@@ -9,7 +9,7 @@ from .found import NAMES, XMP
 from .words import Word
 
 if TYPE_CHECKING:
-    from .records import Block
+    from .records import BlockRecord
 
 REACHED = " that only the MakerNote can reach"  # the end of the name of such bytes, which aren't read
 
@@ -37,7 +37,7 @@ class Side(NamedTuple):
 NO_BLOCK = Side(Status.ABSENT)
 
 
-def side_of(ours: Sequence[Block]) -> Side:
+def side_of(ours: Sequence[BlockRecord]) -> Side:
     """The side of a picture for the kind that these blocks have. Several are compared in their order and under their names."""
     if not ours:
         return NO_BLOCK

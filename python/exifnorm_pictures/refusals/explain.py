@@ -7,7 +7,7 @@ from typing import Callable, Dict, List, Optional
 
 from ..judge.judge import judge, judge_packet
 from ..model.found import XMP
-from ..model.records import Block
+from ..model.records import BlockRecord
 from ..model.texts import Members
 from ..model.sides import Status
 from .causes import CAUSES, Cause, Facts, words_of
@@ -33,7 +33,7 @@ class Explanation:
     """The explanation of one block."""
 
     kind: str
-    judgement: Block
+    judgement: BlockRecord
     cause: Optional[Cause] = None
     here: List[str] = field(default_factory=list)  # the parts at the offset
     octets: List[str] = field(default_factory=list)
@@ -88,7 +88,7 @@ def explain(kind: str, block: bytes) -> Explanation:
     return Explanation(kind, judgement, cause, here, hexadecimal(layout.block, judgement.place))
 
 
-def explain_packet(judgement: Block) -> Explanation:
+def explain_packet(judgement: BlockRecord) -> Explanation:
     """Explains an XMP packet that was judged; one that was read needs no explanation."""
     words = words_of(judgement.cause, XMP) if judgement.cause else None
     return Explanation(XMP, judgement, here=[words[0], f"Remedy: {words[1]}"] if words else [])

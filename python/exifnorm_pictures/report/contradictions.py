@@ -14,7 +14,7 @@ from ..catalogue.texts import PictureTexts, texts_of
 from ..comparison.conflicts import Conflict, conflicts
 from ..fields.labels import COMMENT, STANDARDS, LABEL_WORDS
 from ..fields.block_fields import with_fields
-from ..model.records import Block, Picture
+from ..model.records import BlockRecord, PictureRecord
 
 _COMPARED = tuple(it for it in LABEL_WORDS if it != COMMENT)
 
@@ -52,7 +52,7 @@ class Contradictions:
         self.labels.update([one.label for one in real])
 
 
-def checked(catalogue: Catalogue, pictures: Iterator[Picture]) -> Iterator[Checked]:
+def checked(catalogue: Catalogue, pictures: Iterator[PictureRecord]) -> Iterator[Checked]:
     """The pictures with metadata in two standards at least."""
     for picture in pictures:
         if picture.problem or sum(octets != "" for octets in picture.octets) < 2:
@@ -63,7 +63,7 @@ def checked(catalogue: Catalogue, pictures: Iterator[Picture]) -> Iterator[Check
         yield _checked(picture, [block for block, _ in blocks], texts)
 
 
-def _checked(picture: Picture, blocks: List[Block], texts: PictureTexts) -> Checked:
+def _checked(picture: PictureRecord, blocks: List[BlockRecord], texts: PictureTexts) -> Checked:
     known = [one for one in conflicts(texts.texts) if not one.is_alike and one.label not in texts.missing]
     is_whole = not texts.missing and all(one.is_accepted or one.repair for one in blocks)
     return Checked(picture.path, known, is_whole)

@@ -13,12 +13,12 @@ from typing import Callable, List, NamedTuple, Optional, Sequence, Set, Union
 from ..catalogue.store import make_rows, put_rows
 from ..model.budgets import PROGRAM_SECONDS
 from ..model.problems import NO_BYTES
-from ..model.records import Picture
+from ..model.records import PictureRecord
 from .walk import FoundFile
 
 LONGEST_WAIT = 2.0  # seconds until results are committed, if pictures are slow
 
-Lines = Callable[[Picture], List[str]]  # the lines that are printed about a picture
+Lines = Callable[[PictureRecord], List[str]]  # the lines that are printed about a picture
 
 
 @dataclass(frozen=True)
@@ -48,14 +48,14 @@ class Batch(NamedTuple):
     states: "Counter[str]"  # how many have each state
     lines: List[str]
     programs: Set[str]  # the other programs that have read something of them
-    unread: List[Picture]  # which have no row: if they were known before, their earlier results stay
+    unread: List[PictureRecord]  # which have no row: if they were known before, their earlier results stay
     left: Sequence[FoundFile]  # the pictures after them, which were not looked at yet
 
 
-Result = Union[Picture, Batch]
+Result = Union[PictureRecord, Batch]
 
 
-def batch(file: str, entries: Sequence[Picture], left: Sequence[FoundFile], lines: Optional[Lines]) -> Batch:
+def batch(file: str, entries: Sequence[PictureRecord], left: Sequence[FoundFile], lines: Optional[Lines]) -> Batch:
     """Writes the rows of some pictures to a new file."""
     unread = [it for it in entries if it.problem in NO_BYTES]
     with contextlib.closing(sqlite3.connect(file, isolation_level=None)) as base:

@@ -15,7 +15,7 @@ from typing import Any, Dict, Iterator, List, Optional, Sequence
 from ..extract import programs
 from ..files.session import Session
 from ..model.problems import Problem
-from ..model.records import RACY, Picture, Stamp
+from ..model.records import RACY, PictureRecord, Stamp
 from . import looking
 from .batches import How
 from .index import Look
@@ -32,7 +32,7 @@ CHUNK = 64  # pictures of a task
 POLL = 2.0  # seconds without a result after which the workers are counted
 
 
-def look_there(root: bytes, names: Sequence[bytes], how: How) -> List[Picture]:
+def look_there(root: bytes, names: Sequence[bytes], how: How) -> List[PictureRecord]:
     """A worker's task: looks at files by their names relative to its own path of the folder."""
     with Session(how.seconds, how.debug) as session:
         paths = [os.path.join(root, name) for name in names]
@@ -53,7 +53,7 @@ def looker(scheduler: str, elsewhere: Optional[str], names: Sequence[bytes]) -> 
     if elsewhere and (len(names) != 1 or not os.path.isdir(names[0])):
         raise programs.Failed("--elsewhere is the path of one folder: give one FOLDER")
 
-    def look(work: Sequence[FoundFile], how: How) -> Iterator[Picture]:
+    def look(work: Sequence[FoundFile], how: How) -> Iterator[PictureRecord]:
         if work:
             yield from _Cluster(scheduler, os.fsencode(elsewhere) if elsewhere else None, how).looked(work)
 
@@ -69,7 +69,7 @@ class _Cluster:
         self.tasks: Dict[Any, Sequence[FoundFile]] = {}
         self.suspects: List[FoundFile] = []  # the pictures of chunks at which workers died
 
-    def looked(self, work: Sequence[FoundFile]) -> Iterator[Picture]:
+    def looked(self, work: Sequence[FoundFile]) -> Iterator[PictureRecord]:
         """The result for each of these files, in order of arrival."""
         logging.disable(logging.CRITICAL)  # Dask writes tracebacks; what is wrong is in the errors below
         try:
@@ -110,7 +110,7 @@ class _Cluster:
             elif time.monotonic() - since > self.how.seconds:
                 raise programs.Failed(f"the cluster {self.scheduler} has no worker")
 
-    def _answers(self, task: Any) -> Iterator[Picture]:
+    def _answers(self, task: Any) -> Iterator[PictureRecord]:
         chunk = self.tasks.pop(task)
         try:
             answers = task.result()
@@ -137,15 +137,15 @@ def _chunks(work: Sequence[FoundFile]) -> Iterator[Sequence[FoundFile]]:
     yield chunk
 
 
-def _failed(file: FoundFile, why: str) -> Picture:
-    return looking.compared_with_before(file, Picture.of(file.path, file.root, file.stamp, problem=Problem.TOOL_FAILED, detail=why))
+def _failed(file: FoundFile, why: str) -> PictureRecord:
+    return looking.compared_with_before(file, PictureRecord.of(file.path, file.root, file.stamp, problem=Problem.TOOL_FAILED, detail=why))
 
 
-def _here(file: FoundFile, answer: Picture) -> Picture:
+def _here(file: FoundFile, answer: PictureRecord) -> PictureRecord:
     """A worker's result with the name and the marks that the file has here. A worker doesn't know which problems it had at the last run."""
     if answer.problem == Problem.VANISHED:
         detail = f"the worker has no such file: {os.fsdecode(answer.path)!r}"
-        return looking.compared_with_before(file, Picture.of(file.path, file.root, None, problem=Problem.UNREADABLE, detail=detail))
+        return looking.compared_with_before(file, PictureRecord.of(file.path, file.root, None, problem=Problem.UNREADABLE, detail=detail))
     same = answer.stamp is not None and file.stamp is not None and answer.stamp.size == file.stamp.size
     stamp = file.stamp if same else None
     if stamp and answer.stamp and answer.stamp.changed == RACY:

@@ -11,7 +11,7 @@ from typing import Deque, Iterator, List, Optional, Sequence, Tuple
 from ..catalogue.store import PICTURE_COLUMNS, Catalogue
 from ..files import opening
 from ..model.problems import NOT_THERE
-from ..model.records import Picture, picture_of_row
+from ..model.records import PictureRecord, picture_of_row
 from .batches import How, Result
 from .index import Look, looked
 from .walk import FoundFile
@@ -36,9 +36,9 @@ def looker(before: Catalogue) -> Look:
     return look
 
 
-def _known(catalogue: Catalogue, path: bytes) -> Picture:
+def _known(catalogue: Catalogue, path: bytes) -> PictureRecord:
     query = f"SELECT {PICTURE_COLUMNS} FROM pictures WHERE path = ?"
-    return next(catalogue.rows(query, (path,), picture_of_row), Picture())
+    return next(catalogue.rows(query, (path,), picture_of_row), PictureRecord())
 
 
 def _hashed(work: Sequence[FoundFile], threads: int) -> Iterator[Tuple[FoundFile, str]]:

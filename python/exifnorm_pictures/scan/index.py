@@ -17,7 +17,7 @@ from ..extract.sidecars import marks
 from ..model import budgets
 from ..model.found import EXIFTOOL, EXIV2, UNREAD_TRAILER
 from ..model.problems import AGAIN, GONE, NEEDED, Problem
-from ..model.records import Picture, is_as_before
+from ..model.records import PictureRecord, is_as_before
 from .batches import LONGEST_WAIT, Batch, How, Lines, Result
 from .excluded import Excluded
 from .moved import Departed, moved_together
@@ -173,7 +173,7 @@ def _worth_another(problem: Optional[str]) -> bool:
     return problem in AGAIN or (program is not None and programs.is_there(program))
 
 
-def _gone(options: IndexOptions, work: Work, catalogue: Catalogue) -> Tuple[List[Picture], Departed]:
+def _gone(options: IndexOptions, work: Work, catalogue: Catalogue) -> Tuple[List[PictureRecord], Departed]:
     """The pictures below the folders that are missing now, and the facts by which they are recognised under another name.
 
     Those of a folder that can't be read aren't gone: nothing is known of them. Neither are those that are excluded and still there.
@@ -188,19 +188,19 @@ def _gone(options: IndexOptions, work: Work, catalogue: Catalogue) -> Tuple[List
             if path in work.sidecars:
                 work.taken.append(number)
             elif not os.path.lexists(path):
-                gone.append(Picture.of(path, b"", problem=Problem.VANISHED, detail=Problem.VANISHED.text))
+                gone.append(PictureRecord.of(path, b"", problem=Problem.VANISHED, detail=Problem.VANISHED.text))
                 departed.add(catalogue, number, path)
             elif options.excluded and options.excluded.has_below(path[head:]):
                 options.excluded.known += 1
     return gone, departed
 
 
-def _named_wrong(work: Work, catalogue: Catalogue) -> Iterator[Picture]:
+def _named_wrong(work: Work, catalogue: Catalogue) -> Iterator[PictureRecord]:
     """A line for each folder that can't be read, and for each name without a file. The catalogue keeps none of it."""
     for unlisted in work.unlisted:
         known = catalogue.count_below(unlisted.path)
         kept = f"; its {known} pictures stay as they were" if known else ""
-        yield Picture.of(unlisted.path, b"", problem=Problem.UNREADABLE, detail=unlisted.reason + kept)
+        yield PictureRecord.of(unlisted.path, b"", problem=Problem.UNREADABLE, detail=unlisted.reason + kept)
 
 
 def _version(program: str, seconds: float) -> Optional[str]:
@@ -271,7 +271,7 @@ class _Looking:
             self.versions.update({it: _version(it, self.options.how.seconds) for it in new})
             self.catalogue.set_versions(self.run, self.version, self.versions.get(EXIFTOOL), self.versions.get(EXIV2))
 
-    def count(self, picture: Picture, lines: Optional[Lines]) -> None:
+    def count(self, picture: PictureRecord, lines: Optional[Lines]) -> None:
         """Counts and reports a picture."""
         self.work.counts[picture.state] += 1
         if lines:

@@ -15,7 +15,7 @@ from ..judge import judge
 from ..model.budgets import WHOLE_FILE, TooMuch
 from ..model.found import Blocks
 from ..model.problems import NO_BYTES, Problem
-from ..model.records import RACY, Block, Picture, Stamp
+from ..model.records import RACY, BlockRecord, PictureRecord, Stamp
 from ..model.texts import reason
 from .batches import How
 from .walk import FoundFile
@@ -28,17 +28,17 @@ if TYPE_CHECKING:
 FINE, COARSE = 20_000_000, 2_000_000_000
 
 
-def look(file: FoundFile, how: How, session: Session, packs: bool = True) -> Picture:
+def look(file: FoundFile, how: How, session: Session, packs: bool = True) -> PictureRecord:
     """The result for one file, its fields packed for a catalogue unless that isn't asked for. An error of any kind affects only this file."""
     return compared_with_before(file, _look(file, how, session, packs))
 
 
-def compared_with_before(file: FoundFile, picture: Picture) -> Picture:
+def compared_with_before(file: FoundFile, picture: PictureRecord) -> PictureRecord:
     """The result for a file, marked as known if the last run had the same problem with it."""
     return picture._replace(is_known=True) if picture.problem and picture.problem == file.problem else picture
 
 
-def _look(file: FoundFile, how: How, session: Session, packs: bool) -> Picture:
+def _look(file: FoundFile, how: How, session: Session, packs: bool) -> PictureRecord:
     began = _now()
     try:
         marks = sidecars.marks(file.path, file.sidecars, lambda *times: _is_racy(times, began)) if file.sidecars else ""
@@ -53,20 +53,20 @@ def _look(file: FoundFile, how: How, session: Session, packs: bool) -> Picture:
     except programs.Failed as error:
         return failed(file, str(error))
     except OSError as error:
-        return Picture.of(file.path, file.root, problem=Problem.UNREADABLE, detail=reason(error))
+        return PictureRecord.of(file.path, file.root, problem=Problem.UNREADABLE, detail=reason(error))
     except programs.Missing as error:
-        return Picture.found(file.path, file.root, file.stamp, Blocks(problem=Problem.NEEDS_EXIFTOOL, detail=str(error)))
+        return PictureRecord.found(file.path, file.root, file.stamp, Blocks(problem=Problem.NEEDS_EXIFTOOL, detail=str(error)))
     except MemoryError:
         return failed(file, "out of memory")
     except Exception as error:  # an error of a reader affects only this file
-        return Picture.found(file.path, file.root, file.stamp, extraction.failed_here(error, session))
+        return PictureRecord.found(file.path, file.root, file.stamp, extraction.failed_here(error, session))
     coded, beside, damage, whole = pixels
     notes = None if reading is None else _packed(reading)
     more = {"notes": notes, "coded_picture": coded, "beside": beside, "damage": damage, "sha256": whole, "sidecars": marks}
-    return Picture.found(file.path, file.root, _unless_changed(file, began), blocks, judged, file=whole_file, **more)
+    return PictureRecord.found(file.path, file.root, _unless_changed(file, began), blocks, judged, file=whole_file, **more)
 
 
-def _read(file: FoundFile, how: How, session: Session, packs: bool) -> Tuple[Blocks, List[Block]]:
+def _read(file: FoundFile, how: How, session: Session, packs: bool) -> Tuple[Blocks, List[BlockRecord]]:
     """The blocks of a file and its sidecars, and what they mean. A file over a limit has a problem, and so has one for which a program takes too long."""
     try:
         blocks = extraction.blocks_of_file(file.path, how.whole, session)
@@ -81,7 +81,7 @@ def _read(file: FoundFile, how: How, session: Session, packs: bool) -> Tuple[Blo
         return Blocks(problem=Problem.TOO_SLOW, detail=str(error)), []
 
 
-def _maker_notes(session: Session, path: bytes, judged: Sequence[Block]) -> "Optional[NotesReading]":
+def _maker_notes(session: Session, path: bytes, judged: Sequence[BlockRecord]) -> "Optional[NotesReading]":
     """What ExifTool reads of the MakerNotes of a picture that has one."""
     if all(block.note is None for block in judged):
         return None
@@ -115,9 +115,11 @@ def file_digest(path: bytes, blocks: Blocks, whole: bool) -> str:
     return digest_of_file(path, WHOLE_FILE if not whole else 1 << 62)
 
 
-def failed(file: FoundFile, why: str) -> Picture:
+def failed(file: FoundFile, why: str) -> PictureRecord:
     """The result for a file at which a program or a process failed."""
-    return compared_with_before(file, Picture.found(file.path, file.root, file.stamp, Blocks(problem=Problem.TOOL_FAILED, detail=why)))
+    return compared_with_before(
+        file, PictureRecord.found(file.path, file.root, file.stamp, Blocks(problem=Problem.TOOL_FAILED, detail=why))
+    )
 
 
 def _now() -> int:
@@ -155,7 +157,7 @@ def _is_racy(times: Sequence[int], began: int) -> bool:
     return times[1] > began or any(it % 1_000_000_000 == 0 or abs(began - it) < FINE for it in near)
 
 
-def in_this_process(work: Sequence[FoundFile], how: How) -> Iterator[Picture]:
+def in_this_process(work: Sequence[FoundFile], how: How) -> Iterator[PictureRecord]:
     """The results for these files, in their order."""
     with Session(how.seconds, how.debug, how.room or None) as session:
         for file in work:

@@ -7,7 +7,7 @@ from typing import Collection, Dict, Iterator, List, Optional, Sequence, Tuple
 
 from ..catalogue.store import Catalogue
 from ..model.problems import Problem
-from ..model.records import Picture
+from ..model.records import PictureRecord
 from ..model.texts import shown_path
 
 Key = Tuple[object, ...]
@@ -46,7 +46,7 @@ class Departed:
         if same is not None:
             self.went[same] = path
 
-    def settle(self, catalogue: Catalogue, run: int, gone: Sequence[Picture], new: Collection[bytes]) -> Iterator[Picture]:
+    def settle(self, catalogue: Catalogue, run: int, gone: Sequence[PictureRecord], new: Collection[bytes]) -> Iterator[PictureRecord]:
         """The report on each picture that is gone: moved, if one of those that are new in this run is the same, or missing."""
         if self.by_content or self.by_file:
             query = f"SELECT path, {_MARKS} FROM pictures WHERE run = ? AND problem IS NULL AND size IS NOT NULL ORDER BY id"
@@ -60,9 +60,9 @@ class Departed:
                 catalogue.base.executemany("UPDATE pictures SET problem = 'Moved', detail = ? WHERE path = ?", words)
         for picture in [*gone, *remounted]:
             to = self.went.get(picture.path)
-            yield picture if to is None else Picture.of(picture.path, b"", problem=Problem.MOVED, detail=f"to {shown_path(to)}")
+            yield picture if to is None else PictureRecord.of(picture.path, b"", problem=Problem.MOVED, detail=f"to {shown_path(to)}")
 
-    def _remounted(self, catalogue: Catalogue, run: int, new: Collection[bytes]) -> Iterator[Picture]:
+    def _remounted(self, catalogue: Catalogue, run: int, new: Collection[bytes]) -> Iterator[PictureRecord]:
         """The pictures of folders that are gone and whose files are new in this run: a file system that is mounted at another place.
 
         A folder that is gone may be a disk that isn't mounted, and a new file a copy of one on it. So the time and the inode must be the
@@ -76,7 +76,7 @@ class Departed:
                 if path in new and path not in used and old not in self.went and not os.path.lexists(old):
                     used.add(path)
                     self.went[old] = path
-                    yield Picture.of(old, b"")
+                    yield PictureRecord.of(old, b"")
 
 
 def moved_together(went: Dict[bytes, bytes]) -> Dict[Tuple[bytes, bytes], List[bytes]]:

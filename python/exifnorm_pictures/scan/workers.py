@@ -21,7 +21,7 @@ from ..extract import programs
 from ..files import signals
 from ..files.session import Session
 from ..model.budgets import READY_BYTES
-from ..model.records import Picture
+from ..model.records import PictureRecord
 from ..model.texts import reason
 from .batches import LONGEST_WAIT, Batch, How, Result, batch
 from .looking import failed, in_this_process, look
@@ -71,7 +71,7 @@ def _by_several(work: Sequence[FoundFile], how: How) -> Iterator[Result]:
 def look_at_some(task: Task, how: How) -> Batch:
     """A process's results for the first pictures of a task: for all of them, unless that takes too long or too much memory."""
     ends_at = time.monotonic() + LONGEST_WAIT
-    entries: List[Picture] = []
+    entries: List[PictureRecord] = []
     size = 0
     for file in task.chunk:
         entries.append(_look(file, how))
@@ -81,7 +81,7 @@ def look_at_some(task: Task, how: How) -> Batch:
     return batch(task.file, entries, task.chunk[len(entries) :], how.lines)
 
 
-def _look(file: FoundFile, how: How) -> Picture:
+def _look(file: FoundFile, how: How) -> PictureRecord:
     """A process's result for a file."""
     return look(file, how, _session.get())
 
@@ -180,7 +180,7 @@ def _pool(how: How, processes: int) -> ProcessPoolExecutor:
         raise
 
 
-def _one_by_one(chunk: Sequence[FoundFile], how: How) -> Iterator[Picture]:
+def _one_by_one(chunk: Sequence[FoundFile], how: How) -> Iterator[PictureRecord]:
     """The results for a chunk at which a process died: each file gets a process of its own, so that only one file fails."""
     for file in chunk:
         pool = _pool(how, 1)
