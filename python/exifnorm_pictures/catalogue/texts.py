@@ -4,9 +4,9 @@ from __future__ import annotations
 
 from typing import List, NamedTuple, Sequence, Set, Tuple
 
-from ..fields.labels import STANDARDS, LABEL_WORDS, LabelText, camera_of, not_kept, of_block, with_own
+from ..fields.labels import LABEL_WORDS, LabelText, camera_of, not_kept, of_block, with_own
 from ..fields.field import Field
-from ..model.found import NAMES
+from ..model.found import NAMES, STANDARDS
 from ..model.records import BlockRecord
 
 

@@ -9,9 +9,9 @@ from typing import TYPE_CHECKING, Dict, Iterator, List, Sequence, Set
 
 from ..comparison.conflicts import Conflict, ConflictKind, conflicts
 from ..fields.choosing import UnknownField
-from ..fields.labels import LABELS, STANDARDS, label_of
+from ..fields.labels import LABELS, label_of
 from ..judge.reading import Reading
-from ..model.found import damage
+from ..model.found import STANDARDS, damage
 from ..model.texts import Members, escaped, shown_path
 from .captions import text_members
 from .exit_codes import DIFFERENCE, SUCCESS, UNKNOWN

@@ -8,7 +8,8 @@ from collections import Counter
 from datetime import datetime
 from typing import Iterator, List, NamedTuple, Optional, Sequence, Tuple
 
-from ..fields.labels import DATE, EXIF, IPTC, LABELS, STANDARDS, XMP, Label, LabelText
+from ..fields.labels import DATE, LABELS, Label, LabelText
+from ..model.found import EXIF, IPTC, NAMES, STANDARDS, XMP
 from ..model.words import Word
 
 
@@ -56,7 +57,7 @@ _CHARACTER_SETS = {
     "big5": "Big5",
     "euc_kr": "EUC-KR",
 }
-_CLEAREST = (XMP, IPTC, EXIF)  # the order in which two texts are compared: that which is least often cut first
+_CLEAREST = (NAMES[XMP], NAMES[IPTC], NAMES[EXIF])  # the order in which two texts are compared: that which is least often cut first
 
 
 class Conflict(NamedTuple):
@@ -189,13 +190,13 @@ def _explained(label: Label, text: str, against: str, label_text: LabelText, at:
                 ConflictKind.CHARACTERS,
                 f"{label_text.field} is in {word}, which {'is not what it declares' if 'declared' in label_text.guess else 'nothing declares'}",
             )
-        if label_text.standard == IPTC and _is_cut(label, again, against, len(octets)):
+        if label_text.standard == NAMES[IPTC] and _is_cut(label, again, against, len(octets)):
             yield _How(ConflictKind.CUT, f"{label_text.field} is cut after {len(octets):,} bytes")
     if _without_detour(text) == against:
         yield _How(ConflictKind.CHARACTERS, f"{label_text.field} was read in a wrong character set before it was written")
     if _without_accents(text, against):
         yield _How(ConflictKind.CHARACTERS, f"{label_text.field} has ? for letters that it couldn't write")
-    if label_text.standard == IPTC and _is_cut(label, text, against, len(octets)):
+    if label_text.standard == NAMES[IPTC] and _is_cut(label, text, against, len(octets)):
         yield _How(ConflictKind.CUT, f"{label_text.field} is cut after {len(octets):,} bytes")
 
 

@@ -9,14 +9,12 @@ import functools
 import re
 from typing import Dict, Iterable, Iterator, List, NamedTuple, Optional, Sequence, Set, Tuple
 
+from ..model.found import EXIF, IPTC, NAMES, XMP
 from ..model.xmp_values import Long, texts_in
 from .field import Field
 from .own_texts import is_own
 from .plain_names import group_name, plain_name
 from .plain_texts import comment
-
-EXIF, IPTC, XMP = "Exif", "IPTC", "XMP"
-STANDARDS = (EXIF, IPTC, XMP)  # the first one that has a text wins where there is space for one
 
 
 class Label(NamedTuple):
@@ -119,7 +117,7 @@ class LabelText(NamedTuple):
     """The texts of one field for a label."""
 
     label: str
-    standard: str  # EXIF, IPTC or XMP
+    standard: str  # one of STANDARDS
     field: str  # `IFD0:Artist`
     texts: Tuple[str, ...]  # several of a list
     octets: Tuple[bytes, ...] = ()  # of Exif and IPTC, as they are in the file
@@ -206,10 +204,10 @@ def _of_octets_fields(fields: Sequence[Field]) -> Iterator[LabelText]:
         if label.word == DATE:
             yield from _dates(exif, record)
         elif label.exif in exif:
-            yield _of_octets(label, EXIF, group_name("main", label.exif), exif[label.exif], label.exif in utf8)
+            yield _of_octets(label, NAMES[EXIF], group_name("main", label.exif), exif[label.exif], label.exif in utf8)
         if label.word != DATE and label.iptc in record:
             is_utf8 = record.get("1:90") == [b"\x1b%G"]
-            yield _of_octets(label, IPTC, group_name("iptc", label.iptc), record[label.iptc], is_utf8)
+            yield _of_octets(label, NAMES[IPTC], group_name("iptc", label.iptc), record[label.iptc], is_utf8)
     yield from _extra(exif)
 
 
@@ -241,12 +239,12 @@ def _extra(exif: _Values) -> Iterator[LabelText]:
     for octets in exif.get("9286", []):
         text = comment(octets)
         if text:
-            yield LabelText(COMMENT, EXIF, group_name("exif", "9286"), (text,), is_extra=True)
+            yield LabelText(COMMENT, NAMES[EXIF], group_name("exif", "9286"), (text,), is_extra=True)
     for tag, word in WINDOWS.items():
         for octets in exif.get(tag, []):
             text = octets[: len(octets) & ~1].decode("utf-16-le", "replace").rstrip("\0 ")
             if text:
-                yield LabelText(word, EXIF, group_name("main", tag), (text,), is_extra=True)
+                yield LabelText(word, NAMES[EXIF], group_name("main", tag), (text,), is_extra=True)
 
 
 # Dates
@@ -259,12 +257,12 @@ def _dates(exif: _Values, record: _Values) -> Iterator[LabelText]:
         text += f".{_text(exif['9291'])}" if _text(exif.get("9291")).isdigit() else ""
         zone = _text(exif.get("9011"))
         text += zone if re.fullmatch(r"Z|[+-]\d\d:\d\d", zone) else ""
-        yield LabelText(DATE, EXIF, group_name("exif", "9003"), (text if text.strip(" -:0.") else "",))
+        yield LabelText(DATE, NAMES[EXIF], group_name("exif", "9003"), (text if text.strip(" -:0.") else "",))
     if "2:55" in record:
         day, time = _text(record["2:55"]), _text(record.get("2:60"))
         text = re.sub(r"^(\d{4})(\d\d)(\d\d)$", r"\1-\2-\3", day)
         text += re.sub(r"^(\d\d)(\d\d)(\d\d)(?:([+-]\d\d)(\d\d))?$", _time, time) if re.match(r"\d{6}", time) else ""
-        yield LabelText(DATE, IPTC, group_name("iptc", "2:55"), (text if text.strip(" -:0+") else "",))
+        yield LabelText(DATE, NAMES[IPTC], group_name("iptc", "2:55"), (text if text.strip(" -:0+") else "",))
 
 
 def _time(match: "re.Match[str]") -> str:
@@ -286,7 +284,7 @@ def _of_properties(fields: Sequence[Field]) -> Iterator[LabelText]:
             values = by_key[label.xmp]
             yield LabelText(
                 label.word,
-                XMP,
+                NAMES[XMP],
                 group_name("xmp", label.xmp),
                 tuple(it.replace("T", " ") for it in values) if label.word == DATE else values,
             )

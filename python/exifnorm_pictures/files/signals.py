@@ -27,7 +27,9 @@ class ClosedOutput(Failure):
     """Standard output is closed, so nothing can be printed."""
 
 
-_stopped: Optional[BaseException] = None  # what the last signal raised
+# What the last signal raised. It is no part of a session, because the system has one handler of a signal for the whole process, which is
+# called between any two steps of the first thread and knows no session. In a program that reads pictures no handler is set.
+_stopped: Optional[BaseException] = None
 
 
 def go_on_stopping() -> None:

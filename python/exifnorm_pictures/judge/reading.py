@@ -8,7 +8,7 @@ from typing import TYPE_CHECKING, List, Optional
 from ..extract.extraction import too_much
 from ..fields.block_fields import fields_of
 from ..model.budgets import TooMuch
-from ..model.found import EXIF, NAMES, Blocks, FoundBlock, cut, damage, not_known
+from ..model.found import EXIF, NAMES, STANDARDS, Blocks, FoundBlock, cut, damage, not_known
 from ..model.records import BlockRecord
 from .judge import judge_all
 
@@ -67,7 +67,7 @@ class Reading:
     def texts(self) -> List[LabelText]:
         """The texts by label, in the order of the standards. Those of a refused block are read after its repair, if one is known."""
         if self._texts is None:
-            from ..fields.labels import STANDARDS, camera_of, of_block, with_own  # which show and explain don't need
+            from ..fields.labels import camera_of, of_block, with_own  # which show and explain don't need
 
             texts = [
                 text._replace(block="" if block.name == NAMES[block.kind] else block.name)

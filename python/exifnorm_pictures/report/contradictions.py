@@ -12,7 +12,8 @@ from typing import Dict, Iterator, List, NamedTuple
 from ..catalogue.store import Catalogue
 from ..catalogue.texts import PictureTexts, texts_of
 from ..comparison.conflicts import Conflict, conflicts
-from ..fields.labels import COMMENT, STANDARDS, LABEL_WORDS
+from ..fields.labels import COMMENT, LABEL_WORDS
+from ..model.found import STANDARDS
 from ..fields.block_fields import with_fields
 from ..model.records import BlockRecord, PictureRecord
 

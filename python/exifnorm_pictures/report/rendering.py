@@ -8,7 +8,7 @@ from datetime import datetime
 from typing import TYPE_CHECKING, Any, Dict, List, Optional, Sequence
 
 from ..catalogue.checking import Checked
-from ..fields.labels import STANDARDS
+from ..model.found import STANDARDS
 from ..model.problems import NOT_THERE
 from .changes import Changes
 from .contents import About, unproved
