@@ -240,9 +240,9 @@ class NotRead(NamedTuple):
 
 def jpeg_unread(picture: Block) -> Optional[Unread]:
     """The first place in a JPEG at which something is that other programs read as Exif or IPTC, or may, and `jpeg_same` doesn't, or the
-    reverse: a segment APP1 that seems to be Exif by another mark, APP13 with another mark than Photoshop's, resource 0422, resource 0404
-    with another signature than 8BIM, or bytes other than zeros after the last resource. None if there is none: of two such JPEGs
-    `jpeg_same` reads all.
+    reverse: a segment APP1 that seems to be Exif by another mark, APP13 with another mark than Photoshop's and Adobe_CM, resource 0422,
+    resource 0404 with another signature than 8BIM, or bytes other than zeros after the last resource. None if there is none: of two such
+    JPEGs `jpeg_same` reads all.
 
     The bytes may be a whole file or only its first bytes. Raises HeadRefused, with the first fault, if they don't begin with the whole
     head of a JPEG; MemoryError and LibraryMissing.

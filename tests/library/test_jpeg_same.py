@@ -129,6 +129,7 @@ SAME = {
     "zeros after the resources": (picture(photoshop(resource(0x0404, CAPTION) + bytes(5))), picture(iptc(CAPTION))),
     "empty resources that aren't read": (picture(photoshop(resource(0x0422, b"") + resource(0x0404, b"", b"AgHg"))), picture()),
     "an empty APP13, and APP1 without the word": (picture(segment(0xED, b""), segment(0xE1, b"Exif\0")), picture()),
+    "APP13 with a colour model": (picture(segment(0xED, b"Adobe_CM\0\2"), segment(0xED, b"Adobe_CM")), picture()),
     "what is behind the head": (picture(end=SCAN + exif(ONE)), picture(end=SCAN)),
     "IPTC in a trailer": (picture(end=END + b"AXS!" + CAPTION), picture()),
     "IPTC in a second APP13": (picture(photoshop(resource(0x03ED, bytes(16))), COMMENT, iptc(CAPTION)), picture(iptc(LONG_CAPTION))),
@@ -150,7 +151,8 @@ NOT_ALL = {
     "APP1 in capitals": (picture(COMMENT, segment(0xE1, b"EXIF\0\0" + ONE)), picture(), (False, 6 + len(COMMENT))),
     "APP1 after four bytes": (picture(exif(ONE), segment(0xE1, b"abcdExif\0\0" + ONE)), picture(exif(TURNED)), (False, 6 + len(exif(ONE)))),
     "APP13 with another mark": (picture(segment(0xED, b"Adobe_Photoshop2.5:" + CAPTION)), picture(), (False, 6)),
-    "APP13 of colours": (picture(segment(0xED, b"Adobe_CM\0\2")), picture(), (False, 6)),
+    "APP13 with a part of the colour model's mark": (picture(segment(0xED, b"Adobe_C")), picture(), (False, 6)),
+    "APP1 with the colour model's mark": (picture(segment(0xE1, b"Adobe_CM\0\2"), segment(0xED, b"x")), picture(), (False, 20)),
     "Exif of Photoshop": (picture(photoshop(resource(0x0422, ONE))), picture(), (False, 6 + 14 + 12)),
     "IPTC by another signature": (picture(photoshop(resource(0x0404, CAPTION, b"AgHg"))), picture(iptc(CAPTION)), (False, 6 + 14 + 12)),
     "what follows the last resource": (

@@ -305,9 +305,9 @@ uint32_t exifnorm_jpeg_same(const unsigned char *first, size_t first_length,   /
 
 /* Finds the first place in a picture at which something is that other programs read as Exif or IPTC, or may, and exifnorm_jpeg_same
  * doesn't, or the reverse: a segment APP1 that has "Exif" in any case and a zero among its first nine bytes, but doesn't begin with "Exif"
- * and two zeros; a segment APP13 with any data that doesn't begin with "Photoshop 3.0" and a zero; Photoshop's resource 0x0422 with any
- * data; resource 0x0404 with another signature than "8BIM", which only some programs read; or what follows the last resource, unless all
- * of it is zeros. Segments come before resources.
+ * and two zeros; a segment APP13 with any data that begins neither with "Photoshop 3.0" and a zero nor with "Adobe_CM"; Photoshop's
+ * resource 0x0422 with any data; resource 0x0404 with another signature than "8BIM", which only some programs read; or what follows the
+ * last resource, unless all of it is zeros. Segments come before resources.
  *
  *   DONE       unread is set.
  *   REFUSED    fault is set: the bytes have no head, or EXIFNORM_JPEG_TOO_LONG.

@@ -284,9 +284,9 @@ pub extern "C" fn exifnorm_jpeg_same(
 
 /// Stores in `unread` the first place in a picture at which something is that other programs read as metadata, or may,
 /// and that `exifnorm_jpeg_same` doesn't read: an APP1 segment that seems to be Exif by another mark, an APP13 segment
-/// with another mark than Photoshop's, Photoshop's resource 0x0422, or what follows the last resource, unless that is
-/// zeros. `found` is 0 if there is none: of two such pictures the comparison has read all. Allocates the blocks in
-/// several pieces.
+/// with another mark than Photoshop's and `Adobe_CM`, Photoshop's resource 0x0422, or what follows the last resource,
+/// unless that is zeros. `found` is 0 if there is none: of two such pictures the comparison has read all. Allocates the
+/// blocks in several pieces.
 ///
 /// `REFUSED`: the bytes have no head, or too many bytes are joined, and `fault` says which. `NO_MEMORY`: an allocation
 /// failed. Only success changes `unread`, and only a refusal changes `fault`.

@@ -31,9 +31,14 @@ names_exif k x =
 unfoldable pub seems_exif : List ℕ → Bool
 seems_exif x = names_exif 0 x || names_exif 1 x || names_exif 2 x || names_exif 3 x || names_exif 4 x
 
--- APP1, E1, that seems to be Exif, or APP13, ED, with any data
+-- 'Adobe_CM': so begin the data of APP13 that are Adobe's colour model, which no program reads as Exif or IPTC
+unfoldable pub is_colour_model : List ℕ → Bool
+is_colour_model x = starts_with nat_eq x (65 ∷ 100 ∷ 111 ∷ 98 ∷ 101 ∷ 95 ∷ 67 ∷ 77 ∷ [])
+
+-- APP1, E1, that seems to be Exif, or APP13, ED, with any data but the colour model
 unfoldable pub may_tell : ℕ → List ℕ → Bool
-may_tell code x = ((code == 225) && seems_exif x) || ((code == 237) && nat_lt 0 (length x))
+may_tell code x =
+    ((code == 225) && seems_exif x) || ((code == 237) && nat_lt 0 (length x) && (if is_colour_model x then false else true))
 
 -- a segment in which there is no piece of a block
 abbrev pub is_unread : Option Piece → ℕ → List ℕ → Bool

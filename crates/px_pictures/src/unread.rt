@@ -4,8 +4,8 @@ ghost use Rattle.px_bytes.specs.Lacking.{AsksAtMost};
 ghost use Rattle.px_jpeg.specs.Pieces.{range, with_pieces};
 ghost use Rattle.px_pictures.specs.Asking.{join_request};
 ghost use Rattle.px_pictures.specs.Faults.{IsHeadFault, LacksFound};
-ghost use Rattle.px_pictures.specs.Unread.{is_letter, names_exif, seems_exif, may_tell, unread_segment, are_zeros};
-ghost use Rattle.px_pictures.specs.Unread.{is_adobe, is_doubtful, unread_rest, unread_resources};
+ghost use Rattle.px_pictures.specs.Unread.{is_letter, names_exif, seems_exif, is_colour_model, may_tell, unread_segment};
+ghost use Rattle.px_pictures.specs.Unread.{are_zeros, is_adobe, is_doubtful, unread_rest, unread_resources};
 ghost use Rattle.px_pictures.specs.Unread.{IsUnread, unread_in_block, unread_in_blocks};
 
 use crate::faults::Fault;
@@ -62,12 +62,21 @@ fn seems_exif(octets: &[u8]) -> bool
         || names_exif(4, octets)
 }
 
+// Whether the data of an APP13 segment are Adobe's colour model, which no program reads as Exif or IPTC.
+#[tactic(auto, unfolding(crate::specs::Unread::is_colour_model))]
+fn is_colour_model(octets: &[u8]) -> bool
+    ensures { result ≡ is_colour_model octets.now }
+{
+    octets.starts_with(b"Adobe_CM")
+}
+
 // Whether a segment with this marker and these data may have metadata.
 #[tactic(auto, unfolding(crate::specs::Unread::may_tell))]
 fn may_tell(code: u8, octets: &[u8]) -> bool
     ensures { result ≡ may_tell code octets.now }
 {
-    (code == 0xE1 && seems_exif(octets)) || (code == 0xED && !octets.is_empty())
+    (code == 0xE1 && seems_exif(octets))
+        || (code == 0xED && !octets.is_empty() && !is_colour_model(octets))
 }
 
 // The offset of the data of the first segment without a piece of a block that may have metadata.
@@ -206,9 +215,9 @@ impl<'a> Metadata<'a> {
 /// The first place in a picture at which something is that other programs read as metadata, or may, and that
 /// `same_metadata_in` doesn't read. `None`: there is none, so two such pictures are the same exactly if
 /// `same_metadata_in` says so. Such a place is an APP1 segment that seems to be Exif by another mark, an APP13 segment
-/// with another mark than Photoshop's, Photoshop's resource 0x0422, resource 0x0404 by another signature than `8BIM`,
-/// which is read here and by some other programs alone, or what follows the last resource, unless that is zeros. The
-/// first of the segments comes first. Allocates what `metadata_of_in` does, and has its faults.
+/// with another mark than Photoshop's and `Adobe_CM`, Photoshop's resource 0x0422, resource 0x0404 by another signature
+/// than `8BIM`, which is read here and by some other programs alone, or what follows the last resource, unless that is
+/// zeros. The first of the segments comes first. Allocates what `metadata_of_in` does, and has its faults.
 pub fn unread_in(memory: &mut Memory, bytes: &[u8]) -> Result<Option<Unread>, Fault>
     ensures found { IfOk result (IsUnread bytes.now) }
     ensures fault { IfErr result (IsHeadFault bytes.now memory.new.refusals) }

@@ -84,7 +84,10 @@ static int seems_exif(const unsigned char *bytes, size_t size) {
 static int is_unread_part(const Part *part) {
     if (part->kind != EXIFNORM_JPEG_OTHER || part->size == 0)
         return 0;
-    return part->marker == 0xED || (part->marker == 0xE1 && seems_exif(head.bytes + part->start, part->size));
+    const unsigned char *bytes = head.bytes + part->start;
+    if (part->marker == 0xED)
+        return part->size < 8 || memcmp(bytes, "Adobe_CM", 8) != 0;
+    return part->marker == 0xE1 && seems_exif(bytes, part->size);
 }
 
 static size_t resources_of(const Block *block, Resource *resources) {

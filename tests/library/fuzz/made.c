@@ -116,10 +116,12 @@ static void add_resources(struct script *script, struct head *head) {
     add_block(script, head, EXIFNORM_JPEG_PHOTOSHOP, list.bytes, list.length);
 }
 
-/* The marker of Exif or of Photoshop without their marks, perhaps with what other programs take for one. */
+/* The marker of Exif or of Photoshop without their marks, perhaps with what other programs take for one, or with that of a colour model. */
 static void add_other_mark(struct script *script, struct head *head, unsigned marker) {
     unsigned char bytes[DATA + 16];
     size_t length = 0, before = next(script) % 6;
+    if (before == 5)
+        put(bytes, &length, "Adobe_CM", 8);
     while (length < before)
         bytes[length++] = (unsigned char)next(script);
     put(bytes, &length, next(script) % 2 ? "EXIF" : "exif", 5);
