@@ -10,6 +10,7 @@ by the number of pictures, in millions; the memory is the most that SQLite and P
 
 import argparse
 import contextlib
+import importlib
 import io
 import os
 import random
@@ -25,7 +26,7 @@ sys.path.insert(0, str(TOP / "python"))
 sys.dont_write_bytecode = True
 
 from exifnorm_pictures.catalogue.label_texts import kept_text
-from exifnorm_pictures.catalogue.store import Catalogue, put_rows
+from exifnorm_pictures.catalogue.store import Catalogue, put_rows, put_text
 from exifnorm_pictures.cli.main import main as command
 from exifnorm_pictures.model.records import PictureRecord
 
@@ -71,7 +72,6 @@ def texts_of(chosen: random.Random, number: int) -> Iterator[Tuple[str, str]]:
 def make(name: str, count: int) -> None:
     """A catalogue of so many pictures."""
     chosen = random.Random(1)
-    insert = "INSERT INTO texts (picture, number, label, text, head, folded) VALUES (?, ?, ?, ?, ?, ?)"
     with Catalogue(name, make=True) as catalogue:
         run = catalogue.begin_run("2026-01-01T00:00:00Z")
         for first in range(1, count + 1, 10_000):
@@ -89,13 +89,14 @@ def make(name: str, count: int) -> None:
             with catalogue.transaction():
                 put_rows(catalogue.base, run, first, pictures)
                 rows = ((number, at, *kept_text(*text)) for number in numbers for at, text in enumerate(texts_of(chosen, number)))
-                catalogue.base.executemany(insert, rows)
+                catalogue.base.executemany(put_text("texts"), rows)
                 catalogue.set_prepared(numbers[-1])
 
 
 def measured(words: Sequence[str]) -> Tuple[float, float, int]:
     """The processor time of a command in a process of its own, the most memory in MB, and the number of lines that it prints."""
     read, write = os.pipe()
+    importlib.import_module("exifnorm_pictures.cli.list")  # which isn't measured
     child = os.fork()
     if not child:
         out = io.TextIOWrapper(io.BytesIO(), encoding="utf-8")

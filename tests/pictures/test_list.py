@@ -331,7 +331,7 @@ def test_a_question_visits_few_rows(folder, called):
     """A text is looked up, however many pictures have others: SQLite's steps at ten times as many pictures."""
     from exifnorm_pictures.catalogue.asking import Answer
     from exifnorm_pictures.catalogue.label_texts import kept_text
-    from exifnorm_pictures.catalogue.store import Catalogue, put_rows
+    from exifnorm_pictures.catalogue.store import Catalogue, put_rows, put_text
     from exifnorm_pictures.fields.questions import question_of
     from exifnorm_pictures.model.records import PictureRecord
 
@@ -349,8 +349,7 @@ def test_a_question_visits_few_rows(folder, called):
                     for number in range(1, count + 1)
                     for at, text in enumerate((("creator", f"Name {number}"), ("title", "Vase")))
                 )
-                insert = "INSERT INTO texts (picture, number, label, text, head, folded) VALUES (?, ?, ?, ?, ?, ?)"
-                catalogue.base.executemany(insert, texts)
+                catalogue.base.executemany(put_text("texts"), texts)
                 catalogue.set_prepared(count)
         with Catalogue(name) as catalogue:
             counted = 0
@@ -359,8 +358,8 @@ def test_a_question_visits_few_rows(folder, called):
                 nonlocal counted
                 counted += 1
 
-            answer = Answer(catalogue, question_of("creator = 'name 77'"))
             catalogue.base.set_progress_handler(count_steps, 1)
+            answer = Answer(catalogue, question_of("creator = 'name 77'"))
             assert len(list(answer.pictures())) == 1
             steps[count] = counted
     assert steps[10_000] < 2 * steps[1_000], steps

@@ -7,8 +7,9 @@ it fits, it doesn't, or that is not known. SQLite is asked for the pictures that
 from __future__ import annotations
 
 import functools
+import itertools
 from dataclasses import dataclass
-from typing import Callable, Dict, Iterator, List, NamedTuple, Optional, Sequence, Tuple
+from typing import Callable, Dict, Iterator, List, NamedTuple, Optional, Sequence, Tuple, Union
 
 from ..fields.folding import bare, folded
 from ..fields.labels import DATE, PRIVATE
@@ -16,23 +17,24 @@ from ..fields.questions import All, Any, Condition, Not, Question, With, labels_
 from ..model.problems import NOT_THERE, Problem
 from ..model.records import has
 from .kept_texts import Report, make_ready, say_nothing
-from .store import HEAD, Catalogue
+from .store import HEAD, NOT_WHOLE, Catalogue
 
-_WHOLE = f"CASE WHEN length(head) < {HEAD} THEN head ELSE ifnull(folded, lower(text)) END"  # a text as it is compared
+_WHOLE = "ifnull(folded, lower(text))"  # a long text as it is compared; of a short one it is the head
 _LAST = "\U0010ffff"  # sorts after each other character
 
 # Files that are no pictures, or that are gone, are none of the pictures that a question is about
 LEFT_OUT = (Problem.NO_PICTURE, *NOT_THERE)
-IN_SCOPE = f"(p.problem IS NULL OR p.problem NOT IN ({', '.join('?' * len(LEFT_OUT))}))"
-# What makes a missing text unknown: an unread part that can have texts, or a block that was refused and not read after a repair
-OPEN = (
-    "(p.problem IS NOT NULL OR p.other_not_read IS NOT '' OR p.iptc IS NULL OR p.xmp IS NULL OR (p.exif IS NULL AND p.exif_repaired IS NULL)"
-    " OR p.id IN (SELECT picture FROM texts WHERE label = ''))"
-)
-
-
+_LEFT_OUT = f"SELECT id FROM pictures WHERE ({NOT_WHOLE}) AND problem IN ({', '.join(repr(str(word)) for word in LEFT_OUT)})"
+IN_SCOPE = f"p.id NOT IN ({_LEFT_OUT})"
+# What makes a missing text unknown
+OPEN = f"p.id IN (SELECT id FROM pictures WHERE {NOT_WHOLE} UNION ALL SELECT picture FROM texts WHERE label = '')"
 # What makes a missing serial number or owner unknown, too: a MakerNote that ExifTool wasn't asked about
 NOTE_NOT_READ = "(p.maker_notes != '' AND p.id NOT IN (SELECT picture FROM maker_notes))"
+
+
+def unread(labels: Sequence[str]) -> str:
+    """What makes it unknown whether a picture has a text of some labels."""
+    return f"({OPEN} OR {NOTE_NOT_READ})" if any(label in PRIVATE for label in labels) else OPEN
 
 
 class _Part(NamedTuple):
@@ -46,19 +48,36 @@ def _joined(word: str, parts: Sequence[_Part]) -> _Part:
     return _Part("(" + f" {word} ".join(part.sql for part in parts) + ")", tuple(value for part in parts for value in part.values))
 
 
-def _condition(question: Question, is_sure: bool) -> _Part:
-    """The pictures that fit a question surely, or that may fit it."""
-    if isinstance(question, Not):
-        part = _condition(question.question, not is_sure)
-        return _Part(f"NOT {part.sql}", part.values)
-    if isinstance(question, (All, Any)):
-        return _joined("AND" if isinstance(question, All) else "OR", [_condition(it, is_sure) for it in question.questions])
-    texts = [_Part("label = ?", (question.label,))] if isinstance(question, With) else _compared(question)
-    rows = " UNION ALL ".join(f"SELECT picture FROM texts WHERE {part.sql}" for part in texts)
-    found = _Part(f"p.id IN ({rows})", tuple(value for part in texts for value in part.values))
-    if is_sure:
-        return found
-    return _Part(f"({found.sql} OR {OPEN}{f' OR {NOTE_NOT_READ}' * (question.label in PRIVATE)})", found.values)
+class _Found:
+    """The pictures with the texts of each condition, each in a temporary table: several queries use them, and find them once."""
+
+    _numbers = itertools.count()
+
+    def __init__(self, catalogue: Catalogue) -> None:
+        self._catalogue = catalogue
+        self._tables: Dict[Union[Condition, With], str] = {}
+
+    def table(self, question: Union[Condition, With]) -> str:
+        """The name of the table for a condition."""
+        if question not in self._tables:
+            self._tables[question] = name = f"temp.found{next(self._numbers)}"
+            texts = [_Part("label = ?", (question.label,))] if isinstance(question, With) else _compared(question)
+            with self._catalogue.guarded():
+                self._catalogue.base.execute(f"CREATE TABLE {name} (picture INTEGER PRIMARY KEY)")
+                for part in texts:
+                    query = f"INSERT OR IGNORE INTO {name} SELECT picture FROM texts WHERE {part.sql}"
+                    self._catalogue.base.execute(query, part.values)
+        return self._tables[question]
+
+    def condition(self, question: Question, is_sure: bool) -> str:
+        """The pictures that fit a question surely, or that may fit it, in SQL."""
+        if isinstance(question, Not):
+            return f"NOT {self.condition(question.question, not is_sure)}"
+        if isinstance(question, (All, Any)):
+            word = " AND " if isinstance(question, All) else " OR "
+            return f"({word.join(self.condition(it, is_sure) for it in question.questions)})"
+        found = f"p.id IN (SELECT picture FROM {self.table(question)})"
+        return found if is_sure else f"({found} OR {unread([question.label])})"
 
 
 def _compared(question: Condition) -> List[_Part]:
@@ -70,38 +89,43 @@ def _compared(question: Condition) -> List[_Part]:
         parts = _WORDS[question.comparison](value)
     else:
         number = f"CAST(head AS REAL) {question.comparison} ?"
-        parts = [_Part(f"{number} AND head GLOB '[-+0-9]*' AND head NOT GLOB '?*[^0-9.]*'", (float(value),))]
+        parts = [_Part(f"long = 0 AND {number} AND head GLOB '[-+0-9]*' AND head NOT GLOB '?*[^0-9.]*'", (float(value),))]
     return [_Part(f"label = ? AND {part.sql}", (question.label, *part.values)) for part in parts]
 
 
 def _equal(value: str) -> List[_Part]:
     if len(value) < HEAD:
-        return [_Part("head = ?", (value,))]
-    return [_Part(f"head = ? AND {_WHOLE} = ?", (value[:HEAD], value))]
+        return [_Part("long = 0 AND head = ?", (value,))]
+    return [_Part(f"long = 1 AND head = ? AND {_WHOLE} = ?", (value[:HEAD], value))]
 
 
 def _has(value: str) -> List[_Part]:
-    return [_Part(f"instr({_WHOLE}, ?)", (value,))]
+    return _in_all("instr({}, ?)", value)
 
 
 def _like(value: str) -> List[_Part]:
-    return [_Part(f"{_WHOLE} GLOB ?", (value.replace("[", "[[]"),))]
+    return _in_all("{} GLOB ?", value.replace("[", "[[]"))
+
+
+def _in_all(test: str, value: str) -> List[_Part]:
+    """A test of whole texts, short and long ones."""
+    return [_Part(f"long = {long} AND {test.format(text)}", (value,)) for long, text in ((0, "head"), (1, _WHOLE))]
 
 
 _WORDS: Dict[str, Callable[[str], List[_Part]]] = {"=": _equal, "has": _has, "like": _like}
 
 
 def _within(value: str) -> List[_Part]:
-    return [_Part("head >= ? AND head < ?", (value, value + _LAST))]
+    return [_Part("long = 0 AND head >= ? AND head < ?", (value, value + _LAST))]
 
 
 def _before(value: str) -> List[_Part]:
     # a date that is known less exactly, as 1950 for 1950-03, is neither before nor after it
-    return [_Part("head < ? AND substr(?, 1, length(head)) != head", (value, value))]
+    return [_Part("long = 0 AND head < ? AND substr(?, 1, length(head)) != head", (value, value))]
 
 
 def _after(value: str) -> List[_Part]:
-    return [_Part("head > ?", (value + _LAST,))]
+    return [_Part("long = 0 AND head > ?", (value + _LAST,))]
 
 
 # Dates are compared as far as the given one goes: 1950-03-21 is in 1950, and not after it
@@ -123,7 +147,7 @@ class Scope:
 
     def condition(self) -> _Part:
         """The same for SQLite."""
-        parts = [_Part(IN_SCOPE, tuple(LEFT_OUT))]
+        parts = [_Part(IN_SCOPE)]
         if self.since is not None:
             parts.append(_Part("p.run IN (SELECT id FROM runs WHERE started >= ?)", (self.since,)))
         if self.only is not None:
@@ -156,8 +180,11 @@ class Answer:
         self._catalogue = catalogue
         self.labels = labels_of(question) if question else []  # that are asked for
         self._scope = scope.condition()
-        self._sure = _joined("AND", [self._scope, *([_condition(question, True)] if question else [])])
-        self._may = _joined("AND", [self._scope, *([_condition(question, False)] if question else [])])
+        self._found = _Found(catalogue)
+        sure, may = ([_Part(self._found.condition(question, is_sure))] if question else [] for is_sure in (True, False))
+        self._sure, self._may = _joined("AND", [self._scope, *sure]), _joined("AND", [self._scope, *may])
+        self._not_known: Optional[int] = None
+        self._are_all = question is None and scope == Scope()
 
     def count(self) -> int:
         """How many pictures the question is about."""
@@ -165,16 +192,24 @@ class Answer:
 
     def not_known(self) -> int:
         """Of how many pictures it isn't known whether they fit, because they were not wholly read."""
-        return self._count(_joined("AND", [self._may, _Part(f"NOT {self._sure.sql}", self._sure.values)]))
+        if self._not_known is None:
+            parts = [_Part(unread(self.labels)), self._may, _Part(f"NOT {self._sure.sql}", self._sure.values)]
+            self._not_known = self._count(_joined("AND", parts)) if self.labels else 0
+        return self._not_known
 
     def having(self, label: str) -> Tuple[int, int, int]:
         """Of the pictures that fit: how many have a text of a label, how many have none, and of how many that isn't known."""
-        texts = _Part("p.id IN (SELECT picture FROM texts WHERE label = ?)", (label,))
-        having = self._count(_joined("AND", [self._sure, texts]))
-        others = _joined("AND", [self._sure, _Part(f"NOT {texts.sql}", texts.values)])
-        unread = _Part(f"({OPEN} OR {NOTE_NOT_READ})" if label in PRIVATE else OPEN)
-        not_known = self._count(_joined("AND", [others, unread]))
-        return having, self._count(others) - not_known, not_known
+        fits, table = self._of_fitting(), self._found.table(With(label))
+        having = int(next(self._catalogue.rows(f"SELECT count(*) FROM {table} WHERE {fits.sql}", fits.values))[0])
+        without = _Part(f"p.id NOT IN (SELECT picture FROM {table})")
+        not_known = self._count(_joined("AND", [_Part(unread([label])), self._sure, without]))
+        return having, self._count(self._sure) - having - not_known, not_known
+
+    def _of_fitting(self) -> _Part:
+        """The texts of the pictures that fit. If all do, no picture is looked up."""
+        if self._are_all:
+            return _Part(f"picture NOT IN ({_LEFT_OUT})")
+        return _Part(f"picture IN (SELECT p.id FROM pictures p WHERE {self._sure.sql})", self._sure.values)
 
     def _count(self, part: _Part) -> int:
         return int(next(self._catalogue.rows(f"SELECT count(*) FROM pictures p WHERE {part.sql}", part.values))[0])
@@ -186,7 +221,7 @@ class Answer:
 
     def texts_of(self, picture: Fitting, labels: Sequence[str]) -> List[Tuple[str, ...]]:
         """The texts of a picture for some labels."""
-        query = "SELECT text FROM texts WHERE label = ? AND picture = ? ORDER BY number"
+        query = "SELECT text FROM texts WHERE label = ? AND long IN (0, 1) AND picture = ? ORDER BY number"
         return [tuple(self._catalogue.rows(query, (label, picture.id), _text)) for label in labels]
 
     def counted(self, label: str) -> "Iterator[Tuple[str, int, str]]":
@@ -197,11 +232,13 @@ class Answer:
         with self._catalogue.guarded():
             base.execute("DROP TABLE IF EXISTS temp.counted")
             base.execute("CREATE TEMP TABLE counted (text TEXT, pictures INTEGER, bare TEXT)")
-            base.execute(
-                "INSERT INTO temp.counted SELECT text, count(*), bare(text) FROM texts WHERE label = ?"
-                f" AND picture IN (SELECT p.id FROM pictures p WHERE {self._sure.sql}) GROUP BY text",
-                (label, *self._sure.values),
-            )
+            fits = self._of_fitting()
+            for kind in ("long = 0", "long = 1"):  # an index has short texts in their order
+                base.execute(
+                    "INSERT INTO temp.counted SELECT text, count(*), bare(text) FROM texts"
+                    f" WHERE label = ? AND {kind} AND {fits.sql} GROUP BY head, text",
+                    (label, *fits.values),
+                )
             base.execute("CREATE INDEX temp.counted_by_bare ON counted (bare)")
         yield from self._catalogue.rows(
             "SELECT c.text, c.pictures, c.bare FROM temp.counted c JOIN (SELECT bare, sum(pictures) AS pictures, min(text) AS text"

@@ -6,10 +6,9 @@ import os
 import unicodedata
 from typing import Iterator, List, NamedTuple, Optional, Sequence, Tuple
 
-from ..fields.labels import PRIVATE
 from ..fields.rules import AFTER, BEFORE, LENGTH, LIKE, NEEDS, NEVER, VALUES, Rule
 from ..model.records import has
-from .asking import IN_SCOPE, LEFT_OUT, NOTE_NOT_READ, OPEN
+from .asking import IN_SCOPE, unread
 from .kept_texts import Report, make_ready, say_nothing
 from .store import Catalogue, root_of_row
 
@@ -47,15 +46,14 @@ class Checked:
         """The pictures that break a rule by one label, each with the text that does."""
         if rule.kind == NEEDS:
             # a picture that was not wholly read may have the text
-            unread = f"({OPEN} OR {NOTE_NOT_READ})" if label in PRIVATE else OPEN
-            query = f"SELECT p.path, p.root, NULL FROM pictures p WHERE {IN_SCOPE} AND NOT {unread}"
+            query = f"SELECT p.path, p.root, NULL FROM pictures p WHERE {IN_SCOPE} AND NOT {unread([label])}"
             query += " AND p.id NOT IN (SELECT picture FROM texts WHERE label = ?)"
-            values: Tuple[object, ...] = (*LEFT_OUT, label)
+            values: Tuple[object, ...] = (label,)
         else:
             test, given = self._test(number, rule)
             query = "SELECT p.path, p.root, t.text FROM texts t JOIN pictures p ON p.id = t.picture"
             query += f" WHERE t.label = ? AND {test} AND {IN_SCOPE}"
-            values = (label, *given, *LEFT_OUT)
+            values = (label, *given)
         for path, root, text in self._catalogue.rows(query, values):
             has(bytes, path, root)
             if rule.is_about(_below(path, root)):
@@ -95,20 +93,19 @@ class Checked:
 
     def pictures(self) -> int:
         """How many pictures were checked."""
-        return self._number(f"SELECT count(*) FROM pictures p WHERE {IN_SCOPE}", LEFT_OUT)
+        return self._number(f"SELECT count(*) FROM pictures p WHERE {IN_SCOPE}")
 
     def not_known(self) -> int:
         """How many of them were not wholly read, so that they may break further rules."""
-        return self._number(f"SELECT count(*) {self._unread()}", LEFT_OUT)
+        return self._number(f"SELECT count(*) {self._unread()}")
 
     def paths_not_known(self) -> Iterator[bytes]:
         """These pictures."""
-        yield from self._catalogue.rows(f"SELECT p.path {self._unread()}", LEFT_OUT, root_of_row)
+        yield from self._catalogue.rows(f"SELECT p.path {self._unread()}", (), root_of_row)
 
     def _unread(self) -> str:
-        asks_for_private = any(label in PRIVATE for rule in self.rules for label in rule.labels)
-        unread = f"({OPEN} OR {NOTE_NOT_READ})" if asks_for_private else OPEN
-        return f"FROM pictures p WHERE {IN_SCOPE} AND {unread}"
+        labels = [label for rule in self.rules for label in rule.labels]
+        return f"FROM pictures p WHERE {IN_SCOPE} AND {unread(labels)}"
 
     def _number(self, query: str, values: Sequence[object] = ()) -> int:
         return int(next(self._catalogue.rows(query, values))[0])
@@ -116,7 +113,7 @@ class Checked:
     def about_nothing(self) -> List[Rule]:
         """The rules whose folders have no picture: a folder may be mistyped."""
         left = [rule for rule in self.rules if rule.inside]
-        for path, root in self._catalogue.rows(f"SELECT p.path, p.root FROM pictures p WHERE {IN_SCOPE}", LEFT_OUT) if left else ():
+        for path, root in self._catalogue.rows(f"SELECT p.path, p.root FROM pictures p WHERE {IN_SCOPE}") if left else ():
             has(bytes, path, root)
             left = [rule for rule in left if not rule.is_about(_below(path, root))]
             if not left:

@@ -13,7 +13,7 @@ from typing import Callable, Iterator, List, Tuple
 from ..fields.block_fields import with_fields
 from ..model.records import PictureRecord
 from .label_texts import rows_of
-from .store import Catalogue, NoCatalogue, texts_table
+from .store import Catalogue, NoCatalogue, put_text, texts_table
 
 Report = Callable[[int, int], None]  # is told of how many pictures the texts were added, and how many had none
 
@@ -59,7 +59,7 @@ def make_ready(catalogue: Catalogue, report: Report = say_nothing) -> None:
         if not due:
             return
         catalogue.base.execute(texts_table(_OTHERS))
-        catalogue.base.execute("CREATE INDEX temp.other_texts_by_head ON other_texts (label, head)")
+        catalogue.base.execute("CREATE INDEX temp.other_short_texts ON other_texts (label, head, text) WHERE long = 0")
         catalogue.base.execute(f"CREATE TEMP VIEW texts AS SELECT * FROM main.texts UNION ALL SELECT * FROM {_OTHERS}")
     done, last = 0, catalogue.prepared()
     while done < due:
@@ -73,10 +73,7 @@ def _add(catalogue: Catalogue, table: str, after: int) -> List[int]:
     query = "SELECT id FROM main.pictures WHERE id > ? ORDER BY id LIMIT ?"
     numbers = [row[0] for row in catalogue.rows(query, (after, AT_ONCE))]
     with catalogue.guarded():
-        catalogue.base.executemany(
-            f"INSERT INTO {table} (picture, number, label, text, head, folded) VALUES (?, ?, ?, ?, ?, ?)",
-            (row for number in numbers for row in _rows(catalogue, number)),
-        )
+        catalogue.base.executemany(put_text(table), (row for number in numbers for row in _rows(catalogue, number)))
     return numbers
 
 

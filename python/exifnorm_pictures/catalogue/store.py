@@ -35,16 +35,27 @@ HEAD = 40  # characters of a text that its index has
 
 
 def texts_table(name: str, reference: str = "") -> str:
-    """The statement that makes a table of texts. Those of a label are beside each other, so that a question reads no others."""
+    """The statement that makes a table of texts. Those of a label are beside each other, short ones before long ones, so that a question reads
+    no others."""
     return f"""CREATE TABLE {name} (
     label TEXT NOT NULL,            -- a label of captions; position, serial or owner; empty: some texts are too many or too long to be kept
+    long INTEGER NOT NULL,          -- 1: the head isn't all of the text
     picture INTEGER NOT NULL{reference},
     number INTEGER NOT NULL,        -- the order of the texts of a picture
     text TEXT NOT NULL,             -- a text of the picture; those that cameras write by themselves are left out
     head TEXT NOT NULL,             -- the first {HEAD} characters of the text in small letters, composed, with single spaces
     folded TEXT,                    -- all of a longer text so; NULL: it is lower(text)
-    PRIMARY KEY (label, picture, number)
+    PRIMARY KEY (label, long, picture, number)
 ) WITHOUT ROWID;"""
+
+
+def put_text(table: str) -> str:
+    """The statement that adds a text to such a table: the picture, the number, the label, the text, its head, and the folded text."""
+    return f"INSERT INTO {table} (picture, number, label, text, head, folded, long) VALUES (?1, ?2, ?3, ?4, ?5, ?6, length(?5) = {HEAD})"
+
+
+# What makes it possible that a picture has further texts: an unread part, or a block that was refused and not read after a repair
+NOT_WHOLE = "problem IS NOT NULL OR other_not_read IS NOT '' OR iptc IS NULL OR xmp IS NULL OR (exif IS NULL AND exif_repaired IS NULL)"
 
 
 _TABLES = f"""
@@ -74,8 +85,9 @@ CREATE TABLE maker_notes (
 CREATE TABLE prepared (
     picture INTEGER NOT NULL        -- the texts of the pictures up to this number are there, and no other picture gets such a number
 );
-CREATE INDEX texts_by_head ON texts (label, head);
+CREATE INDEX short_texts ON texts (label, head, text) WHERE long = 0;
 CREATE INDEX texts_by_picture ON texts (picture);
+CREATE INDEX pictures_not_whole ON pictures (problem) WHERE {NOT_WHOLE};
 CREATE INDEX pictures_by_content ON pictures (exif, iptc, xmp, not_read) WHERE problem IS NULL;
 CREATE INDEX pictures_by_coded_picture ON pictures (coded_picture) WHERE coded_picture != '';
 CREATE INDEX pictures_by_other_exif ON pictures (other_exif) WHERE other_exif != '';

@@ -2,6 +2,7 @@
 
 from __future__ import annotations
 
+import re
 import unicodedata
 
 
@@ -25,5 +26,10 @@ def bare(text: str) -> str:
     >>> bare("Müller, Anna"), bare("muller anna"), bare("--")
     ('mulleranna', 'mulleranna', '--')
     """
-    letters = "".join(character for character in unicodedata.normalize("NFKD", folded(text)) if character.isalnum())
-    return letters or folded(text)
+    compared = folded(text)
+    if compared.isascii():
+        return _OTHERS.sub("", compared) or compared
+    return "".join(character for character in unicodedata.normalize("NFKD", compared) if character.isalnum()) or compared
+
+
+_OTHERS = re.compile("[^a-z0-9]+")

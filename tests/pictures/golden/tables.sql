@@ -64,6 +64,7 @@ CREATE TABLE pictures (
 CREATE INDEX pictures_by_coded_picture ON pictures (coded_picture) WHERE coded_picture != '';
 CREATE INDEX pictures_by_content ON pictures (exif, iptc, xmp, not_read) WHERE problem IS NULL;
 CREATE INDEX pictures_by_other_exif ON pictures (other_exif) WHERE other_exif != '';
+CREATE INDEX pictures_not_whole ON pictures (problem) WHERE problem IS NOT NULL OR other_not_read IS NOT '' OR iptc IS NULL OR xmp IS NULL OR (exif IS NULL AND exif_repaired IS NULL);
 CREATE TABLE prepared (
     picture INTEGER NOT NULL        -- the texts of the pictures up to this number are there, and no other picture gets such a number
 );
@@ -76,14 +77,15 @@ CREATE TABLE runs (
     exiv2 TEXT,
     sidecars INTEGER NOT NULL       -- 1: XMP files beside pictures are blocks of them
 );
+CREATE INDEX short_texts ON texts (label, head, text) WHERE long = 0;
 CREATE TABLE texts (
     label TEXT NOT NULL,            -- a label of captions; position, serial or owner; empty: some texts are too many or too long to be kept
+    long INTEGER NOT NULL,          -- 1: the head isn't all of the text
     picture INTEGER NOT NULL REFERENCES pictures(id) ON DELETE CASCADE,
     number INTEGER NOT NULL,        -- the order of the texts of a picture
     text TEXT NOT NULL,             -- a text of the picture; those that cameras write by themselves are left out
     head TEXT NOT NULL,             -- the first 40 characters of the text in small letters, composed, with single spaces
     folded TEXT,                    -- all of a longer text so; NULL: it is lower(text)
-    PRIMARY KEY (label, picture, number)
+    PRIMARY KEY (label, long, picture, number)
 ) WITHOUT ROWID;
-CREATE INDEX texts_by_head ON texts (label, head);
 CREATE INDEX texts_by_picture ON texts (picture);
