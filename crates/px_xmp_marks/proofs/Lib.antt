@@ -6,3 +6,4 @@ pub mod SectionLaws
 pub mod CommentLaws
 pub mod InstructionLaws
 pub mod DeclarationLaws
+pub mod MarkLaws

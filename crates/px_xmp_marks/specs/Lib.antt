@@ -5,3 +5,4 @@ pub mod Sections
 pub mod Comments
 pub mod Instructions
 pub mod Declarations
+pub mod Marks

@@ -4,6 +4,7 @@ ghost use Rattle.px_xmp_marks.specs.Laws.{AttributesAreRead, OnlyAttributesAreRe
 ghost use Rattle.px_xmp_marks.specs.Laws.{EndTagsAreRead, OnlyEndTagsAreRead, AttributesInOrder};
 ghost use Rattle.px_xmp_marks.specs.Sections.{SectionsAreRead, OnlySectionsAreRead};
 ghost use Rattle.px_xmp_marks.specs.Declarations.{DeclarationsAreRead, OnlyDeclarationsAreRead};
+ghost use Rattle.px_xmp_marks.specs.Marks.{MarksAreRead, OnlyMarksAreRead, RowOrFault};
 ghost use Rattle.px_xmp_marks.specs.Comments.{CommentsAreRead, OnlyCommentsAreRead};
 ghost use Rattle.px_xmp_marks.specs.Instructions.{InstructionsAreRead, OnlyInstructionsAreRead};
 
@@ -80,4 +81,19 @@ pub fn declarations_are_read()
 /// What is read as an XML declaration is one of the grammar.
 pub fn only_declarations_are_read()
     ensures { OnlyDeclarationsAreRead }
+{}
+
+/// Each mark of the grammar is read.
+pub fn marks_are_read()
+    ensures { MarksAreRead }
+{}
+
+/// What is read as a mark is one of the grammar.
+pub fn only_marks_are_read()
+    ensures { OnlyMarksAreRead }
+{}
+
+/// Octets are marks in a row, or there is one first place where none is, and not both.
+pub fn row_or_fault()
+    ensures { RowOrFault }
 {}

@@ -1,6 +1,7 @@
-//! The marks of XML 1.0 with namespaces, as they are written: names, attributes, tags, CDATA sections, comments,
-//! processing instructions and the XML declaration. Namespaces are found elsewhere. A name has ASCII letters, digits, `_`, `-` and `.` alone, as
-//! those of XMP have; others are for another reader. It works on octets, and allocates nothing.
+//! The marks of XML 1.0 with namespaces, as they are written: names, attributes, tags, character data, CDATA sections,
+//! comments, processing instructions and the XML declaration; and marks in a row. Namespaces are found elsewhere. A name
+//! has ASCII letters, digits, `_`, `-` and `.` alone, as those of XMP have; others are for another reader. It works on
+//! octets, and allocates nothing.
 #![tactic(auto)]
 
 mod attributes;
@@ -9,6 +10,7 @@ mod declarations;
 mod instructions;
 pub mod laws;
 mod listing;
+mod marks;
 mod names;
 mod sections;
 mod tags;
@@ -18,6 +20,7 @@ pub use comments::read_comment;
 pub use declarations::{Declaration, read_declaration};
 pub use instructions::read_instruction;
 pub use listing::{NextAttribute, next_attribute};
+pub use marks::{first_bad_mark, mark_len};
 pub use names::{Name, read_name};
 pub use sections::read_section;
 pub use tags::{EndTag, StartTag, read_end_tag, read_start_tag};
