@@ -274,3 +274,20 @@ def test_the_page_has_the_keys_of_the_schema():
     for name in set(re.findall(r"(?m)^\| `([^|]*)` \|", page)):
         for word in re.findall(r"[a-z_0-9]+", name):
             assert word in {*keys(SCHEMA), "hex", "sha256"}, name
+
+
+@needs("exiftool")
+def test_explanations_and_copies(objects, folder, tmp_path):
+    """`explain` and `mend` of the samples, of files that can't be read wholly, and of one that is cut."""
+    (folder / "cut.jpg").write_bytes(Path(SAMPLES, "ceramics", "1998-7-vase.jpg").read_bytes()[:3000])
+    names = [*ODD, *FILES, str(folder / "cut.jpg")]
+    found = objects("explain", *names)
+    assert {it["status"] for it in found if it["record"] == "block"} == {"accepted", "refused", "unreadable"}
+    assert {it["path"] for it in found} >= {*FILES, "nothing.jpg", "bare.jpg"}
+    last = found[-1]
+    assert (last["record"], last["blocks"], last["not_known"]) == ("picture", 1, ["iptc", "xmp"]) and last["damage"] and last["remedy"]
+    (folder / "list").write_text("\n".join(it for it in names if "\\" not in it and "\n" not in it and it.isascii()))
+    (folder / "out").mkdir()
+    *pictures, summary = objects("mend", "--files-from", str(folder / "list"), str(folder / "out"))
+    assert {it["step"] for it in pictures} >= {"copy", "repair", "none"} and sum(summary["counts"].values()) == len(pictures)
+    assert pictures[-1]["damage"] == last["damage"] and [it["problem"] for it in pictures if it["path"] == "nothing.jpg"] == ["NoFile"]

@@ -351,7 +351,9 @@ def test_mend_of_a_jpeg_that_is_cut(folder, capsys, monkeypatch):
         (folder / "cut.jpg").write_bytes(b"\xff\xd8" + app1(REFUSED[name]) + rest)
         assert main._run(["mend", "cut.jpg", f"{name}.jpg", "--json"]) == 2
         found = json.loads(capsys.readouterr().out.splitlines()[0])
-        assert (found["step"], found["lost"], found["gained"]) == ("repair", [], []) and len(found["damage"]) == 1, found
+        assert (
+            (found["step"], found["lost"], found["gained"]) == ("repair", [], []) and len(found["not_read"]) == 1 and found["damage"]
+        ), found
         assert (folder / f"{name}.jpg").read_bytes() == b"\xff\xd8" + app1(repairs.repaired(REFUSED[name]).block) + rest
 
 

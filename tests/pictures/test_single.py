@@ -215,7 +215,7 @@ class Lines(WithPictures):
             (
                 mend.Mended(mend.Remedy("none"), {}, problem="NoPicture: text"),
                 ["a\\n: NoPicture: text"],
-                {"step": "none", "before": {}, "lost": [], "gained": [], "problem": "NoPicture: text"},
+                {"step": "none", "before": {}, "lost": [], "gained": [], "problem": "NoPicture", "detail": "text"},
             ),
             (
                 mend.Mended(mend.Remedy("copy"), {}),
@@ -225,7 +225,7 @@ class Lines(WithPictures):
             (
                 mend.Mended(mend.Remedy("copy"), {}, damage=["the rest"]),
                 ["a\\n: damaged, which mend can't mend: the rest", "a\\n: no block is to be mended: a plain copy of what is there"],
-                {"step": "copy", "before": {}, "lost": [], "gained": [], "damage": ["the rest"]},
+                {"step": "copy", "before": {}, "lost": [], "gained": [], "not_read": ["the rest"]},
             ),
             (
                 mend.Mended(mend.Remedy("touch"), one),
@@ -260,7 +260,8 @@ class Lines(WithPictures):
         ):
             found.is_written = found.remedy != "none"
             self.assertEqual(mend_cli._mended_lines(b"a\n", found), lines)
-            known = {"path": "a\n", "repairs": [], "damage": [], "written": found.is_written}
+            known = {"path": "a\n", "problem": None, "detail": None, "repairs": [], "not_read": [], "damage": None}
+            known["written"] = found.is_written
             self.assertEqual(mend_cli._mended_members(b"a\n", found), {**known, **members})
 
     def printed(self, why, as_json):
@@ -279,8 +280,9 @@ class Lines(WithPictures):
             (programs.Failed("exiftool took longer than 1 seconds"), "ToolFailed"),
         ):
             self.assertEqual(self.printed(why, False), f"a\\xff: b\\n isn't written: {why}\n")
+            members = json.loads(self.printed(why, True))
             self.assertEqual(
-                json.loads(self.printed(why, True)), {"path": "a\\xff", "path_hex": "61ff", "problem": word, "detail": str(why)}
+                (members["path_hex"], members["problem"], members["detail"], members["written"]), ("61ff", word, str(why), False)
             )
 
     def pairs(self, names, files_from=None, given=()):

@@ -1,24 +1,23 @@
-"""The judged blocks of the pictures that are given by name, as `show` and `explain` print them."""
+"""The judged blocks of the pictures that are given by name, as `show` and `explain` print them in words."""
 
 from __future__ import annotations
 
 import argparse
 import os
-from typing import Callable, Iterator, List, Tuple
+from typing import Callable, Iterator, List, Sequence
 
 from ..extract.named import blocks_of_named
 from ..judge.reading import Reading
 from ..model.found import FoundBlock
 from ..model.records import BlockRecord
-from ..model.texts import Members, escaped, path_members, shown_path
+from ..model.texts import escaped, shown_path
 from .exit_codes import SUCCESS, UNKNOWN
 from .names import each_name, is_list
-from .not_read import damage_members, no_block, unread
-from .output import block_members, output
+from .not_read import no_block, unread
+from .output import print_line
 
 
-Described = Tuple[List[str], Members]
-Describe = Callable[[bytes, FoundBlock, BlockRecord], Described]  # of a picture by its name
+Describe = Callable[[bytes, FoundBlock, BlockRecord], List[str]]  # of a picture by its name
 
 
 def status_of_reading(reading: Reading) -> int:
@@ -34,15 +33,15 @@ def each_picture(arguments: argparse.Namespace) -> Iterator[Reading]:
     )
 
 
-def _nothing(_: Reading) -> Described:
-    return [], {}
+def _nothing(_: Reading) -> List[str]:
+    return []
 
 
 def each_block(
     arguments: argparse.Namespace,
     describer: Callable[[], Describe],
     refused_too: bool = False,
-    of_rest: Callable[[Reading], Described] = _nothing,
+    of_rest: Callable[[Reading], List[str]] = _nothing,
 ) -> int:
     """Prints something about each block of each picture, for which `describer` is called once, and what `of_rest` says of one that was not
     wholly read. Returns the greatest status."""
@@ -52,27 +51,30 @@ def each_block(
         worst = max(worst, status_of_reading(reading))
         _print(arguments, reading, [f"== {shown_path(reading.name)}"] if has_heads else [], describer(), refused_too)
         if reading.not_read and not reading.problem:
-            lines, members = of_rest(reading)
-            rest = {**path_members(reading.name), "not_read": reading.not_read, **damage_members(reading), **members}
-            output(arguments, [*lines, f"not wholly read: {', '.join(unread(reading, reading.not_read))}"], rest)
+            _print_lines([*of_rest(reading), f"not wholly read: {', '.join(unread(reading, reading.not_read))}"])
     return worst
 
 
 def _print(arguments: argparse.Namespace, reading: Reading, head: List[str], describe: Describe, refused_too: bool) -> None:
-    names, read = path_members(reading.name), reading.read
+    read = reading.read
     if read.problem:
         line = _of_folder(arguments.command, reading.name) if os.path.isdir(reading.name) else f"{read.problem}: {read.detail}"
-        output(arguments, [*head, line], {**names, "problem": read.problem, "detail": read.detail})
+        _print_lines([*head, line])
         return
     data = {one.name: one for one in read.found}
     for block in reading.blocks:
         is_described = block.is_accepted or block.repair or refused_too
-        lines, members = describe(reading.name, data[block.name], block) if is_described else _refused(block)
-        if lines or (arguments.json and members):
-            output(arguments, [*head, *lines], {**names, "name": block.name, **members})
+        lines = describe(reading.name, data[block.name], block) if is_described else [f"{block.name}: {block.line}"]
+        if lines:
+            _print_lines([*head, *lines])
             head = []
     if not read.found:
-        output(arguments, [*head, no_block(reading)], {**names, "kind": None})
+        _print_lines([*head, no_block(reading)])
+
+
+def _print_lines(lines: Sequence[str]) -> None:
+    for line in lines:
+        print_line(line)
 
 
 def _of_folder(command: str, name: bytes) -> str:
@@ -81,7 +83,3 @@ def _of_folder(command: str, name: bytes) -> str:
 
     files = escaped(os.path.join(shlex.quote(os.fsdecode(name)), "*"))
     return f"a folder: {command} takes pictures, such as {files}; captions, conflicts and index take folders"
-
-
-def _refused(block: BlockRecord) -> Described:
-    return [f"{block.name}: {block.line}"], block_members(block)

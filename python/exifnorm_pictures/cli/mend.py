@@ -5,7 +5,7 @@ from __future__ import annotations
 import argparse
 import os
 from collections import Counter
-from typing import Dict, Iterator, List, Tuple, Type
+from typing import Dict, Iterator, List, Optional, Sequence, Tuple, Type
 
 from ..catalogue.store import Catalogue
 from ..extract import programs
@@ -14,12 +14,13 @@ from ..model import steps
 from ..model.budgets import TooMuch
 from ..model.found import cut
 from ..model.problems import Problem
-from ..model.texts import Members, path_members, shown_path
+from ..model.texts import Members, shown_path
 from ..refusals import mend
 from ..refusals.damage import REMEDY
 from .exit_codes import DIFFERENCE, FAILURE, SUCCESS, UNKNOWN
 from .names import chosen_paths, each_of_list
-from .output import output
+from .objects import picture_object, print_object
+from .output import print_line
 from .parser import refuse
 
 
@@ -32,7 +33,10 @@ def run(arguments: argparse.Namespace) -> int:
         worst = max(worst, status)
         counts[result] += 1
     if arguments.files_from or arguments.catalogue:
-        output(arguments, [_counted(counts)], {"counts": {it: counts[it] for it in COUNTED}})
+        if arguments.json:
+            print_object("mend", "summary", {"counts": {it: counts[it] for it in COUNTED}})
+        else:
+            print_line(_counted(counts))
     return worst
 
 
@@ -61,9 +65,9 @@ def _mend_one(arguments: argparse.Namespace, picture: bytes, out: bytes) -> Tupl
         names.update({programs.Missing: Problem.NEEDS_EXIFTOOL, mend.NeedsExifTool: Problem.NEEDS_EXIFTOOL})
         problem = names.get(type(error), Problem.TOOL_FAILED)
         line = f"{shown_path(picture)}: {atomic.not_written(shown_path(out), error)}"
-        output(arguments, [line], {**path_members(picture), "problem": problem, "detail": str(error)})
+        _print(arguments, [line], _mended_members(picture, None, problem, str(error)))
         return FAILURE if isinstance(error, mend.NotWritten) else UNKNOWN, "not mended"
-    output(arguments, _mended_lines(picture, mended), _mended_members(picture, mended))
+    _print(arguments, _mended_lines(picture, mended), _mended_members(picture, mended))
     if not mended.is_written:
         return UNKNOWN, "not mended"
     result = "plain" if mended.remedy == mend.Remedy.COPY else "lossy" if mended.lost else "lossless"
@@ -126,8 +130,20 @@ def _mended_lines(picture: bytes, mended: mend.Mended) -> List[str]:
     return lines
 
 
-def _mended_members(picture: bytes, mended: mend.Mended) -> Members:
+def _print(arguments: argparse.Namespace, lines: Sequence[str], members: Members) -> None:
+    if arguments.json:
+        print_object("mend", "picture", members)
+    else:
+        for line in lines:
+            print_line(line)
+
+
+def _mended_members(picture: bytes, result: Optional[mend.Mended], problem: str = "", detail: str = "") -> Members:
+    """A picture, or why nothing is known of it."""
+    mended = result or mend.Mended(mend.Remedy.NONE, {})
+    if mended.problem:
+        problem, _, detail = mended.problem.partition(": ")
     known: Members = {"step": mended.remedy, "before": mended.before, "lost": mended.lost, "gained": mended.gained}
     repaired = [it._asdict() for it in mended.repairs]
-    known = {**known, "repairs": repaired, "damage": mended.damage, "written": mended.is_written}
-    return {**path_members(picture), **known, **({"problem": mended.problem} if mended.problem else {})}
+    rest = {"not_read": mended.damage, "damage": cut(mended.damage) or None}
+    return {**picture_object(picture, problem, detail), **known, "repairs": repaired, **rest, "written": mended.is_written}

@@ -91,19 +91,6 @@ def kind_of_part(what: str) -> str:
     return re.sub(r" of [\d,]+ bytes| \(.*?\)|^[\d,]+ (?=byte)", "", what).replace("byte that", "bytes that")
 
 
-def block_members(block: BlockRecord) -> Members:
-    """A block as a JSON object."""
-    known = {
-        "kind": block.kind,
-        "name": block.name,
-        "status": block.status,
-        "digest": block.digest,
-        "cause": block.cause,
-        "offset": block.place,
-    }
-    return {**{name: value for name, value in known.items() if value is not None}, "length": block.length}
-
-
 def local_time(when: str) -> str:
     """A time of a catalogue in the local time zone.
 

@@ -16,7 +16,7 @@ from ..model.found import PROGRAMS, FoundBlock
 from ..model.records import BlockRecord
 from ..model.texts import Members, escaped
 from .columns import width
-from .each_block import Described, each_block, each_picture, status_of_reading
+from .each_block import each_block, each_picture, status_of_reading
 from .exit_codes import SUCCESS
 from .not_read import damage_members, no_block, unread
 from .objects import block_object, picture_object, print_object
@@ -80,13 +80,13 @@ class _Lines:
     def __init__(self, is_exact: bool) -> None:
         self._is_exact, self._shown = is_exact, _Shown()
 
-    def of(self, _: bytes, __: FoundBlock, block: BlockRecord) -> Described:
+    def of(self, _: bytes, __: FoundBlock, block: BlockRecord) -> List[str]:
         """The lines of a block."""
         by = f", extracted by {PROGRAMS[block.extractor]}" if block.extractor in PROGRAMS else ""
         fields = self._shown.of(block)
         lines = list(readable(fields, block.name + by)) if self._is_exact else [f"{block.name}{by}:", *map(_plain_line, fields)]
         lines += [f"  {_MORE}"] * self._shown.has_more
-        return (lines if block.is_accepted else [*_repaired(block), *lines[1:]]), {}
+        return lines if block.is_accepted else [*_repaired(block), *lines[1:]]
 
 
 def _plain_line(field: Field) -> str:

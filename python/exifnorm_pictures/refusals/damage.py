@@ -2,11 +2,10 @@
 
 from __future__ import annotations
 
-from typing import List
+from typing import List, Optional
 
 from ..judge.reading import Reading
 from ..model.found import NAMES, damage
-from ..model.texts import Members
 
 REMEDY = "another copy of the file, as from a backup. What is missing can't be made of this one."
 
@@ -20,6 +19,6 @@ def lines(reading: Reading) -> List[str]:
     return [f"The file is {what}. What is missing may have {kinds}.", f"  Remedy: {REMEDY}"]
 
 
-def members(reading: Reading) -> Members:
-    """The remedy for a JSON object."""
-    return {"remedy": REMEDY if damage(reading.not_read) else None}
+def remedy(reading: Reading) -> Optional[str]:
+    """The remedy; none for a whole file."""
+    return REMEDY if damage(reading.not_read) else None
