@@ -6,6 +6,9 @@ import sqlite3
 import pytest
 from made_blocks import BLOCKS
 from made_files import app1, exif, jpeg
+from studio import put
+
+from exifnorm_pictures.scan import batches
 
 ONE, OTHER = jpeg(app1(exif(b"abc"))), jpeg(app1(exif(b"xyz")))
 
@@ -103,3 +106,12 @@ def test_quiet_prints_the_counts_alone(folder, called):
     assert (out, err) == ("3 accepted, 1 a link that leads to no file, 1 refused\n", "")
     status, out, _ = called("index", "p", "missing", "--catalogue", "c", "--quiet")
     assert "missing: Unreadable" in out and status == 2
+
+
+def test_how_nightly_looks_at_pictures(folder, called, monkeypatch):
+    """As index does, with its options."""
+    put(folder / "p", {"a.jpg": ONE, "b.tmp.jpg": OTHER})
+    hows, how = [], batches.How.__init__
+    monkeypatch.setattr(batches.How, "__init__", lambda self, *given, **more: hows.append(self) or how(self, *given, **more))
+    _, printed, _ = called("nightly", "p", "--catalogue", "n", "--exclude", "*.tmp.jpg", "--maker-notes")
+    assert "1 picture" in printed and hows[-1].maker_notes

@@ -2,16 +2,25 @@
 
 import argparse
 import ast
+import csv
 import importlib
+import io
+import json
 import re
+import shutil
 from pathlib import Path
 
+import openpyxl
 import pytest
-from made_files import A, app1, jpeg
+from made_blocks import block, entry
+from made_files import A, app1, exif, jpeg
+from meanings import ASCII, BYTE, UNDEFINED
 from studio import TOP
 
 from exifnorm_pictures.cli import parser
 from exifnorm_pictures.files.session import Session
+from exifnorm_pictures.model import budgets
+from exifnorm_pictures.scan import batches
 
 BOWL, PHONE = f"{TOP}/samples/before/ceramics/2003-12-bowl.jpg", f"{TOP}/samples/before/arrivals/IMG_20240502.jpg"
 LISTED = ("--files-from", "list", "-0")
@@ -74,13 +83,16 @@ def test_each_option_is_looked_at(command, archive, capsys):
 
 
 def options():
-    """The options of all commands, those with the same words in --help as one: their spellings, and the commands that have them."""
-    meanings = {}
+    """Each option of each command: the command, and the spellings of the option."""
     for name, command in parser.parsers()[1].items():
         for action in command._actions:
             if action.option_strings and action.dest != "help":
-                meanings.setdefault((tuple(action.option_strings), action.help), set()).add(name)
-    return [(set(spellings), commands) for (spellings, _), commands in meanings.items()]
+                yield name, frozenset(action.option_strings)
+
+
+def of_each_command(*spellings):
+    """The commands that have an option, and with them the option as a test gives it."""
+    return [(name, spelling) for spelling in spellings for name, of_command in options() if spelling in of_command]
 
 
 def functions(body):
@@ -94,25 +106,191 @@ def words_of(statement):
     return {word for text in texts for word in text.split()}
 
 
-def test_each_option_has_a_test(checks):
-    """One that gives it to a command that has it."""
-    modules = [path for path in Path(__file__).parent.glob("test_*.py") if path.name != Path(__file__).name]
-    tried = [words_of(statement) for path in modules for statement in functions(ast.parse(path.read_text(encoding="utf-8")).body)]
-    for spellings, commands in options():
-        is_tried = any(words & spellings and words & commands for words in tried)
-        checks.check(f"{' '.join(sorted(spellings))} of {', '.join(sorted(commands))}", is_tried, "no test gives it to the command")
+TRACEBACKS, LIMITS, SHEETS, LISTS = (of_each_command(it) for it in ("--debug", "--limit", "--xlsx", "--files-from"))
+WHOLE, OBJECTS, HOWS = of_each_command("--whole"), of_each_command("--json"), of_each_command("--jobs", "--sidecars", "--pixels")
+CHOICES = [it for it in of_each_command("--ignore", "--only", "--ignore-file", "--only-file", "--equal-numbers") if it[0] != "conflicts"]
+NAMED = {"list": ("c",), "check": ("rules", "c"), "relocate": ("c", "p", "q")}  # whose catalogue can be given in two ways
+# What the tests below try with each command
+EVERYWHERE = {*TRACEBACKS, *LIMITS, *SHEETS, *LISTS, *WHOLE, *OBJECTS, *HOWS, *CHOICES}
+EVERYWHERE |= {(name, "-0") for name, _ in LISTS} | {(name, "--csv") for name, _ in SHEETS} | {(name, "--catalogue") for name in NAMED}
 
 
-def test_each_option_is_in_the_manual_page(checks):
-    """Below a command that has it, or with the options of several commands."""
+def command_lines(module):
+    """The words of what may be a command line in a module: the arguments of a call, a list, or a text. The words of a function are one too."""
+    yield from map(words_of, functions(module.body))
+    for node in ast.walk(module):
+        if isinstance(node, (ast.Call, ast.List, ast.Tuple)):
+            parts = node.args if isinstance(node, ast.Call) else node.elts
+            yield {word for part in parts for word in words_of(part)}
+        elif isinstance(node, ast.Constant) and isinstance(node.value, str):
+            yield set(node.value.split())
+
+
+def test_each_option_of_each_command_has_a_test(checks):
+    """One that gives it to this command: below, or in words that name no other command. In a function `index` may make the catalogue."""
+    every, tried = set(parser.parsers()[1]), set(EVERYWHERE)
+    for path in Path(__file__).parent.glob("test_*.py"):
+        if path.name != Path(__file__).name:
+            for words in command_lines(ast.parse(path.read_text(encoding="utf-8"))):
+                named = (words & every) - {"index"} or words & every
+                tried |= {(name, word) for name in named for word in words if len(named) == 1}
+    for name, spellings in options():
+        is_tried = any((name, it) in tried for it in spellings)
+        checks.check(f"{name} {' '.join(sorted(spellings))}", is_tried, "no test gives it to this command")
+
+
+def in_fonts(text):
+    """The lines of a part of the manual page that have options, commands and names."""
+    return re.findall(r"(?m)^\.(?:BI?R?|BR) (.*)$", text)
+
+
+def manual():
+    """Of the manual page: the part of each command, and the options of several commands with the commands that each names; all, if it names none."""
     page = (Path(TOP) / "docs/exifnorm-pictures.1").read_text(encoding="utf-8").partition(".SH EXAMPLES")[0].replace("\\-", "-")
-    commands_, _, of_several = page.partition("\n.SH FIELDS THAT COUNT")
+    commands_, fields, several = re.split(r"\n\.SH (?:FIELDS THAT COUNT|OPTIONS OF SEVERAL COMMANDS)\n", page)
     parts = re.split(r'(?m)^\.TP\n\.BI "(\w+) ', commands_)
-    sections = dict(zip(parts[1::2], parts[2::2]))
-    for spellings, commands in options():
-        texts = [sections[name] for name in commands] + [of_several] * (len(commands) > 1 or bool(spellings & {"--csv", "-0"}))
+    every = set(parser.parsers()[1])
+    before, *entries = re.split(r"(?m)^\.TP\n", fields)
+    entries = [before + it for it in entries] + re.split(r"(?m)^\.TP\n", several)[1:]
+    shared = []
+    for part in entries:
+        lines = [set(re.findall(r"[\w-]+", line)) - {"and"} for line in in_fonts(part.partition("\n.PP\n")[0])]
+        named = {word for words in lines if words <= every for word in words}
+        shared.append((part.partition("\n.PP\n")[0], named or every))
+    return {name: f".BI {text}" for name, text in zip(parts[1::2], parts[2::2])}, shared
+
+
+def test_each_option_of_each_command_is_in_the_manual_page(checks):
+    """In the part of its command, or with the options of several commands where this command is named."""
+    parts, shared = manual()
+    for name, spellings in options():
+        texts = [line for text in (parts[name], *(text for text, named in shared if name in named)) for line in in_fonts(text)]
         is_there = any(re.search(rf"(?<![\w-]){spelling}(?![\w-])", text) for spelling in spellings for text in texts)
-        checks.check(f"{' '.join(sorted(spellings))} of {', '.join(sorted(commands))}", is_there, "the manual page doesn't have it there")
+        checks.check(f"{name} {' '.join(sorted(spellings))}", is_there, "the manual page doesn't have it for this command")
+
+
+@pytest.mark.parametrize("command, option", TRACEBACKS)
+def test_a_traceback_of_each_command(command, option, archive, called, monkeypatch):
+    def fail(arguments):
+        raise RuntimeError("broken here")
+
+    monkeypatch.delenv("EXIFNORM_DEBUG", raising=False)
+    monkeypatch.setattr(importlib.import_module(f"exifnorm_pictures.cli.{command}"), "run", fail)
+    for words, has_traceback in (((), False), ((option,), True)):
+        status, printed, messages = called(command, *COMMANDS[command], *words)
+        assert (status, printed) == (4, "") and "broken here" in messages
+        assert ("in fail" in messages) is has_traceback, words
+
+
+@pytest.mark.parametrize("command, option", LIMITS)
+def test_the_time_limit_of_each_command(command, option, archive, called, monkeypatch):
+    """It is that of the session, in which the programs run."""
+    limits = []
+    monkeypatch.setattr(
+        importlib.import_module(f"exifnorm_pictures.cli.{command}"), "run", lambda arguments: limits.append(arguments.session.seconds) or 0
+    )
+    assert called(command, *COMMANDS[command], option, "7.5")[0] == 0
+    assert limits == [7.5]
+
+
+@pytest.mark.parametrize("command, option", SHEETS)
+def test_a_spreadsheet_of_each_command_has_its_table(command, option, archive, called):
+    (archive / "p" / "b.jpg").write_bytes(jpeg(app1(exif(b"Otto"))))
+    called("index", "p", "--catalogue", "d", "--quiet")
+    words = {**COMMANDS, "same": ("--catalogue", "d"), "changed": ("c", "d")}[command]
+    table = list(csv.reader(io.StringIO(called(command, *words, "--csv")[1].lstrip("\ufeff"), newline="")))
+    status, printed, messages = called(command, *words, option, "t.xlsx")
+    assert status in (0, 1, 2), messages
+    rows = [[str("" if cell.value is None else cell.value) for cell in row] for row in openpyxl.load_workbook("t.xlsx").active.iter_rows()]
+    assert rows == table and rows
+
+
+@pytest.mark.parametrize("command, option", LISTS)
+def test_names_that_end_with_nul_of_each_command(command, option, archive, called):
+    """They are the names of lines; without the option they would be one name, which no file has."""
+    words = ["made"] if command == "mend" else [it for it in COMMANDS[command] if it not in LISTED]
+    catalogue = (archive / "c").read_bytes()
+
+    def answer(names, *given):
+        (archive / "c").write_bytes(catalogue)
+        (archive / "made").mkdir()
+        (archive / "names").write_bytes(names)
+        found = called(command, *words, option, "names", *given)[:2]
+        shutil.rmtree(archive / "made")
+        for path in ("other", "page", "tables"):
+            (archive / path).unlink(missing_ok=True)
+        return found
+
+    expected = answer(b"p/a.jpg\n")
+    assert answer(b"p/a.jpg\0", "-0") == expected
+    assert answer(b"p/a.jpg\0p/no.jpg\0") != expected
+
+
+@pytest.mark.parametrize("command, option", CHOICES)
+def test_fields_that_count_of_each_command(command, option, archive, called):
+    """Two pictures whose fields differ only in the type of one byte: the option lets them be the same."""
+    for name, kind in (("p", BYTE), ("q", UNDEFINED)):
+        octets = block([entry(0x010F, ASCII, 4, b"Ann\0"), entry(0xC000, kind, 1, b"\3\0\0\0")])
+        (archive / name / "a.jpg").write_bytes(jpeg(app1(octets)))
+    name = "IFD0:0xc000" if option.startswith("--ignore") else "IFD0:Make"
+    (archive / "names").write_text(name, encoding="ascii")
+    called("index", "p", "q", "--catalogue", "both", "--quiet")
+    called("index", "p", "--catalogue", "c", "--quiet")
+    called("index", "q", "--catalogue", "d", "--quiet")
+    words = {
+        "same": ("--catalogue", "both"),
+        "changed": ("p", "q"),
+        "compare": ("p/a.jpg", "q/a.jpg"),
+        "report": ("--catalogue", "d", "--since", "c", "--json", "--html", "page"),
+    }[command]
+
+    def answer(*given):
+        return called(command, *words, *given)[:2]
+
+    found = answer(option, *([] if option == "--equal-numbers" else ["names" if option.endswith("-file") else name]))
+    assert found != answer()
+    if option.endswith("-file"):
+        assert found == answer(option[:-5], name)
+
+
+@pytest.mark.parametrize("command, option", WHOLE)
+def test_each_byte_is_read_by_each_command(command, option, archive, called, monkeypatch):
+    """Of each picture that the command reads."""
+    read, budget = [], budgets.Budget.__init__
+    monkeypatch.setattr(budgets.Budget, "__init__", lambda self, whole=False: read.append(whole) or budget(self, whole))
+    words = {"compare": ("p/a.jpg", "p/a.jpg"), "index": ("p", "--catalogue", "other")}.get(command, COMMANDS[command])
+    words = [*(it for it in words if it not in LISTED), *(["p/a.jpg"] * (words == LISTED))]
+    called(command, *words)
+    assert not any(read), "without the option"
+    for path in ("other", "nights", "page"):
+        (archive / path).unlink(missing_ok=True)
+    read.clear()
+    called(command, *words, option)
+    assert any(read)
+
+
+@pytest.mark.parametrize("command, option", OBJECTS)
+def test_objects_of_each_command(command, option, archive, called):
+    """Each line is one."""
+    _, printed, messages = called(command, *COMMANDS[command], option)
+    assert printed and all(isinstance(json.loads(line), dict) for line in printed.splitlines()), messages
+
+
+@pytest.mark.parametrize("command, option", HOWS)
+def test_how_each_command_looks_at_pictures(command, option, archive, called, monkeypatch):
+    hows, how = [], batches.How.__init__
+    monkeypatch.setattr(batches.How, "__init__", lambda self, *given, **more: hows.append(self) or how(self, *given, **more))
+    words = [it for it in {"index": ("p", "--catalogue", "other")}.get(command, COMMANDS[command]) if it not in LISTED]
+    called(command, *words, option, *(["3"] * (option == "--jobs")))
+    assert {getattr(it, option[2:]) for it in hows} >= {3 if option == "--jobs" else True}
+
+
+@pytest.mark.parametrize("command", NAMED)
+def test_the_catalogue_as_a_name_and_as_an_option(command, archive, called):
+    words, catalogue = NAMED[command], (archive / "c").read_bytes()
+    expected = called(command, *words)[:2]
+    (archive / "c").write_bytes(catalogue)
+    assert called(command, *(it for it in words if it != "c"), "--catalogue", "c")[:2] == expected and expected[1]
 
 
 @pytest.mark.parametrize(
