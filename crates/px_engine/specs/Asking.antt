@@ -1,14 +1,20 @@
 -- How many bytes a call asks for at most.
-use Rattle.std.specs.Prelude.{ℕ, ◌≤◌, ◌+◌, ◌*◌, List, Option, length}
+use Rattle.std.specs.Prelude.{◌≡◌, ℕ, ◌≤◌, ◌+◌, ◌*◌, List, Option, length}
 use Rattle.px_bytes.specs.Lacking.{Taken, AsksAtMost}
 use Rattle.px_bytes.specs.Reading.{readable, read_request}
 use Rattle.px_tree.specs.Asking.{exif_request}
+use Rattle.px_engine.specs.declared.kinds.BlockKind.{BlockKind}
+use Rattle.px_engine.specs.declared.kinds.BlockKind.TheVariants as kind
 use Rattle.px_engine.specs.Files.{Said}
 use Rattle.px_engine.specs.Input.{most_read, IsSaid}
 
 -- to read the block in a file of n bytes: a record of DataSets asks for less than an Exif block
 abbrev pub block_request : ℕ → ℕ
 block_request n = exif_request n
+
+-- to judge a block: nothing is asked for if it is one of DataSets, so that no allocation can fail
+abbrev pub AsksByKind : BlockKind → Taken → Taken → Type 0
+AsksByKind k old new = k ≡ kind.Iim → new ≡ old
 
 -- that, and the normal form in memory: a form is at most twice as long as its block
 abbrev pub form_request : ℕ → ℕ

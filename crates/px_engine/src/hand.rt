@@ -2,11 +2,11 @@
 ghost use Rattle.std.specs.Prelude.{◌≡◌, ◌+◌, ℕ, length, IfOk, IfErr, OnErr};
 ghost use Rattle.px_bytes.specs.Lacking.{AsksAtMost};
 ghost use Rattle.px_engine.specs.declared.kinds.BlockKind.TheVariants as kind;
-ghost use Rattle.px_engine.specs.Asking.{block_request, form_request, AsksForText};
+ghost use Rattle.px_engine.specs.Asking.{block_request, form_request, AsksByKind, AsksForText};
 ghost use Rattle.px_engine.specs.Input.{IsUnsaid, LacksRun, LacksPair};
 ghost use Rattle.px_engine.specs.Hand.{IsKindOf, PutsForm, SaysSame, IsUnsaidAt, IsFormOf, IsUnwritten};
 ghost use Rattle.px_engine.specs.Prints.{caption_text, listing, IsTextOf};
-ghost use Rattle.px_engine.specs.Files.{Said as AnySaid};
+ghost use Rattle.px_engine.specs.Files.{Said as AnySaid, kind_of};
 ghost use Rattle.px_engine.specs.calls.Putting.{given_of, PutsBlock, IsUnput};
 
 use crate::faults::{CompareFault, Fault, Side};
@@ -26,6 +26,7 @@ pub fn check_of_in(memory: &mut Memory, file: &[u8]) -> Result<BlockKind, Fault>
     ensures unsaid { IfErr result (IsUnsaid file.now memory.new.refusals) }
     ensures memory { LacksRun result memory.old memory.new }
     ensures asked { AsksAtMost (block_request (length file.now)) memory.old memory.new }
+    ensures kept { AsksByKind (kind_of file.now) memory.old memory.new }
 {
     match judge_any_in(memory, file) {
         Ok(kind) => Ok(kind),

@@ -5,7 +5,7 @@ ghost use Rattle.px_bytes.specs.Lacking.{AsksAtMost};
 ghost use Rattle.px_bytes.specs.Reading.{ReadsUpTo, ConsumesAtMost, readable, read_request};
 ghost use Rattle.px_meaning.specs.calls.Seen.{meaning_of};
 ghost use Rattle.px_engine.specs.declared.kinds.BlockKind.TheVariants as kind;
-ghost use Rattle.px_engine.specs.Asking.{block_request};
+ghost use Rattle.px_engine.specs.Asking.{block_request, AsksByKind};
 ghost use Rattle.px_engine.specs.Files as said;
 ghost use Rattle.px_engine.specs.Input.{most_read, IsSaidIn, IsRefusedIn, IsSaid, IsRefused, CountsReads, IsReadFault, LacksRun, LacksPair};
 ghost use Rattle.px_engine.specs.Hand.{IsKindOf};
@@ -127,6 +127,7 @@ fn judge_block(memory: &mut Memory, kind: BlockKind, bytes: &[u8]) -> Result<(),
     ensures refused { IfErr result (IsRefusedIn kind bytes.now memory.new.refusals) }
     ensures memory { LacksBlock result memory.old memory.new }
     ensures asked { AsksAtMost (block_request (length bytes.now)) memory.old memory.new }
+    ensures kept { AsksByKind kind memory.old memory.new }
 {
     match kind {
         BlockKind::Exif => judge_exif(memory, bytes),
@@ -134,12 +135,14 @@ fn judge_block(memory: &mut Memory, kind: BlockKind, bytes: &[u8]) -> Result<(),
     }
 }
 
-// The kind of the block in a file that has a meaning. Allocates what `judge_block_in` does for an Exif block.
+// The kind of the block in a file that has a meaning. Allocates what `judge_block_in` does for an Exif block, and
+// nothing for a block of DataSets.
 pub(crate) fn judge_any_in(memory: &mut Memory, file: &[u8]) -> Result<BlockKind, Refusal>
     ensures kind { IfOk result (IsKindOf file.now) }
     ensures refused { IfErr result (IsRefused file.now memory.new.refusals) }
     ensures memory { LacksBlock result memory.old memory.new }
     ensures asked { AsksAtMost (block_request (length file.now)) memory.old memory.new }
+    ensures kept { AsksByKind (said.kind_of file.now) memory.old memory.new }
 {
     let kind = kind_of(file);
     judge_block(memory, kind, block_of(file))?;
