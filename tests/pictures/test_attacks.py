@@ -198,6 +198,15 @@ COMMANDS = (
     ["merge", "c", "--catalogue", "into"],
     ["index", "p", "--catalogue", "c", "--quiet"],
     ["forget", "p", "--catalogue", "c"],
+    ["relocate", "c", "p", "."],
+    ["verify", "--catalogue", "c", "--quiet"],
+    ["history", "p/a.jpg", "good", "c"],
+    ["list", "c", "--with", "title"],
+    ["list", "c", "--geojson"],
+    ["check", "rules", "c"],
+    ["conflicts", "c"],
+    ["captions", "c"],
+    ["mend", "--catalogue", "c", "p"],
 )
 # What nothing printed may have: control characters but the end of a line, and marks that turn the direction of a text
 RAW = re.compile("[\0-\x09\x0b-\x1f\x7f-\x9f\u2028\u2029\u202a-\u202e\u2066-\u2069\udc80-\udcff]")
@@ -208,6 +217,7 @@ NASTY = "x\x1b[2J\x9b31m\u202etxt\u2066\r\nfalse line"
 def archive(tmp_path):
     """A folder with two pictures of the same meaning and a third, and two catalogues of them."""
     (tmp_path / "p").mkdir()
+    (tmp_path / "rules").write_text("title is one\n")
     for name, make in (("a.jpg", b"Abc"), ("b.jpg", b"Abc"), ("c.jpg", b"Xyz")):
         write(tmp_path / "p" / name, jpeg(app1(exif(make)), app1_xmp(title("one"))))
         os.utime(tmp_path / "p" / name, (1e9, 1e9))

@@ -6,7 +6,7 @@ import sqlite3
 
 import pytest
 from made_blocks import with_exif
-from made_files import app1, app1_xmp, exif, jpeg, title
+from made_files import app1, app1_xmp, exif, jpeg, xmp
 from studio import SMALL_JPEG, errors, put
 from test_repairs import REFUSED
 
@@ -39,7 +39,26 @@ COMMANDS = (
     ["mend", "--catalogue", "c", "out"],
     ["index", "p", "--catalogue", "c", "--quiet", "--jobs", "1"],
     ["forget", "p", "--catalogue", "c"],
+    ["relocate", "c", "p", "q"],
+    ["verify", "--catalogue", "c", "--quiet", "--jobs", "1"],
+    ["history", "p/a.jpg", "good", "c"],
+    ["list", "c", "--where", "title = one or creator like 'A*' or date created < 1950", "--columns", "title,position"],
+    ["list", "c", "--count", "title"],
+    ["list", "c", "--geojson"],
+    ["check", "rules", "c"],
+    ["conflicts", "c", "--all"],
+    ["same", "--catalogue", "c", "--kind", "pixels", "--xlsx", "tables"],
 )
+
+
+OF_TEXTS = [it for it in COMMANDS if it[0] in ("list", "check", "merge", "relocate", "forget", "index")]  # others don't read these
+ROWS_OF = {
+    "pictures": "WHERE rowid = 1",
+    "texts": "WHERE picture = 1",
+    "blocks": "WHERE picture = 3",
+    "not_read": "",
+    **dict.fromkeys(("runs", "maker_notes", "prepared"), ""),
+}
 
 
 @pytest.fixture(scope="module")
@@ -48,13 +67,16 @@ def archive(tmp_path_factory):
     folder = tmp_path_factory.mktemp("cells")
     (folder / "p").mkdir()
     (folder / "out").mkdir()
-    good = jpeg(app1(exif(b"Abc")), app1_xmp(title("one")))
+    (folder / "q").mkdir()
+    (folder / "rules").write_text("every picture needs credit\ntitle is one\ntitle like 'o*'\ntitle at most 2 characters in q/\n")
+    good = jpeg(app1(exif(b"Abc")), app1_xmp(xmp("<dc:title>one</dc:title>")), behind=b"a part that isn't read")
     refused = with_exif(SMALL_JPEG, REFUSED["unsorted"])
     put(folder / "p", {"a.jpg": good, "b.jpg": good, "c.jpg": refused, "d.jpg": refused, "e.jpg": good[:-9]})
     with pytest.MonkeyPatch.context() as patched:
         patched.chdir(folder)
         patched.setenv("PATH", str(folder))
-        main._run(["index", "p", "--catalogue", "good", "--quiet", "--jobs", "1"])
+        main._run(["index", "p", "--catalogue", "good", "--quiet", "--jobs", "1", "--pixels"])
+        main._run(["list", "good", "--with", "title"])  # which keeps the texts
     return folder
 
 
@@ -79,13 +101,13 @@ def test_each_cell(table, column, archive, capsys, monkeypatch):
         shutil.copy(archive / "good", changed)
         try:
             with sqlite3.connect(changed, isolation_level=None) as base:
-                row = "" if table in ("runs", "maker_notes") else "WHERE rowid = 1" if table == "pictures" else "WHERE picture = 3"
-                base.execute(f"UPDATE {table} SET {column} = ? {row}", (value,))
+                changed_rows = base.execute(f"UPDATE {table} SET {column} = ? {ROWS_OF[table]}", (value,)).rowcount
+                assert changed_rows or table == "maker_notes"
         except (sqlite3.IntegrityError, OverflowError):  # SQLite itself refuses it
             continue
         finally:
             base.close()
-        for words in COMMANDS:
+        for words in OF_TEXTS if table == "texts" else COMMANDS:
             shutil.copy(changed, archive / "c")
             for made in ("page", "tables", "into"):
                 (archive / made).unlink(missing_ok=True)
@@ -94,9 +116,9 @@ def test_each_cell(table, column, archive, capsys, monkeypatch):
             status = main.main(words)
             printed = capsys.readouterr()
             context = (table, column, name, words, status, printed.err[-1000:])
-            assert status in (0, 1, 2, 4), context
+            assert status in range(5), context
             assert "internal error" not in printed.out + printed.err and "Traceback" not in printed.err, context
-            assert status != 4 or len(errors(printed.err)) == 1, context
+            assert status < 3 or len(errors(printed.err)) == 1, context
             assert not re.search("[\0-\x08\x0b-\x1f]", printed.err), context
 
 
@@ -188,3 +210,16 @@ def test_a_part_that_is_too_long():
     assert not_read_of_row(("x" * 10_000, ""))
     with pytest.raises(Damaged, match="too long"):
         not_read_of_row(("x" * 10_001, ""))
+
+
+@pytest.mark.parametrize("text", [b"octets", "x" * 65_537], ids=["octets", "long"])
+@pytest.mark.parametrize(
+    "words", [["list", "c", "--columns", "title"], ["list", "c", "--count", "title"], ["check", "rules", "c"]], ids=repr
+)
+def test_a_text_that_index_never_keeps(text, words, catalogue, capsys):
+    (catalogue.parent / "rules").write_text("title never in p/\n")
+    with sqlite3.connect(catalogue, isolation_level=None) as base:
+        base.execute("UPDATE texts SET text = ? WHERE label = 'title'", (text,))
+    base.close()
+    assert main.main(words) == 4
+    assert len(errors(capsys.readouterr().err)) == 1

@@ -13,7 +13,9 @@ from typing import Callable, Dict, Iterator, List, NamedTuple, Optional, Sequenc
 
 from ..fields.folding import bare, folded
 from ..fields.labels import DATE, PRIVATE
+from ..fields.listing import LONGEST_TEXT
 from ..fields.questions import All, Any, Condition, Not, Question, With, labels_of
+from ..model.columns import Damaged
 from ..model.problems import NOT_THERE, Problem
 from ..model.records import has
 from .kept_texts import Report, make_ready, say_nothing
@@ -167,9 +169,21 @@ def _fitting(row: Tuple[int, bytes]) -> Fitting:
     return Fitting(*row)
 
 
+def has_text(text: object) -> None:
+    """Raises `Damaged` if a value is no text, or longer than any that a catalogue keeps."""
+    has(str, text)
+    if len(str(text)) > LONGEST_TEXT:
+        raise Damaged("a text is too long")
+
+
 def _text(row: Tuple[str]) -> str:
-    has(str, *row)
+    has_text(row[0])
     return row[0]
+
+
+def _counted(row: Tuple[str, int, str]) -> Tuple[str, int, str]:
+    has_text(row[0])
+    return row
 
 
 class Answer:
@@ -242,5 +256,7 @@ class Answer:
             base.execute("CREATE INDEX temp.counted_by_bare ON counted (bare)")
         yield from self._catalogue.rows(
             "SELECT c.text, c.pictures, c.bare FROM temp.counted c JOIN (SELECT bare, sum(pictures) AS pictures, min(text) AS text"
-            " FROM temp.counted GROUP BY bare) g ON g.bare = c.bare ORDER BY g.pictures DESC, g.text, c.pictures DESC, c.text"
+            " FROM temp.counted GROUP BY bare) g ON g.bare = c.bare ORDER BY g.pictures DESC, g.text, c.pictures DESC, c.text",
+            (),
+            _counted,
         )

@@ -8,7 +8,7 @@ from typing import Iterator, List, NamedTuple, Optional, Sequence, Tuple
 
 from ..fields.rules import AFTER, BEFORE, LENGTH, LIKE, NEEDS, NEVER, VALUES, Rule
 from ..model.records import has
-from .asking import IN_SCOPE, unread
+from .asking import IN_SCOPE, has_text, unread
 from .kept_texts import Report, make_ready, say_nothing
 from .store import Catalogue, root_of_row
 
@@ -56,6 +56,8 @@ class Checked:
             values = (label, *given)
         for path, root, text in self._catalogue.rows(query, values):
             has(bytes, path, root)
+            if text is not None:
+                has_text(text)
             if rule.is_about(_below(path, root)):
                 yield path, text
 

@@ -424,7 +424,7 @@ class Catalogue:
             self.base.execute(step.format(other=other), offsets)
 
     def greatest(self, table: str) -> int:
-        """The greatest number of a row. Raises `Damaged` if it is none that a catalogue has."""
+        """The greatest number of a row. Raises `NoCatalogue` if it is none that a catalogue has."""
         return self._number(f"SELECT ifnull(max(id), 0) FROM main.{table}")
 
     def prepared(self) -> int:
@@ -441,9 +441,10 @@ class Catalogue:
         return max(self.greatest("pictures"), self.prepared())
 
     def _number(self, query: str) -> int:
-        number = int(self.base.execute(query).fetchone()[0])
-        if number > ROW_NUMBER:
-            raise Damaged(f"{number} is no number of a row")
+        with self.guarded():
+            number = self.base.execute(query).fetchone()[0]
+            if not isinstance(number, int) or number > ROW_NUMBER:
+                raise Damaged(f"{number} is no number of a row")
         return number
 
     def _is_kept(self, run: int, picture: PictureRecord) -> bool:
