@@ -11,7 +11,7 @@ use Rattle.px_xmp_marks.specs.Instructions.{is_reserved, begins_space, to_end, f
 use Rattle.px_xmp_marks.proofs.NameLaws.{Stops, ReadNcName, ncname_reads, ncname_found, some_same}
 use Rattle.px_xmp_marks.proofs.AttributeLaws.{space_ends}
 use Rattle.px_xmp_marks.proofs.TagLaws.{starts_from}
-use Rattle.px_xmp_marks.proofs.SectionLaws.{Found, find_found, differ}
+use Rattle.px_xmp_marks.proofs.SectionLaws.{Found, find_found, numbers_differ}
 
 abbrev mark : List ℕ
 mark = codes "?>"
@@ -23,7 +23,7 @@ mark_here o y rest h = elim (cases_Bool (starts_with nat_eq (o ∷ (y ++ (mark +
 ]
   where
     by_length : (o : ℕ) (y : List ℕ) → HasNo mark (o ∷ y) → o ∷ (y ++ (mark ++ rest)) ≡ mark ++ drop 2 (o ∷ (y ++ (mark ++ rest))) → ⊥
-    by_length o [] h e = differ 63 62 (ap (λ (z : List ℕ). get_or z 1 0) e) refl
+    by_length o [] h e = numbers_differ 63 62 (ap (λ (z : List ℕ). get_or z 1 0) e) refl
     by_length o (d ∷ y) h e =
         let a : o ≡ 63 = ap (λ (z : List ℕ). get_or z 0 0) e in
         let b : d ≡ 62 = ap (λ (z : List ℕ). get_or z 1 0) e in

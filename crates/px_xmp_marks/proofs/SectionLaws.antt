@@ -52,8 +52,8 @@ find_found w s j (o ∷ x) n h = elim (cases_Bool (starts_with nat_eq (o ∷ x) 
         let t : true ≡ false = sym (s b) ∙ ap (λ (z : List ℕ). starts_with nat_eq z w) (sym e) ∙ f in absurd (cc)
     after x k r f (c ∷ a) b e = let l = r a b (ap (λ (z : List ℕ). drop 1 z) e) in omega (arith, l)
 
-pub differ : (a b : ℕ) → a ≡ b → (a == b) ≡ false → ⊥
-differ a b e h = let t = eq-eqb a b e in absurd (cc)
+pub numbers_differ : (a b : ℕ) → a ≡ b → (a == b) ≡ false → ⊥
+numbers_differ a b e h = let t = eq-eqb a b e in absurd (cc)
 
 -- ---- sections
 
@@ -68,8 +68,8 @@ section_here o y rest h = elim (cases_Bool (starts_with nat_eq (o ∷ (y ++ (sec
   where
     by_length : (o : ℕ) (y : List ℕ) → HasNo section_end (o ∷ y)
         → o ∷ (y ++ (section_end ++ rest)) ≡ section_end ++ drop 3 (o ∷ (y ++ (section_end ++ rest))) → ⊥
-    by_length o [] h e = differ 93 62 (ap (λ (z : List ℕ). get_or z 2 0) e) refl
-    by_length o (d ∷ []) h e = differ 93 62 (ap (λ (z : List ℕ). get_or z 2 0) e) refl
+    by_length o [] h e = numbers_differ 93 62 (ap (λ (z : List ℕ). get_or z 2 0) e) refl
+    by_length o (d ∷ []) h e = numbers_differ 93 62 (ap (λ (z : List ℕ). get_or z 2 0) e) refl
     by_length o (d ∷ f ∷ y) h e =
         let a : o ≡ 93 = ap (λ (z : List ℕ). get_or z 0 0) e in
         let b : d ≡ 93 = ap (λ (z : List ℕ). get_or z 1 0) e in

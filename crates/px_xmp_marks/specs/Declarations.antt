@@ -114,7 +114,8 @@ from_version n x =
 -- the declaration at the start
 unfoldable pub declaration : List ℕ → Option Declared
 declaration x =
-    if starts_with nat_eq x (codes "<?xml") then option_and_then (λ v. from_version v.size (drop v.size (drop 5 x))) (version_part (drop 5 x))
+    if starts_with nat_eq x (codes "<?xml")
+    then option_and_then (λ v. from_version v.size (drop v.size (drop 5 x))) (version_part (drop 5 x))
     else None
 
 -- ---- the grammar

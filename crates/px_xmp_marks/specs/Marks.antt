@@ -20,7 +20,8 @@ data_len x = run (λ o. not (o == 60)) x
 unfoldable pub text_len : List ℕ → Option ℕ
 text_len x =
     if data_len x == 0 then None
-    else if is_none (find (codes "]]>") 0 (take (data_len x) x)) && is_none (first_fault CharacterData (take (data_len x) x)) then Some (data_len x)
+    else if is_none (find (codes "]]>") 0 (take (data_len x) x)) && is_none (first_fault CharacterData (take (data_len x) x))
+    then Some (data_len x)
     else None
 
 abbrev pub or_else : Option ℕ → Option ℕ → Option ℕ

@@ -3,7 +3,7 @@ use Rattle.std.proofs.Common.{◌≡◌, ◌≤◌, ◌+◌, ℕ, true, false, L
 use Rattle.std.proofs.lemmas.List.{drop_at, take_at, take-append-drop, length-take-le, take_all, take-append-le, drop-append-le}
 use Rattle.std.proofs.lemmas.Str.{encode_same, length-encode, len_utf8_bounds, IsUtf8-append, IsUtf8-encode}
 use Rattle.std.specs.List.{AllByRecursion}
-use Rattle.std.specs.Char.{encode_utf8, IsScalar}
+use Rattle.std.specs.Char.{encode_utf8}
 use Rattle.std.specs.Str.{encode_utf8_all, IsUtf8, IsValidUpTo, StartsWithNoChar}
 use Rattle.px_xmp_text.specs.References.{is_char}
 use Rattle.px_xmp_text.specs.calls.Forbidden.{IsForbidden}
@@ -11,9 +11,6 @@ use Rattle.px_xmp_text.specs.Characters.{AreCharacters, BeginsWithNone, IsFirstB
 
 abbrev Allowed : List ℕ → Type 0
 Allowed cs = AllByRecursion (λ c. is_char c ≡ true) cs
-
-pub char_is_scalar : (c : ℕ) → is_char c ≡ true → IsScalar c
-char_is_scalar c h = grind arith
 
 encode_some : (c : ℕ) → 1 ≤ length (encode_utf8 c)
 encode_some c = omega (arith, length-encode c, len_utf8_bounds c)
@@ -75,8 +72,8 @@ pub record Stepped (x rest : List ℕ) (at n : ℕ) (c : ℕ) : Type 0 where
   pub left : rest ≡ drop n x
   pub inside : n ≤ length x
 
-pub step : (x rest : List ℕ) (at n c : ℕ) → at ≤ length x → drop at x ≡ encode_utf8 c ++ rest → n ≡ at + length (encode_utf8 c) → Stepped x rest at n c
-step x rest at n c l e s =
+pub character_step : (x rest : List ℕ) (at n c : ℕ) → at ≤ length x → drop at x ≡ encode_utf8 c ++ rest → n ≡ at + length (encode_utf8 c) → Stepped x rest at n c
+character_step x rest at n c l e s =
     let p = take at x ++ encode_utf8 c in
     let whole : x ≡ p ++ rest =
     sym (take-append-drop at x) ∙ ap (λ (u : List ℕ). take at x ++ u) e ∙ sym (append_assoc (take at x) (encode_utf8 c) rest) in
@@ -96,7 +93,7 @@ one_more x rest at n c (cs, p, e) h s =
 pub none_after : (x : List ℕ) (n : ℕ) → IsValidUpTo x n → StartsWithNoChar (drop n x)
 none_after x n v c rest s e =
     let m = n + length (encode_utf8 c) in
-    let t = step x rest n m c (omega (arith, v.short)) e refl in
+    let t = character_step x rest n m c (omega (arith, v.short)) e refl in
     let some = encode_some c in
     v.longest m (omega (arith, some)) (subst IsUtf8 (sym t.front) (IsUtf8-append (take n x) (encode_utf8 c) v.front (IsUtf8-encode c s)))
 
