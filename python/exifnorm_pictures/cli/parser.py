@@ -15,7 +15,7 @@ from .exit_codes import USAGE
 PIXELS = "pixels"  # the kind of groups with the same coded picture
 
 _STATUSES = """Statuses:
-  0    done, or the same (index: also if pictures are refused, which the
+  0    done, or the same (index: also if metadata are refused, which the
        catalogue records)
   1    different (changed, compare, history: something differs, also after
        repair, was moved or is missing; same: MakerNotes of a group differ in
@@ -125,8 +125,8 @@ def parsers(only: Optional[str] = None) -> "Tuple[_Parser, Dict[str, _Parser]]":
     """The parser of the arguments, and those of each command, or of one alone: to make all of them takes longer than to read a picture."""
     whole = _Parser(
         prog="exifnorm-pictures",
-        description="Compares the Exif, IPTC and XMP metadata of many pictures: finds pictures that\n"
-        "mean the same, lists changed pictures with their fields, and explains and\nmends refused ones.",
+        description="Compares the Exif, IPTC and XMP metadata of many pictures: finds pictures with\n"
+        "the same metadata, lists what changed in each, and explains and mends metadata\nthat break the rules of their format (refused).",
         epilog=_STATUSES,
         formatter_class=_Formatter,
     )
@@ -211,13 +211,16 @@ def _jobs_argument(parser: argparse.ArgumentParser) -> None:
 
 
 def _sidecars_argument(parser: argparse.ArgumentParser) -> None:
-    words = "XMP files beside a picture are blocks of it: NAME.EXT.xmp and NAME.xmp"
+    words = "read XMP files beside a picture, NAME.EXT.xmp and NAME.xmp, as metadata of it"
     parser.add_argument("--sidecars", action="store_true", help=words)
 
 
 def _more_arguments(parser: argparse.ArgumentParser) -> None:
     _sidecars_argument(parser)
-    words = "also a digest of each coded picture, which recognises pictures that were moved and edited, and is for same --kind pixels"
+    words = (
+        "read the pictures too, not only their metadata: changed then finds other and damaged pictures, and those that were moved and edited;"
+        " verify and same --kind pixels need it"
+    )
     parser.add_argument("--pixels", action="store_true", help=words)
 
 
@@ -247,7 +250,7 @@ def _merge_arguments(parser: argparse.ArgumentParser) -> None:
 def _same_arguments(parser: argparse.ArgumentParser) -> None:
     _example(parser, "same --catalogue archive.catalogue --csv > same.csv")
     parser.add_argument("--catalogue", required=True, type=_name, metavar="FILE")
-    words = "the blocks that must mean the same (all); pixels: the coded picture must be the same, by the digests of index --pixels"
+    words = "what must be the same: all metadata, or those of one kind (all); pixels: the picture, whatever its metadata, by index --pixels"
     parser.add_argument("--kind", choices=("all", *KINDS, PIXELS), default="all", help=words)
     parser.add_argument("--least-fields", type=_positive, default=0, metavar="N", help="leave out groups of pictures with fewer fields")
     parser.add_argument("--no-look", action="store_true", help="don't look at the files, as for a catalogue from elsewhere")
@@ -511,7 +514,7 @@ _COMMANDS: Tuple[Tuple[str, str, Callable[[argparse.ArgumentParser], None]], ...
     ("forget", "remove folders or pictures from a catalogue", _forget_arguments),
     ("relocate", "tell a catalogue where its pictures are now, without reading them again", _relocate_arguments),
     ("verify", "read files again, and tell what is damaged from what is captioned", _verify_arguments),
-    ("same", "list groups of pictures that mean the same", _same_arguments),
+    ("same", "list groups of pictures with the same metadata, or of the same picture", _same_arguments),
     ("changed", "list the differences between two catalogues or folders, with the fields", _changed_arguments),
     ("history", "what changed in one picture from catalogue to catalogue, also if it moved", _history_arguments),
     ("compare", "compare two pictures: what differs, side by side, in plain words", _compare_arguments),
@@ -521,8 +524,8 @@ _COMMANDS: Tuple[Tuple[str, str, Callable[[argparse.ArgumentParser], None]], ...
     ("show", "print the fields of pictures", _show_arguments),
     ("captions", "print captions, names, keywords and rights of pictures, each with its fields", _captions_arguments),
     ("conflicts", "list pictures whose Exif, IPTC and XMP contradict each other", _conflicts_arguments),
-    ("explain", "explain why a block is refused, and name remedies", _pictures_arguments),
+    ("explain", "explain why metadata are refused or a file is damaged, and name remedies", _pictures_arguments),
     ("report", "write a page, or a folder of pages, about a catalogue", _report_arguments),
     ("export", "write a catalogue as plain tables of SQLite, for SQL, Datasette and pandas", _export_arguments),
-    ("mend", "write a copy of a picture whose block is accepted", _mend_arguments),
+    ("mend", "write a copy of a picture in which refused metadata are mended", _mend_arguments),
 )
