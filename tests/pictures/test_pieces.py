@@ -12,7 +12,6 @@ from exact_fields import field
 from made_files import xmp as packet_of
 from studio import WithPictures, write
 
-import exifnorm
 from exifnorm_pictures import xmp
 from exifnorm_pictures.comparison import differing
 from exifnorm_pictures.extract import exiftool, programs
@@ -20,11 +19,10 @@ from exifnorm_pictures.fields import listing, xmp_properties
 from exifnorm_pictures.fields.field import Field
 from exifnorm_pictures.files import session
 from exifnorm_pictures.model import records, sides, texts, verdicts
-from exifnorm_pictures.model.found import Blocks, NotRead
+from exifnorm_pictures.model.found import NotRead
 from exifnorm_pictures.model.records import PictureRecord, Stamp
 from exifnorm_pictures.model.sides import Side
 from exifnorm_pictures.model.verdicts import Verdict
-from exifnorm_pictures.report import thumbnails
 from exifnorm_pictures.scan import batches, moved, walk, workers
 from exifnorm_pictures.scan.walk import FoundFile
 
@@ -551,47 +549,3 @@ class Sessions(WithPictures):
             self.assertEqual(calls, [["exiftool", "-config", "", "-ver"] if program == "exiftool" else ["exiv2", "--version"]])
         with mock.patch.object(programs, "is_there", lambda _: False):
             self.assertIsNone(programs.version.__wrapped__("exiv2", 60.0))
-
-
-class Small(WithPictures):
-    """Small pictures of a report."""
-
-    def small(self, *files, embedded=None):
-        names = []
-        for number, octets in enumerate(files):
-            names.append(os.fsencode(self.path(f"{number}")))
-            write(self.path(f"{number}"), octets)
-        fields = {b"MM": [exifnorm.Field("thumb", 0x0201, "JPEG", embedded or b"")]}
-        blocks = Blocks()
-        blocks.add("exif", b"MM", "")
-        with mock.patch.object(thumbnails.exifnorm, "fields", fields.__getitem__), mock.patch.object(
-            thumbnails.extraction, "blocks_of_file", lambda *_, **__: blocks if embedded else Blocks()
-        ):
-            found = thumbnails.small_pictures([*names, names[0]])
-        return {os.path.basename(os.fsdecode(name)): uri for name, uri in found.items()}
-
-    def test_kinds(self):
-        self.assertEqual(
-            self.small(b"\xff\xd8\xffa", b"\x89PNG\r\n\x1a\n", b"GIF89", b"GIF", b"", b"\xff\xd8"),
-            {"0": "data:image/jpeg;base64,/9j/YQ==", "1": "data:image/png;base64,iVBORw0KGgo=", "2": "data:image/gif;base64,R0lGODk="},
-        )
-        self.assertEqual(
-            self.small(b"GIF89", b"GIF8", embedded=b"\xff\xd8\xff"),
-            {"0": "data:image/jpeg;base64,/9j/", "1": "data:image/jpeg;base64,/9j/"},
-        )
-        self.assertEqual(self.small(b"GIF89", embedded=b"abc"), {})
-
-    def test_lengths(self):
-        long = b"GIF8" + bytes(32_764)
-        self.assertEqual(list(self.small(long, long + b"1", b"GIF8")), ["0", "2"])
-        self.assertEqual((thumbnails.LARGEST, thumbnails.MOST), (32_768, 2_000_000))
-        with mock.patch.object(thumbnails, "MOST", 9):
-            self.assertEqual(list(self.small(b"GIF89", b"GIF89", b"GIF8", b"GIF8")), ["0", "2"])
-
-    def test_what_cannot_be_read(self):
-        for why in (programs.Missing("exiftool"), programs.Failed("failed")):
-            with mock.patch.object(thumbnails.extraction, "blocks_of_file", mock.Mock(side_effect=why)):
-                self.assertEqual(thumbnails.small_pictures([b"/no such picture"]), {})
-        for why in (thumbnails.exifnorm.Refused("Overlap", 1), thumbnails.exifnorm.NormalTooLong(), MemoryError()):
-            with mock.patch.object(thumbnails.exifnorm, "fields", mock.Mock(side_effect=why)):
-                self.assertIsNone(thumbnails._embedded(b"MM"))

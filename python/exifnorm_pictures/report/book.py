@@ -82,6 +82,7 @@ class Book:
             return self._renderer.index(self.counts, shown, changes, rules)
         finally:
             self._marks.close()
+            self._renderer.shrinker.close()
             if changes:
                 changes.close()
 

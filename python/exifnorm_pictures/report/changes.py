@@ -3,6 +3,7 @@
 from __future__ import annotations
 
 import json
+import os
 from collections import Counter
 from typing import Iterator, List, NamedTuple, Optional, Tuple
 
@@ -13,6 +14,7 @@ from ..comparison.summary import Summary
 from ..comparison.summary_lines import Line, results_of, rows_of, sentence
 from ..comparison.wording import sides
 from ..fields.left_out import lines
+from ..model.records import Stamp, is_as_before
 from ..model.results import Result
 from .contents import About
 from .entries import Entry, chunks
@@ -38,6 +40,7 @@ class ChangedPicture(NamedTuple):
     name: bytes
     before: Optional[bytes]
     after: Optional[bytes]
+    earlier: Optional[bytes] = None  # the earlier file, if it is there as it was, and the picture is another one
 
 
 class Difference(NamedTuple):
@@ -46,6 +49,7 @@ class Difference(NamedTuple):
     result: Result
     note: str
     rows: List[Row]
+    is_other: bool  # whether the picture itself is another one or damaged
     total: int  # of all its pictures
     pictures: List[ChangedPicture]
     is_first: bool  # False: more pictures with the difference before
@@ -60,6 +64,7 @@ class Changes:
         self.coded: "Counter[Coded]" = Counter()  # what is known of the coded pictures of both catalogues
         self.summary = Summary(about.choice)
         self._folders = MovedFolders()
+        self._old = about.old
         self._heads = heads_of((about.old, about.catalogue))
         self._equal = changed.Equal()
         session = about.session if about.look else None
@@ -88,7 +93,8 @@ class Changes:
             self._folders.add(comparison.name, place)
         name = comparison.name if place is None else comparison.name + _NUL + place
         rank = _RESULTS.index(comparison.result)
-        self._equal.add(json.dumps([rank, note, rows]), name, False, rank)
+        is_other = comparison.picture == Coded.OTHER or comparison.picture.is_damaged
+        self._equal.add(json.dumps([rank, note, rows, is_other]), name, False, rank)
 
     @property
     def number_changed(self) -> int:
@@ -121,22 +127,31 @@ class Changes:
     def entries(self) -> Iterator[Entry]:
         """Each difference with its pictures, by what happened and by their number; of many pictures so many as a page has."""
         for text, count, names in self._equal.all(by_rank=True):
-            rank, note, all_rows = json.loads(text)
+            rank, note, all_rows, is_other = json.loads(text)
             result = _RESULTS[rank]
             marker = Marker()
             rows = [Row(name, *marker.marked(before, after), what) for name, before, after, what in all_rows]
             is_first = True
-            for some in chunks(names):
-                pictures = [self._picture(result, name) for name in some]
+            for some in chunks(names, lambda name: name):
+                pictures = [self._picture(result, name, is_other) for name in some]
                 paths = tuple(it.after or it.before or b"" for it in pictures)
-                yield Entry(Difference(result, note, rows, count, pictures, is_first), paths, 1 + len(rows))
+                yield Entry(Difference(result, note, rows, is_other, count, pictures, is_first), paths, 1 + len(rows), is_first, len(text))
                 is_first = False
 
-    def _picture(self, result: Result, name: bytes) -> ChangedPicture:
+    def _picture(self, result: Result, name: bytes, is_other: bool) -> ChangedPicture:
         before, _, place = name.partition(_NUL)
         old = None if result == Result.MISSING_BEFORE else _path(self._heads[BEFORE], before)
         new = None if result == Result.MISSING_AFTER else _path(self._heads[AFTER], place or before)
-        return ChangedPicture(before, old, new)
+        earlier = old if is_other and old and old != new and self._is_as_it_was(old) else None
+        return ChangedPicture(before, old, new, earlier)
+
+    def _is_as_it_was(self, path: bytes) -> bool:
+        """Whether an earlier file is there, as the older catalogue has it."""
+        known = self._old.known(path)
+        try:
+            return bool(known and known.stamp and is_as_before(Stamp.of(os.stat(path)), known.stamp))
+        except OSError:
+            return False
 
 
 def _path(head: bytes, name: bytes) -> bytes:

@@ -2,11 +2,11 @@
 
 from __future__ import annotations
 
-import itertools
-from typing import Any, Iterable, Iterator, List, NamedTuple, Tuple, TypeVar
+from typing import Any, Callable, Iterable, Iterator, List, NamedTuple, Tuple, TypeVar
 
 PAGE = 200  # pictures of a page
 ROWS = 5_000  # rows of its tables, unless one entry alone has more
+CHARACTERS = 100_000  # of its texts, in the same way
 
 
 Made = TypeVar("Made")
@@ -19,12 +19,20 @@ class Entry(NamedTuple):
     pictures: Tuple[bytes, ...]
     rows: int = 1
     is_counted: bool = True  # False: more pictures of an entry that is counted already
+    size: int = 0  # characters of its texts, if they may be long
 
 
-def chunks(pictures: Iterable[Made]) -> Iterator[List[Made]]:
-    """As many pictures at a time as a page has."""
-    rest = iter(pictures)
-    while chunk := list(itertools.islice(rest, PAGE)):
+def chunks(pictures: Iterable[Made], path_of: Callable[[Made], bytes]) -> Iterator[List[Made]]:
+    """As many pictures at a time as a page has; fewer if their names are long."""
+    chunk: List[Made] = []
+    size = 0
+    for picture in pictures:
+        size += len(path_of(picture))
+        if chunk and (len(chunk) == PAGE or size > CHARACTERS):
+            yield chunk
+            chunk, size = [], len(path_of(picture))
+        chunk.append(picture)
+    if chunk:
         yield chunk
 
 
@@ -35,13 +43,13 @@ def pages_of(entries: Iterable[Entry]) -> Iterator[List[Entry]]:
     [2, 1]
     """
     page: List[Entry] = []
-    pictures = rows = 0
+    pictures = rows = size = 0
     for entry in entries:
-        pictures += max(1, len(entry.pictures))
-        rows += entry.rows
-        if page and (pictures > PAGE or rows > ROWS):
+        more, longer = max(1, len(entry.pictures)), entry.size + sum(map(len, entry.pictures))
+        if page and (pictures + more > PAGE or rows + entry.rows > ROWS or size + longer > CHARACTERS):
             yield page
-            page, pictures, rows = [], max(1, len(entry.pictures)), entry.rows
+            page, pictures, rows, size = [], 0, 0, 0
+        pictures, rows, size = pictures + more, rows + entry.rows, size + longer
         page.append(entry)
     if page:
         yield page

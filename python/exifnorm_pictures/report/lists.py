@@ -87,7 +87,8 @@ def contradicting(about: About, counts: Counts) -> Iterator[Entry]:
     for picture in checked(about.catalogue, about.catalogue.pictures(about.table())):
         counts.contradictions.add(picture)
         if picture.real:
-            yield Entry(Contradicting(picture.path, picture.real), (picture.path,), len(picture.real))
+            size = sum(len(text.line) for conflict in picture.real for text in conflict.texts)
+            yield Entry(Contradicting(picture.path, picture.real), (picture.path,), len(picture.real), True, size)
 
 
 class Breaking(NamedTuple):
@@ -101,7 +102,7 @@ def breaking(rules: Checked) -> Iterator[Entry]:
     """The pictures that break a rule."""
     for path, of_picture in groupby(rules.broken(by_picture=True), lambda broken: broken.path):
         broken = [(rules.rules[one.number], one) for one in of_picture]
-        yield Entry(Breaking(path, broken), (path,), len(broken))
+        yield Entry(Breaking(path, broken), (path,), len(broken), True, sum(len(one.text or "") for _, one in broken))
 
 
 class Same(NamedTuple):
@@ -118,7 +119,7 @@ def same(about: About, counts: Counts) -> Iterator[Entry]:
     by_files = groups.Groups(about.catalogue, about.table(), about.look, about.session)
     for group in by_files.by_meaning(choice=about.choice):
         sentence = sentence_of(group) + f"; {KEEP_ALL}" * group.rests_on_readings
-        for number, pictures in enumerate(chunks(group.pictures())):
+        for number, pictures in enumerate(chunks(group.pictures(), lambda path: path)):
             yield Entry(Same(group.count, sentence, pictures, not number), tuple(pictures), 1, not number)
     counts.unknown = by_files.unknown
 
@@ -173,7 +174,7 @@ def unread(about: About) -> Iterator[Entry]:
     query = f"SELECT {PICTURE_COLUMNS} FROM pictures WHERE not_read IS NOT '' AND {chosen(about)} ORDER BY path"
     for picture in catalogue.rows(query, (), picture_of_row):
         parts = each_kind(part.what for part in catalogue.not_read_of(picture))
-        yield Entry(Unread(picture.path, parts), (picture.path,), len(parts))
+        yield Entry(Unread(picture.path, parts), (picture.path,), len(parts), True, sum(map(len, parts)))
 
 
 def problems(about: About) -> Iterator[Entry]:
@@ -205,7 +206,7 @@ def folders(about: About) -> Iterator[Entry]:
     query = f"SELECT path, {_STATE} FROM pictures WHERE {is_shown} ORDER BY folder_of(path), path"
     rows = catalogue.rows(query, (), _picture_and_state)
     for folder, of_folder in groupby(rows, lambda row: os.path.dirname(row[0])):
-        for number, pictures in enumerate(chunks(of_folder)):
+        for number, pictures in enumerate(chunks(of_folder, lambda row: row[0])):
             yield Entry(Folder(folder, pictures, not number), tuple(path for path, _ in pictures))
 
 

@@ -17,7 +17,7 @@ from .links import Links, below
 from .lists import Counts, mending_all
 from .marks import Marks
 from .templating import TEMPLATES, environment
-from .thumbnails import small_pictures
+from .thumbnails import Shrinker, small_pictures
 
 if TYPE_CHECKING:
     from .book import Section, Written
@@ -30,9 +30,13 @@ class Renderer:
         from markupsafe import Markup  # of Jinja2
 
         self._html = Markup
-        self._session, roots, runs = about.session, about.catalogue.roots(), about.catalogue.runs()
+        self.shrinker = Shrinker()
+        self._look, self._session = about.look, about.session
+        roots, runs = about.catalogue.roots(), about.catalogue.runs()
         filters = {"address": Links(about.link_to, roots).of, "below": lambda path: below(path, roots), "marks": marks.of}
         self._templates = environment(filters)
+        for name in self._templates.list_templates(extensions=["html"]):
+            self._templates.get_template(name)  # compiled once, whatever is listed
         style = (TEMPLATES / "report.css").read_text(encoding="utf-8")
         self._shared: Dict[str, Any] = {
             "title": about.title,
@@ -49,9 +53,18 @@ class Renderer:
 
     def entries(self, key: str, entries: Sequence[Entry], first: int) -> Any:
         """Some entries of a list, which are numbered from `first` on."""
-        pictures = small_pictures([path for entry in entries for path in entry.pictures], self._session)
+        pictures = self._small_pictures(key, entries)
         template: Any = self._templates.get_template(f"{key}.html")
         return template.make_module({**self._shared, "pictures": pictures}).entries(entries, first)
+
+    def _small_pictures(self, key: str, entries: Sequence[Entry]) -> Dict[bytes, str]:
+        """The small pictures of those lists that show them."""
+        if not self._look or key not in ("changed", "same", "folders"):
+            return {}
+        paths = [path for entry in entries for path in entry.pictures]
+        if key == "changed":
+            paths += [one.earlier for entry in entries for one in entry.data.pictures if one.earlier]
+        return small_pictures(paths, self.shrinker, self._session)
 
     def page(self, section: "Section", number: int, has_next: bool, body: Any) -> str:
         """A further page: a part of a list."""

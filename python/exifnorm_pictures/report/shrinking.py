@@ -1,0 +1,96 @@
+"""Makes small pictures by Pillow, in a process of its own with little memory and time: what a stranger's picture does to Pillow costs its tile.
+
+It reads requests from standard input and writes answers to standard output, each with its length in front. A request is the path of a picture,
+NUL, and perhaps the thumbnail that it has. An answer is a JPEG, or empty.
+"""
+
+from __future__ import annotations
+
+import io
+import resource
+import struct
+import sys
+from typing import Any, BinaryIO, Optional
+
+LARGEST = 10_000  # bytes of a small picture
+SECONDS, MEMORY = 10, 256 << 20  # that one picture may take
+_WIDEST = (300, 220, 150, 100)  # points, each smaller than the one before, until a picture is small enough
+_ORIENTATION = 0x0112
+
+
+def _small(image_module: Any, path: bytes, embedded: bytes) -> bytes:
+    """The small picture of a picture, the right way up."""
+    with open(path, "rb") as file:
+        turned = _orientation(image_module, file)
+        for source in [io.BytesIO(embedded)] * bool(embedded) + [file]:
+            source.seek(0)
+            octets = _shrunk(image_module, source, turned)
+            if octets:
+                return octets
+    return b""
+
+
+def _orientation(image_module: Any, file: BinaryIO) -> int:
+    try:
+        return int(image_module.open(file).getexif().get(_ORIENTATION, 1))
+    except Exception:  # Pillow raises many kinds
+        return 1
+
+
+def _shrunk(image_module: Any, source: Any, orientation: int) -> Optional[bytes]:
+    turns = dict(
+        zip(range(2, 9), (0, 3, 1, 5, 4, 6, 2))
+    )  # FLIP_LEFT_RIGHT, ROTATE_180, FLIP_TOP_BOTTOM, TRANSPOSE, ROTATE_270, TRANSVERSE, ROTATE_90
+    try:
+        picture = image_module.open(source)
+        picture.draft("RGB", (_WIDEST[0], _WIDEST[0]))
+        picture.thumbnail((_WIDEST[0], _WIDEST[0]))
+        if picture.mode in ("RGBA", "LA", "P", "PA"):  # on white, where it can be seen through
+            picture = picture.convert("RGBA")
+            white = image_module.new("RGBA", picture.size, "white")
+            white.alpha_composite(picture)
+            picture = white
+        if picture.mode.startswith("I;16") or picture.mode in ("I", "F"):
+            picture = picture.convert("F").point(lambda value: value / 256)
+        picture = picture.convert("RGB")
+        if orientation in turns:
+            picture = picture.transpose(turns[orientation])
+        for widest in _WIDEST:
+            picture.thumbnail((widest, widest))
+            made = io.BytesIO()
+            picture.save(made, "JPEG", quality=72, optimize=True)
+            if made.tell() <= LARGEST:
+                return made.getvalue()
+    except Exception:  # Pillow raises many kinds, also for want of memory
+        return None
+    return None
+
+
+def _limit_time() -> None:
+    """The process ends if it takes longer from now on."""
+    used = resource.getrusage(resource.RUSAGE_SELF)
+    end = int(used.ru_utime + used.ru_stime) + 1 + SECONDS
+    resource.setrlimit(resource.RLIMIT_CPU, (end, resource.getrlimit(resource.RLIMIT_CPU)[1]))
+
+
+def main() -> None:
+    from PIL import Image
+
+    Image.preinit()
+    resource.setrlimit(resource.RLIMIT_AS, (MEMORY, MEMORY))
+    resource.setrlimit(resource.RLIMIT_CORE, (0, 0))
+    requests, answers = sys.stdin.buffer, sys.stdout.buffer
+    while len(head := requests.read(4)) == 4:
+        path, _, embedded = requests.read(struct.unpack(">I", head)[0]).partition(b"\0")
+        _limit_time()
+        try:
+            octets = _small(Image, path, embedded)
+        except OSError:
+            octets = b""
+        answers.write(struct.pack(">I", len(octets)) + octets)
+        answers.flush()
+
+
+if __name__ == "__main__":
+    sys.path.pop(0)  # the folder of this file, whose modules are none of Python's
+    main()

@@ -1,0 +1,211 @@
+"""The report in Chromium, as people have it who see little, use no mouse, have a phone, the dark, or paper."""
+
+from __future__ import annotations
+
+import base64
+import json
+import os
+import shutil
+import subprocess
+import sys
+from pathlib import Path
+from typing import Any, Dict, Iterator, List, Tuple
+
+import pytest
+from browser import Browser
+from made_blocks import BLOCKS, with_exif
+from made_files import app1, app1_xmp, exif, jpeg, xmp
+from studio import SMALL_JPEG
+from test_captions import data_set, with_record
+
+TOP = Path(__file__).resolve().parents[2]
+LONG = "Ein Gefäß aus Köln, zerbrochen und wieder geklebt, "
+
+
+def captioned(number: int, text: str) -> bytes:
+    title = f"<dc:title><rdf:Alt><rdf:li xml:lang='x-default'>Title {number}</rdf:li></rdf:Alt></dc:title>"
+    record = with_record(data_set(5, f"1998.{number}".encode()), data_set(120, text.encode("latin-1")))
+    return jpeg(app1(exif(b"abc")), record, app1_xmp(xmp(title)))
+
+
+def before(number: int) -> str:
+    return f"{LONG * (number % 4)}number {number} of old"
+
+
+def after(number: int) -> str:
+    return f"{LONG * (number % 4)}number {number} of new{number * number}"
+
+
+@pytest.fixture(scope="module")
+def report(tmp_path_factory: pytest.TempPathFactory, library: Path) -> Path:
+    """The folder with page.html, about pictures of which each has something for a list, and 24 changed captions."""
+    folder = tmp_path_factory.mktemp("report")
+    environment = {**os.environ, "PYTHONPATH": str(TOP / "python"), "EXIFNORM_LIBRARY": str(library / "libexifnorm.so.1")}
+
+    def run(*words: str) -> None:
+        command = [sys.executable, "-m", "exifnorm_pictures", *words]
+        ran = subprocess.run(command, cwd=folder, env=environment, capture_output=True, check=False)
+        assert ran.returncode in (0, 2), ran.stderr.decode()
+
+    def put(name: str, octets: bytes) -> None:
+        (folder / "p" / name).parent.mkdir(parents=True, exist_ok=True)
+        (folder / "p" / name).write_bytes(octets)
+
+    for number in range(24):
+        put(f"captions/{number}.jpg", captioned(number, before(number)))
+    put(f"{'a_very_long_name_without_any_space_' * 5}.jpg", with_exif(SMALL_JPEG, BLOCKS["Overlap"]))
+    put("same/one.jpg", SMALL_JPEG)
+    put("same/trailer.jpg", jpeg(app1(exif(b"abc"))) + b"TRAILER")
+    put("same/text.txt", b"text")
+    (folder / "rules").write_text("every picture needs credit\n")
+    run("index", "p", "--catalogue", "old", "--quiet")
+    for number in range(24):
+        put(f"captions/{number}.jpg", captioned(number, after(number)))
+    run("index", "p", "--catalogue", "c", "--quiet")
+    run("report", "c", "--since", "old", "--rules", "rules", "--html", "page.html")
+    return folder
+
+
+@pytest.fixture(scope="module")
+def browser(report: Path) -> Iterator[Browser]:
+    started = Browser(report)
+    yield started
+    started.end()
+
+
+def opened(browser: Browser, report: Path, **words: Any) -> Browser:
+    browser.show(**words)
+    browser.open(f"file://{report}/page.html")
+    return browser
+
+
+# The contrast of each text with what is behind it (WCAG 2.1, 1.4.3), by the colours that the browser has computed
+CONTRAST = """(() => {
+  const channels = (colour) => colour.match(/[\\d.]+/g).map(Number);
+  const luminance = ([r, g, b]) => [r, g, b].map((it) => it / 255).map((it) => it <= 0.04045 ? it / 12.92 : ((it + 0.055) / 1.055) ** 2.4)
+    .reduce((sum, it, at) => sum + it * [0.2126, 0.7152, 0.0722][at], 0);
+  const behind = (element) => {
+    for (let at = element; at; at = at.parentElement) {
+      const colour = channels(getComputedStyle(at).backgroundColor);
+      if (colour.length < 4 || colour[3] === 1) return colour;
+      if (colour[3] > 0) throw new Error("a colour that is seen through");
+    }
+    return [255, 255, 255];
+  };
+  const found = [];
+  const walker = document.createTreeWalker(document.body, NodeFilter.SHOW_TEXT);
+  let texts = 0;
+  while (walker.nextNode()) {
+    const element = walker.currentNode.parentElement;
+    if (!walker.currentNode.data.trim() || !element.checkVisibility()) continue;
+    texts += 1;
+    const pair = [luminance(channels(getComputedStyle(element).color)), luminance(behind(element))].sort((a, b) => b - a);
+    const contrast = (pair[0] + 0.05) / (pair[1] + 0.05);
+    if (contrast < 4.5) found.push([walker.currentNode.data.trim().slice(0, 40), element.className, contrast]);
+  }
+  return [texts, found];
+})()"""
+
+
+@pytest.mark.parametrize("dark", [False, True])
+def test_each_text_has_contrast(dark: bool, browser: Browser, report: Path) -> None:
+    texts, faint = opened(browser, report, dark=dark).ask(CONTRAST)
+    assert texts > 200 and faint == []
+
+
+def tree(browser: Browser) -> List[Dict[str, Any]]:
+    browser.call("Accessibility.enable")
+    return [it for it in browser.call("Accessibility.getFullAXTree")["nodes"] if not it.get("ignored")]
+
+
+def named(nodes: List[Dict[str, Any]], *roles: str) -> List[Tuple[str, str]]:
+    return [(it["role"]["value"], it.get("name", {}).get("value", "")) for it in nodes if it["role"]["value"] in roles]
+
+
+def test_what_a_screen_reader_has(browser: Browser, report: Path) -> None:
+    nodes = tree(opened(browser, report))
+    assert {role for role, _ in named(nodes, "banner", "navigation", "main", "contentinfo")} == {
+        "banner",
+        "navigation",
+        "main",
+        "contentinfo",
+    }
+    without = [it for it in named(nodes, "link", "heading", "navigation", "region", "image", "img", "table") if not it[1].strip()]
+    assert [it for it in without if it[0] != "table"] == [], "they have no name"
+    assert browser.ask("[...document.querySelectorAll('table.chart, table.summary')].every((it) => it.caption.textContent.trim())")
+    assert browser.ask("document.documentElement.lang") == "en"
+    levels = browser.ask("[...document.querySelectorAll('h1, h2, h3, h4')].map((it) => Number(it.tagName[1]))")
+    assert levels.count(1) == 1 and levels[0] == 1
+    assert [pair for pair in zip(levels, levels[1:]) if pair[1] > pair[0] + 1] == [], "a level of headings is left out"
+    headers = "[...document.querySelectorAll('table')].flatMap((it) => [...it.querySelectorAll('th')]).filter((it) => !it.scope).length"
+    assert browser.ask(headers) == 0, "cells that head nothing"
+
+
+def test_contents_lead_to_each_section(browser: Browser, report: Path) -> None:
+    opened(browser, report)
+    links = browser.ask("[...document.querySelectorAll('nav a')].map((it) => it.getAttribute('href').slice(1))")
+    assert links == browser.ask("[...document.querySelectorAll('section')].map((it) => it.id)")
+
+
+def test_everything_is_reached_by_the_keyboard_in_the_order_of_the_page(browser: Browser, report: Path) -> None:
+    opened(browser, report)
+    wanted = browser.ask("[...document.querySelectorAll('a')].map((it, at) => (it.dataset.at = at)).length")
+    seen = []
+    for _ in range(40):
+        browser.press("Tab", 9)
+        seen.append(browser.ask("Number(document.activeElement.dataset.at ?? -1)"))
+    assert wanted > 40 and seen == list(range(40))
+    ring = "(() => { const it = getComputedStyle(document.activeElement); return [it.outlineStyle, parseFloat(it.outlineWidth)]; })()"
+    style, width = browser.ask(ring)
+    assert style != "none" and width >= 2, "nobody sees where the keyboard is"
+
+
+@pytest.mark.parametrize("width", [320, 390, 1280])
+def test_nothing_is_cut_off(width: int, browser: Browser, report: Path) -> None:
+    """No sideways scrolling (WCAG 2.1, 1.4.10), and no text beyond its box."""
+    opened(browser, report, width=width)
+    assert browser.ask("document.documentElement.scrollWidth <= document.documentElement.clientWidth")
+    beyond = """[...document.querySelectorAll('th, td, a, p, li, h2, h3, caption')].filter((it) => it.scrollWidth > it.clientWidth + 1 &&
+      getComputedStyle(it).display !== 'inline').map((it) => it.outerHTML.slice(0, 100))"""
+    assert browser.ask(beyond) == []
+
+
+def test_it_asks_for_nothing_and_keeps_its_policy(browser: Browser, report: Path) -> None:
+    opened(browser, report)
+    browser.requests.clear()
+    browser.log.clear()
+    opened(browser, report)
+    assert [it for it in browser.requests if not it.startswith("data:")] == [f"file://{report}/page.html"] and browser.log == []
+    blocked = browser.ask("fetch('page.html').then(() => 'fetched', () => 'blocked')")
+    assert blocked == "blocked"
+    style = "(() => { document.body.setAttribute('style', 'display: none'); return getComputedStyle(document.body).display; })()"
+    assert browser.ask(style) != "none", "a style that is none of the page's is used"
+
+
+def printed(browser: Browser, report: Path) -> List[str]:
+    """The texts of the pages on A4, as pdftotext reads them."""
+    octets = base64.b64decode(browser.call("Page.printToPDF", preferCSSPageSize=True)["data"])
+    (report / "page.pdf").write_bytes(octets)
+    text = subprocess.run(["pdftotext", "-layout", report / "page.pdf", "-"], stdout=subprocess.PIPE, check=True).stdout.decode()
+    return text.split("\f")[:-1]
+
+
+@pytest.mark.skipif(not shutil.which("pdftotext"), reason="pdftotext (package poppler-utils) is not installed")
+def test_on_paper_each_value_is_there_and_no_page_is_half_empty(browser: Browser, report: Path) -> None:
+    pages = printed(opened(browser, report, dark=True), report)
+    letters = "".join("".join(pages).split())
+    for number in range(24):
+        for word in (f"new{number * number}", f"1998.{number}", f"Title{number}", f"captions/{number}.jpg"):
+            assert word in letters, f"{word} isn't on paper"
+    assert "exifnorm-picturesmend" in letters
+    lines = [len([line for line in page.splitlines() if line.strip()]) for page in pages]
+    assert [at for at, count in enumerate(lines[:-1]) if count < 18] == [], f"pages with little on them: {lines}"
+
+
+def test_what_changed_isnt_told_by_colour_alone(browser: Browser, report: Path) -> None:
+    opened(browser, report)
+    lines = "['ins', 'del'].map((it) => getComputedStyle(document.querySelector(`td ${it}`)).textDecorationLine)"
+    assert browser.ask(lines) == ["underline", "line-through"]
+    bars = "[...document.querySelectorAll('svg')].every((it) => it.closest('tr').querySelector('.number').textContent.trim())"
+    assert browser.ask(bars), "a bar without its number"
+    assert json.loads(browser.ask("JSON.stringify([...document.querySelectorAll('.tag')].filter((it) => !it.textContent.trim()))")) == []
