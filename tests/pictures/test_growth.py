@@ -52,7 +52,7 @@ COMMANDS = {
     "compare": ["A B --no-exiftool", "A B --json --exact --no-exiftool"],
     "show": ["A", "A --json", "A --csv"],
     "captions": ["P", "C --json"],
-    "list": ["C --without credit", "P --json --where title=x --jobs 1 --quiet", "C --count keywords"],
+    "list": ["C --without credit", "P --json --where title=x --jobs 1 --quiet", "C --count keywords", "C --with Make --columns dc:none"],
     "check": ["rules C --json"],
     "nightly": ["P --catalogue nights --rules rules --jobs 1 --json"],
     "conflicts": ["P --all", "C --json"],

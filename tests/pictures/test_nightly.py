@@ -187,7 +187,8 @@ def test_a_damaged_picture(archive, night):
     assert (status, news) == (1, {("damaged", None): 3, ("other picture", None): 1})
     assert night()[0] == 0
     put(archive, whole)
-    assert night()[:2] == (1, {("readable again", None): 2, ("new", None): 1, ("other picture", None): 1})
+    put(archive, {"web/new.jpg": damaged["web/0.jpg"]})
+    assert night()[:2] == (1, {("readable again", None): 2, ("new", None): 2, ("damaged", None): 1, ("other picture", None): 1})
 
 
 # Disks

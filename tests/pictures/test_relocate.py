@@ -68,6 +68,13 @@ def test_changed_and_absent_files(archive, folder, called, summary):
     assert f"{folder}/q/b.jpg" in printed
 
 
+def test_a_picture_that_was_gone_before_is_not_missed(archive, folder, called, summary):
+    (archive / "a.jpg").unlink()
+    called("index", "p", "--catalogue", "c", "--quiet")
+    shutil.copytree(archive, folder / "q")
+    assert summary("c", "p", "q") == (0, (3, 0, 0))
+
+
 def test_a_folder_below_the_archive(archive, folder, called, summary):
     (archive / "monday").rename(archive / "tuesday")
     assert summary("c", "p/monday", "p/tuesday") == (0, (1, 0, 0))

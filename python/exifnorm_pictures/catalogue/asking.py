@@ -12,9 +12,9 @@ from dataclasses import dataclass
 from typing import Callable, Dict, Iterator, List, NamedTuple, Optional, Sequence, Tuple, Union
 
 from ..fields.folding import bare, folded
-from ..fields.labels import DATE, PRIVATE
+from ..fields.labels import DATE, is_in_maker_notes
 from ..fields.listing import LONGEST_TEXT
-from ..fields.questions import All, Any, Condition, Not, Question, With, labels_of
+from ..fields.questions import All, Any, Condition, Not, Question, With, fields_in, labels_of
 from ..model.columns import Damaged
 from ..model.problems import NOT_THERE, Problem
 from ..model.records import has
@@ -36,7 +36,7 @@ NOTE_NOT_READ = "(p.maker_notes != '' AND p.id NOT IN (SELECT picture FROM maker
 
 def unread(labels: Sequence[str]) -> str:
     """What makes it unknown whether a picture has a text of some labels."""
-    return f"({OPEN} OR {NOTE_NOT_READ})" if any(label in PRIVATE for label in labels) else OPEN
+    return f"({OPEN} OR {NOTE_NOT_READ})" if any(map(is_in_maker_notes, labels)) else OPEN
 
 
 class _Part(NamedTuple):
@@ -189,8 +189,21 @@ def _counted(row: Tuple[str, int, str]) -> Tuple[str, int, str]:
 class Answer:
     """The answer of a catalogue to a question; without one, all pictures fit."""
 
-    def __init__(self, catalogue: Catalogue, question: Optional[Question], scope: Scope = Scope(), report: Report = say_nothing) -> None:
+    def __init__(
+        self,
+        catalogue: Catalogue,
+        question: Optional[Question],
+        scope: Scope = Scope(),
+        report: Report = say_nothing,
+        shown: Sequence[str] = (),
+    ) -> None:
+        """`shown` are further labels and fields whose texts are asked for later."""
         make_ready(catalogue, report)
+        fields = fields_in([*(labels_of(question) if question else []), *shown])
+        if fields:
+            from .field_texts import add_fields  # which few questions need
+
+            add_fields(catalogue, fields, report)
         self._catalogue = catalogue
         self.labels = labels_of(question) if question else []  # that are asked for
         self._scope = scope.condition()

@@ -12,7 +12,7 @@ from itertools import groupby
 from typing import TYPE_CHECKING, Iterator, List, Optional, Sequence, Tuple
 
 from ..catalogue.asking import Answer, Fitting, Scope
-from ..fields.labels import POSITION, PRIVATE
+from ..fields.labels import POSITION, is_in_maker_notes
 from ..fields.places import place_of
 from ..fields.questions import Not, Question, With, WrongQuestion, all_of, given_label, labels_of, question_of
 from ..files import signals
@@ -39,7 +39,8 @@ def run(arguments: argparse.Namespace) -> int:
     source = _source(arguments)
     refuse_for_catalogues(arguments, source)
     with catalogue_for_questions(source, arguments) as catalogue, catalogue.reading():
-        answer = Answer(catalogue, question, scope, Preparing(arguments).report)
+        shown = [*columns, *([] if counted is None else [counted])]
+        answer = Answer(catalogue, question, scope, Preparing(arguments).report, shown)
         if counted is not None:
             _print_counts(arguments, answer, counted)
         else:
@@ -171,7 +172,7 @@ def _of_unknown(answer: Answer) -> str:
 
 def _unread(labels: Sequence[str]) -> str:
     """What was not read of pictures, if these labels are asked for."""
-    if any(label in PRIVATE for label in labels):
+    if any(map(is_in_maker_notes, labels)):
         return "they were not wholly read, or have a MakerNote, which index --maker-notes reads"
     return "they were not wholly read"
 

@@ -393,7 +393,9 @@ def _list_arguments(parser: argparse.ArgumentParser) -> None:
 
 _FIRST = """The first list or check after index reads the texts of new pictures from the
 catalogue, and keeps them in it."""
-_QUESTIONS = """A label of captions, or position, serial or owner. A question compares labels
+_QUESTIONS = """A label of captions, or position, serial or owner, or a field by a name that
+--only of changed takes, such as FNumber or XMP-dc:rights; numbers are as in
+exiftool -n. All fields are read for that. A question compares labels
 by =, !=, has, like (with * and ?), and dates and numbers by <, <=, >, >=, and
 joins that by and, or, not and brackets:
   keywords = clay and not creator like 'Otto*'

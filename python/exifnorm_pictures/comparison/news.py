@@ -166,6 +166,8 @@ class Between:
             self.tally.add(Kind.UNREADABLE, name)
             return True
         self.tally.add(Kind.NEW, name)
+        if picture.damage:
+            self.tally.add(Kind.DAMAGED, name)
         if POSITION in self._texts(1, name):
             self.tally.add(Kind.POSITION, name)
         return True

@@ -67,6 +67,17 @@ PRIVATE = {
     ),
     "owner": (("exif", "a430"), ("xmp", "exifEX:CameraOwnerName"), ("xmp", "aux:OwnerName")),
 }
+
+
+def is_in_maker_notes(word: str) -> bool:
+    """Whether MakerNotes, too, may have what a label or a field is about.
+
+    >>> is_in_maker_notes("serial"), is_in_maker_notes("ExifIFD:LensSerialNumber"), is_in_maker_notes("creator")
+    (True, True, False)
+    """
+    return bool(re.search("serial|owner", word, re.I))
+
+
 # The tags of Exif that XMP has too, beside the properties of labels
 _MIRRORS = {"010e": "tiff:ImageDescription", "013b": "tiff:Artist", "8298": "tiff:Copyright", "9003": "exif:DateTimeOriginal"}
 _POSITION = ("0001", "0002", "0003", "0004", "0005", "0006")

@@ -13,7 +13,7 @@ from __future__ import annotations
 import difflib
 import re
 from dataclasses import dataclass
-from typing import List, NamedTuple, NoReturn, Sequence, Tuple, Union
+from typing import Iterable, List, NamedTuple, NoReturn, Optional, Sequence, Tuple, Union
 
 from ..model.errors import WrongUse
 from .labels import DATE, fields_by_label, label_of
@@ -108,21 +108,39 @@ def question_of(text: str) -> Question:
 
 
 def given_label(text: str) -> str:
-    """The label that somebody names. Raises `WrongQuestion` with the nearest one.
+    """The label or the field that somebody names. Raises `WrongQuestion` with the nearest one.
 
-    >>> given_label("Date-Created")
-    'date created'
+    >>> given_label("Date-Created"), given_label("FNumber")
+    ('date created', 'FNumber')
     """
-    label = label_of(text.strip())
+    label = _label_or_field(text.strip())
     if label is None:
-        raise WrongQuestion(f"{text!r} is no label{_nearest(text)}")
+        raise WrongQuestion(f"{text!r} is no label and no field{_nearest(text)}")
     return label
 
 
+def _label_or_field(text: str) -> Optional[str]:
+    """A label, or the name of a field as --only takes it; None if no field is named so."""
+    label = label_of(text)
+    if label is None and text and not text.isspace():
+        from .choosing import is_known  # which few questions need
+
+        return text if is_known(text) else None
+    return label
+
+
+def fields_in(words: Iterable[str]) -> List[str]:
+    """Those of some words that are fields and no labels, each once."""
+    labels = fields_by_label()
+    return [word for word in dict.fromkeys(words) if word not in labels]
+
+
 def _nearest(text: str) -> str:
+    from .choosing import hint
+
     labels = list(fields_by_label())
     near = difflib.get_close_matches(text.casefold(), labels, 1, 0.6)
-    return f" (perhaps {near[0]} is meant)" if near else f". The labels are {', '.join(labels)}"
+    return f" (perhaps {near[0]} is meant)" if near else hint(text) or f". The labels are {', '.join(labels)}"
 
 
 class _Token(NamedTuple):
@@ -231,9 +249,9 @@ class _Reader:
             self._fail(self._next, "expected: a label, such as keywords")
         whole = _Token(self._text[tokens[0].start : tokens[-1].end], tokens[0].start, tokens[-1].end)
         name = tokens[0].text if len(tokens) == 1 else whole.text
-        label = label_of(name)
+        label = _label_or_field(name)
         if label is None:
-            self._fail(whole, f"{name!r} is no label{_nearest(name)}")
+            self._fail(whole, f"{name!r} is no label and no field{_nearest(name)}")
         return label
 
     def _read_comparison(self) -> Question:

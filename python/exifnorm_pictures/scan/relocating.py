@@ -10,6 +10,7 @@ from typing import Iterator, List, NamedTuple, Tuple
 
 from ..catalogue.store import Catalogue
 from ..extract.sidecars import marks_elsewhere
+from ..model.problems import GONE
 from ..model.records import RACY, Stamp, has
 
 AS_BEFORE, CHANGED, ABSENT = "as before", "changed", "absent"
@@ -35,14 +36,14 @@ def relocated(catalogue: Catalogue, old: bytes, new: bytes) -> "Counter[str]":
     """Gives the pictures below a folder the same names below another one, where their files are now; they replace pictures with these names.
 
     A file with the same size and modification time, and with the same sidecars, is as before, and gets the marks that it has there, such as its
-    inode: the next `index` doesn't read it. One that has changed or is absent is left to the next `index`. Returns how many there are of each.
+    inode: the next `index` doesn't read it. One that has changed or is absent is left to the next `index`. Returns how many there are of each, without those that were gone before.
     """
     counts: "Counter[str]" = Counter()
     began = time.time_ns()
     with catalogue.transaction():
         start = old.rstrip(b"/") + b"/"
         catalogue.base.execute(
-            "CREATE TEMP TABLE moving AS SELECT id, path, root, sidecars, size, modified, changed, inode, device FROM pictures"
+            "CREATE TEMP TABLE moving AS SELECT id, path, root, sidecars, problem, size, modified, changed, inode, device FROM pictures"
             " WHERE path > ? AND path < ? ORDER BY path",
             (start, start[:-1] + b"0"),
         )
@@ -57,7 +58,7 @@ def relocated(catalogue: Catalogue, old: bytes, new: bytes) -> "Counter[str]":
 
 
 def _rows(catalogue: Catalogue, old: bytes, new: bytes, began: int, counts: "Counter[str]") -> Iterator[_Row]:
-    for number, path, root, sidecars, *marks in catalogue.rows("SELECT * FROM temp.moving"):
+    for number, path, root, sidecars, problem, *marks in catalogue.rows("SELECT * FROM temp.moving"):
         has(bytes, path, root)
         has(str, sidecars)
         place = new + path[len(old) :]
@@ -65,7 +66,8 @@ def _rows(catalogue: Catalogue, old: bytes, new: bytes, began: int, counts: "Cou
         if state == AS_BEFORE and sidecars:
             now = marks_elsewhere(place, sidecars, lambda *times: began - max(times) < COARSE)
             state, sidecars = (AS_BEFORE, now) if now is not None else (CHANGED, sidecars)
-        counts[state] += 1
+        if problem not in GONE:
+            counts[state] += 1
         yield _Row(place, _root(root, old, new), *stamp, sidecars, number)
 
 

@@ -1,0 +1,76 @@
+"""The texts of fields that have no label, for a question about them: of all pictures, in one pass over the fields that the catalogue has."""
+
+from __future__ import annotations
+
+from decimal import Decimal
+from typing import Any, Iterator, List, Sequence, Tuple
+
+from ..fields.block_fields import with_fields
+from ..fields.choosing import Choice
+from ..fields.field import Field
+from ..fields.listing import LONGEST_TEXT, is_rest
+from ..fields.plain_values import plain
+from ..fields.typed import typed
+from ..model.found import NAMES
+from ..model.records import PictureRecord
+from .kept_texts import AT_ONCE, Report, say_nothing
+from .label_texts import kept_text
+from .store import Catalogue, put_text, texts_table
+
+_FIELDS = "temp.field_texts"
+
+
+def add_fields(catalogue: Catalogue, words: Sequence[str], report: Report = say_nothing) -> None:
+    """Makes the name `texts` stand for the texts of these fields, too, each with its word as a label. The texts by label are ready."""
+    base = catalogue.base
+    with catalogue.guarded():
+        has_view = base.execute("SELECT 1 FROM sqlite_temp_master WHERE type = 'view' AND name = 'texts'").fetchone()
+        for statement in ("DROP VIEW IF EXISTS temp.texts", f"DROP TABLE IF EXISTS {_FIELDS}", texts_table(_FIELDS)):
+            base.execute(statement)
+        tables = ["main.texts", *["temp.other_texts"] * bool(has_view), _FIELDS]
+        base.execute("CREATE INDEX temp.field_short_texts ON field_texts (label, head, text) WHERE long = 0")
+        base.execute(f"CREATE TEMP VIEW texts AS {' UNION ALL '.join(f'SELECT * FROM {table}' for table in tables)}")
+    choices = [(word, Choice(only=[word])) for word in words]
+    due = int(next(catalogue.rows("SELECT count(*) FROM main.pictures"))[0])
+    done, last = 0, 0
+    while done < due:
+        numbers = [row[0] for row in catalogue.rows("SELECT id FROM main.pictures WHERE id > ? ORDER BY id LIMIT ?", (last, AT_ONCE))]
+        with catalogue.guarded():
+            rows = (row for number in numbers for row in _rows(catalogue, number, choices))
+            base.executemany(put_text(_FIELDS), rows)
+        done, last = done + len(numbers), numbers[-1]
+        report(done, due)
+
+
+def _rows(catalogue: Catalogue, number: int, choices: Sequence[Tuple[str, Choice]]) -> Iterator[Tuple[object, ...]]:
+    """The texts of a picture as rows, each once."""
+    blocks = with_fields(catalogue.blocks_of(PictureRecord(number)))
+    for word, choice in choices:
+        texts = []
+        for block, fields in blocks:
+            name = "" if block.name == NAMES[block.kind] else block.name
+            texts += [
+                text for field in choice.of(fields, name) if not is_rest(field.directory, field.tag) for text in texts_of_field(field)
+            ]
+        for at, text in enumerate(dict.fromkeys(texts)):
+            yield (number, at, *kept_text(word, text))
+
+
+def texts_of_field(field: Field) -> List[str]:
+    """The values of a field as texts: numbers as `exiftool -n` has them, and what is no text or number in plain words.
+
+    >>> texts_of_field(Field("exif", "829a", "RATIONAL", 1, ((10, 1250),))), texts_of_field(Field("main", "013b", "ASCII", 5, b"Otto\\0"))
+    (['0.008'], ['Otto'])
+    """
+    value = typed(field)
+    texts = [_text(it) for it in (value if isinstance(value, list) else [value])]
+    known = [it for it in texts if it and len(it) <= LONGEST_TEXT]
+    return known or [plain(field)[:LONGEST_TEXT]]
+
+
+def _text(value: Any) -> str:
+    if isinstance(value, dict):
+        return str(value.get("text", "")).strip()
+    if isinstance(value, float):
+        return format(Decimal(repr(value)).normalize(), "f")
+    return "" if value is None else str(value).strip()
