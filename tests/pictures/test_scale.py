@@ -1,9 +1,7 @@
 """What an archive's scale costs, as counts: statements, processes, files opened, bytes read, and the peak of memory. No times."""
 
-import contextlib
 import json
 import os
-import sqlite3
 import sys
 from collections import Counter
 
@@ -180,33 +178,6 @@ class Scale(WithPictures):
             self.assertLess(costs[1][what], 12 * costs[0][what], what)
 
     # Statements, rows that Python gets, and steps of SQLite
-
-    # What SQL makes of the pictures of a catalogue, so that groups of two rest on something else than their meaning
-    BASES = {
-        "refused, the same bytes": "UPDATE pictures SET exif = NULL",
-        "refused, the same after repair": "UPDATE pictures SET exif_repaired = exif, exif = CASE id % 2 WHEN 0 THEN exif END, exif_octets = id",
-        "unread, the same bytes": "UPDATE pictures SET not_read = NULL, file = exif",
-        "no picture, the same bytes": "UPDATE pictures SET problem = 'NoPicture', file = exif",
-    }
-
-    def steps(self, name, *words):
-        """The steps of SQLite for a command over a catalogue, whatever it finds."""
-        return self.counted(
-            *words, "--no-look", *(["--catalogue", name] if words[0] == "same" else [name, f"tables of {name}"]), status=(0, 2)
-        )["steps"]
-
-    def test_groups_are_linear(self):
-        """Ten times as many groups take about ten times the steps, whatever they rest on, and whatever part of the metadata counts."""
-        commands = (["same"], ["same", "--kind", "exif"], ["same", "--ignore", "IFD0:Artist"], ["export"])
-        for number, (basis, statement) in enumerate(self.BASES.items()):
-            names = [self.catalogue(f"groups{number}-{count}", count, "n / 2") for count in (300, 3000)]
-            for name in names:
-                with contextlib.closing(sqlite3.connect(self.path(name))) as base, base:
-                    base.execute(statement)
-            for words in commands:
-                with self.subTest(f"{basis}: {' '.join(words)}"):
-                    few, many = (self.steps(name, *words) for name in names)
-                    self.assertLess(many, 12 * max(few, 100))
 
     def test_changed_is_linear(self):
         """What is the same isn't fetched; of what differs each row is; and ten times as many pictures take about ten times the steps."""

@@ -1,0 +1,111 @@
+"""No query visits all pictures for each of them: over twice as many pictures a command takes at most 2.3 times the steps of SQLite.
+
+The catalogues are made by SQL, with groups of every basis. The growths of test_growth.py have few pictures each, and read them.
+"""
+
+import shutil
+import sqlite3
+from contextlib import closing
+
+import pytest
+from test_scale import many_rows
+from work import Counting, compiled
+
+from exifnorm_pictures.catalogue.store import Catalogue
+from exifnorm_pictures.fields.field import Field
+from exifnorm_pictures.fields.packing import packed
+from exifnorm_pictures.model.found import EXIF
+from exifnorm_pictures.model.records import BlockRecord, PictureRecord, Stamp
+
+SIZES = (1000, 2000)
+TIMES, FEW = 2.3, 20  # hundreds of steps that aren't about the pictures
+FIELDS = packed([Field("main", "013b", "ASCII", 5, b"Anna\0"), Field("main", "0110", "ASCII", 5, b"D300\0")]).octets
+# What SQL makes of each sixth pair of pictures, which are equal, so that their group rests on something else than their meaning
+BASES = (
+    "exif = NULL",  # refused, the same bytes
+    "exif_repaired = exif, exif = CASE id % 2 WHEN 0 THEN exif END, exif_octets = id",  # the same after repair
+    "not_read = NULL, file = exif",
+    "problem = 'NoPicture', file = exif",
+    "other_exif = exif, exif = printf('%064x', id), maker_notes = 'Exif:' || id",  # the same but for the place of a MakerNote
+)
+EDITS = (  # what is changed, moved or new in the other catalogue
+    "UPDATE pictures SET exif = printf('%064x', id + 1000000) WHERE id % 8 = 0 AND exif IS NOT NULL",
+    "UPDATE blocks SET digest = (SELECT exif FROM pictures WHERE id = picture) WHERE picture % 8 = 0 AND digest IS NOT NULL",
+    "UPDATE pictures SET path = CAST(replace(CAST(path AS TEXT), '/one/', '/moved/') AS BLOB) WHERE id % 8 = 1",
+    "UPDATE pictures SET path = CAST(path || '.new' AS BLOB), exif = printf('%064x', id + 2000000), inode = id + 5000000 WHERE id % 8 = 2",
+)
+COMMANDS = (
+    "same --no-look --catalogue C",
+    "same --no-look --catalogue C --kind exif",
+    "same --no-look --catalogue C --kind pixels",
+    "same --no-look --catalogue C --ignore Artist",
+    "same --no-look --catalogue C --only creator",
+    "changed C D --no-exiftool",
+    "changed C D --no-exiftool --each",
+    "changed C D --no-exiftool --ignore Artist",
+    "changed C D --no-exiftool --only creator --json",
+    "report --no-look --catalogue D --since C --html page",
+    "export --no-look C tables",
+    "list C --where creator=anna --columns creator",
+    "list C --without credit -0",
+    "list C --count creator",
+    "list C --where title=x",
+    "check rules C",
+    "history /archive/one/00000016.jpg C D",
+    "captions C --json",
+    "conflicts C --json",
+    "merge C D --catalogue E",
+    "list E --with creator -0",
+    "relocate E /archive new",
+    "verify --catalogue E --jobs 1 --quiet",
+    "forget new --catalogue E",
+)
+
+
+def make(name, count):
+    """A catalogue of so many pictures, two and two of which are equal."""
+    with Catalogue(str(name), make=True) as catalogue:
+        block = BlockRecord(EXIF, "Exif", "APP1 at 2", "own", "accepted", "0" * 64, None, None, 100, "0" * 64, fields=FIELDS)
+        first = PictureRecord.of(b"/archive/one", b"/archive", Stamp(1000, 0, 0, 0), "JPEG", "own", blocks=(block,))
+        catalogue.put(catalogue.begin_run("2000-01-01T00:00:00Z"), [first])
+        many_rows(catalogue.base, count, "n / 2", "one", 0, "n")
+        catalogue.base.execute("UPDATE pictures SET coded_picture = CASE WHEN id % 3 THEN printf('%064x', id / 4) ELSE '' END")
+        for number, basis in enumerate(BASES, 1):
+            catalogue.base.execute(f"UPDATE pictures SET {basis} WHERE id / 2 % {len(BASES) + 1} = {number}")
+        catalogue.base.execute(
+            "UPDATE blocks SET status = 'refused', cause = 'Truncated', digest = NULL"
+            " WHERE picture IN (SELECT id FROM pictures WHERE exif IS NULL AND problem IS NULL)"
+        )
+
+
+@pytest.fixture(scope="module")
+def works(tmp_path_factory):
+    """The work of each command at each size."""
+    counting = Counting(compiled(tmp_path_factory.mktemp("count")))
+    found = {}
+    for size in SIZES:
+        folder = tmp_path_factory.mktemp(str(size))
+        make(folder / "C", size)
+        shutil.copy(folder / "C", folder / "D")
+        with closing(sqlite3.connect(folder / "D")) as base, base:
+            for statement in EDITS:
+                base.execute(statement)
+        (folder / "new" / "one").mkdir(parents=True)
+        (folder / "rules").write_text("every picture needs credit\ncreator is Otto\n", encoding="ascii")
+        for words in COMMANDS:
+            work = counting.run(folder, *words.split())
+            assert work.status in (0, 1, 2), (words, work.err[-2000:])
+            found[words, size] = work
+    counting.close()
+    return found
+
+
+@pytest.mark.parametrize("words", COMMANDS)
+def test_twice_as_many_pictures_take_twice_the_steps(works, words):
+    few, many = (works[words, size].steps for size in SIZES)
+    assert many <= TIMES * few + FEW
+
+
+def test_a_part_that_does_not_count_costs_three_times_as_much(works):
+    plain, ignoring = (works[words, SIZES[1]] for words in (COMMANDS[0], COMMANDS[3]))
+    assert ignoring.steps <= 3 * plain.steps and ignoring.calls <= 3 * plain.calls, (plain, ignoring)
