@@ -30,7 +30,7 @@ LICENCE = Path("/usr/share/common-licenses/LGPL-2.1")  # Debian's base-files has
 SAMPLES = {
     "one.exif": ("before/ceramics/1998-7-vase.jpg", "exif"),
     "other.exif": ("after/ceramics/1998-7-vase.jpg", "exif"),
-    "caption.iim": ("before/ceramics/2003-12-bowl.jpg", "iim"),
+    "caption.iim": ("before/ceramics/2003-12-bowl.jpg", "iptc"),
     "broken.exif": ("before/arrivals/IMG_20240502.jpg", "exif"),
 }
 

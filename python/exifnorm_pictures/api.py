@@ -126,7 +126,7 @@ class Block:
     @property
     def status(self) -> str:
         """The status: "accepted", "refused", "unreadable", "too long" or "failed"."""
-        return self._judged.status
+        return str(self._judged.status)
 
     @property
     def is_accepted(self) -> bool:

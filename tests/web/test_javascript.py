@@ -32,12 +32,17 @@ def digest(octets):
     return hashlib.sha256(octets).hexdigest()
 
 
+def word(kind):
+    """A kind as JavaScript has it, in the words of the engine."""
+    return str(kind).replace("iptc", "iim")
+
+
 def digests(blocks):
-    return [[kind, digest(data)] for kind, data in blocks]
+    return [[word(kind), digest(data)] for kind, data in blocks]
 
 
 CALLS = {
-    "check": exifnorm.kind,
+    "check": lambda block: word(exifnorm.kind(block)),
     "normalise": lambda block: digest(exifnorm.normal(block)),
     "show": lambda block: digest(exifnorm.show(block).encode()),
     "captions": lambda block: digest(exifnorm._calls.captions_text(block).encode()),

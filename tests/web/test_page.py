@@ -212,7 +212,7 @@ def test_normal_forms(browser, folder):
     browser.ask("document.querySelectorAll('.downloads button').forEach((node) => node.click())")
     files = saved(folder, "2003-12-bowl.*", 2)
     blocks = dict(exifnorm.jpeg_blocks(BOWL.read_bytes()))
-    assert [path.read_bytes() for path in files] == [exifnorm.normal(blocks["exif"]), exifnorm.normal(blocks["iim"])]
+    assert [path.read_bytes() for path in files] == [exifnorm.normal(blocks["exif"]), exifnorm.normal(blocks["iptc"])]
 
 
 def test_a_long_head(browser, folder):
