@@ -168,6 +168,10 @@ def test_nothing_is_cut_off(width: int, browser: Browser, report: Path) -> None:
     beyond = """[...document.querySelectorAll('th, td, a, p, li, h2, h3, caption')].filter((it) => it.scrollWidth > it.clientWidth + 1 &&
       getComputedStyle(it).display !== 'inline').map((it) => it.outerHTML.slice(0, 100))"""
     assert browser.ask(beyond) == []
+    narrow = (
+        "[...document.querySelectorAll('.fields td, .fields th, .texts td')].filter((it) => it.offsetParent && it.offsetWidth < 250).length"
+    )
+    assert width == 1280 or browser.ask(narrow) == 0, "values in narrow columns"
 
 
 def test_it_asks_for_nothing_and_keeps_its_policy(browser: Browser, report: Path) -> None:
