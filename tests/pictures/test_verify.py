@@ -163,6 +163,14 @@ def test_evidence(archive, called):
     assert (status, printed) == (4, "") and "e isn't written: it is there already" in messages
 
 
+def test_a_picture_that_was_damaged_before(archive, called):
+    """It is as it was, and that isn't all that is said of it."""
+    written(archive / "a.jpg", PICTURE[:-20])
+    called("index", "p", "--catalogue", "c", "--quiet")
+    status, printed, _ = called("verify", "--catalogue", "c")
+    assert status == 0 and re.search(r"4 files as they were\n +\S*/a.jpg \(damaged before, too: ", printed), printed
+
+
 def test_index_goes_on_with_digests(archive, called, verified):
     """Otherwise the pictures that were captioned since would have none."""
     written(archive / "a.jpg", CAPTIONED)
@@ -202,13 +210,13 @@ def test_a_file_as_it_was_is_read_once(jobs, archive, verified, reads, monkeypat
 
 
 def test_bytes_of_a_file_as_it_was(folder, called):
-    """By the system's own count: each byte once, in few calls."""
+    """By the system's own count, of one thread, whose calls stand in one line each: each byte once, in few calls."""
     size = 3_000_000
     put(folder / "p", {f"{number}.jpg": PICTURE + bytes([number]) * size for number in range(3)})
     called("index", "p", "--catalogue", "c", "--pixels", "--quiet")
     words = ["strace", "-f", "-y", "-e", "trace=read,pread64,readv,mmap", "-o", "trace", sys.executable, "-m", "exifnorm_pictures"]
     ran = subprocess.run(
-        [*words, "verify", "--catalogue", "c", "--jobs", "2", "--quiet"], cwd=folder, capture_output=True, env=Studio.environment()
+        [*words, "verify", "--catalogue", "c", "--jobs", "1", "--quiet"], cwd=folder, capture_output=True, env=Studio.environment()
     )
     assert ran.returncode == 0, ran.stderr
     with open(folder / "trace", encoding="utf-8", errors="replace") as trace:

@@ -148,7 +148,7 @@ def _add(arguments: argparse.Namespace, listed: List[str], result: verified.Veri
     if arguments.json:
         place = None if result.place is None else path_members(result.place)
         print_object("verify", "picture", {**path_members(result.path), "state": result.state, "note": result.note or None, "place": place})
-    elif len(listed) <= SHOWN and result.state != State.AS_IT_WAS:
+    elif len(listed) <= SHOWN:
         words = [result.note] * bool(result.note)
         if result.place is not None:
             words = (
