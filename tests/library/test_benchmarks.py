@@ -244,6 +244,16 @@ def test_costs_over_another_tree(library, tmp_path, monkeypatch):
     assert sum(what.startswith("bytes of their catalogue") and size > 10_000 for what, (size, _) in rows.items()) == 2
 
 
+def test_costs_of_questions(tmp_path, capfd):
+    """Each question finds what the made pictures have: of some, all or none of them."""
+    questions = load("pictures/questions.py")
+    questions.make(str(tmp_path / "catalogue"), 300)
+    lines = {" ".join(words): questions.measured(["list", str(tmp_path / "catalogue"), *words])[2] for words in questions.QUESTIONS}
+    assert "Traceback" not in capfd.readouterr().err
+    assert lines["--count title --csv"] == lines["--count caption --csv"] == 301  # with the table's head, all differ
+    assert 0 < lines["--without credit -0"] < 300
+
+
 def test_a_page_opens_later_than_an_empty_one(of_pictures, monkeypatch):
     monkeypatch.setattr(of_pictures.shutil, "which", lambda _: "chromium")
     monkeypatch.setattr(of_pictures, "cost", lambda words: of_pictures.Cost(1.0 if words[-1] == "about:blank" else 1.5, 1, 1))
