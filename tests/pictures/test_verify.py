@@ -214,13 +214,15 @@ def test_bytes_of_a_file_as_it_was(folder, called):
     size = 3_000_000
     put(folder / "p", {f"{number}.jpg": PICTURE + bytes([number]) * size for number in range(3)})
     called("index", "p", "--catalogue", "c", "--pixels", "--quiet")
-    words = ["strace", "-f", "-y", "-e", "trace=read,pread64,readv,mmap", "-o", "trace", sys.executable, "-m", "exifnorm_pictures"]
+    words = ["strace", "-ff", "-y", "-e", "trace=read,pread64,readv,mmap", "-o", "trace", sys.executable, "-m", "exifnorm_pictures"]
     ran = subprocess.run(
         [*words, "verify", "--catalogue", "c", "--jobs", "1", "--quiet"], cwd=folder, capture_output=True, env=Studio.environment()
     )
     assert ran.returncode == 0, ran.stderr
-    with open(folder / "trace", encoding="utf-8", errors="replace") as trace:
-        calls = [line for line in trace if f"{folder}/p/" in line]
+    traces = [
+        it.read_text(encoding="utf-8", errors="replace") for it in folder.glob("trace.*")
+    ]  # of each process, so that no line is divided
+    calls = [line for text in traces for line in text.splitlines() if f"{folder}/p/" in line]
     read = [int(it[1]) for it in (re.search(r"= (\d+)$", line) for line in calls) if it]
     assert sum(read) == 3 * (size + len(PICTURE)) and len(read) <= 3 * (size // 1_000_000 + 3)
 
