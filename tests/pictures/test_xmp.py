@@ -184,8 +184,8 @@ class Packets(unittest.TestCase):
 
     def test_how_long_a_packet_may_be(self):
         """By the text of the cause, bytes and tags up to these numbers are read."""
-        with_tags = [xmp(f"<dc:format><![CDATA[{'<' * (500_000 - title('one').count(b'<') - 1 + more)}]]></dc:format>") for more in (0, 1)]
-        self.assertEqual([it.count(b"<") for it in with_tags], [500_000, 500_001])
+        with_tags = [xmp(f"<dc:format><![CDATA[{'<' * (400_000 - title('one').count(b'<') - 1 + more)}]]></dc:format>") for more in (0, 1)]
+        self.assertEqual([it.count(b"<") for it in with_tags], [400_000, 400_001])
         with_bytes = [title("one").ljust((16 << 20) + more) for more in (0, 1)]
         self.assertEqual([cause(it) for it in (*with_tags, *with_bytes)], [None, "TooLong"] * 2)
 

@@ -34,22 +34,22 @@ LIMITS: Dict[str, int] = {
     BLOCKS: 20_000,  # two for each page of a TIFF; need 15
     NOT_READ: 10_000,  # need 358
     SEGMENTS: 100_000,  # of a JPEG; need 37, and a profile of 16 MB has 256
-    SEGMENT_BYTES: 64 << 20,  # of those that are kept; need 1.7 MB
+    SEGMENT_BYTES: 40 << 20,  # of those that are kept: with what is made of them 200 MB of memory; need 1.7 MB
     CHUNKS: 100_000,  # of a PNG or WebP; need 678, and 100 MB in pieces of 8 kB are 13,000
     CHUNK_BYTES: 32 << 20,  # of those that are kept, and of what they inflate to; twice as much takes 321 MB of memory; need 37 kB
     EXTENSIONS: 100_000,  # of a GIF; need 85
     BLOCK_BYTES: 32 << 20,  # of application extensions that are kept; need 1 kB
     BOXES: 100_000,  # of a HEIC, CR3, JPEG XL or JPEG 2000; need 79
-    BOX_BYTES: 64 << 20,  # of those that are kept; need 0.1 MB
+    BOX_BYTES: 48 << 20,  # of those that are kept; need 0.1 MB
     ITEMS: 65_536,  # pictures, tiles and metadata of a HEIC; need 51
     EXTENTS: 200_000,  # parts of these items, and references between them; need 152
     RESOURCES: 10_000,  # each is an object of Python: 2.6 million take 2.4 GB; need 64
-    RESOURCE_BYTES: 64 << 20,  # of a PSD, of those that are kept; need 18 kB
+    RESOURCE_BYTES: 48 << 20,  # of a PSD, of those that are kept; need 18 kB
     DIRECTORIES: 10_000,  # of a TIFF; need 15
     ENTRIES: 1_000_000,  # of all its directories; need 12,361
-    VALUE_BYTES: 128 << 20,  # of these entries; twice as much takes 400 MB of memory; need 1.6 MB
+    VALUE_BYTES: 40 << 20,  # of these entries; twice as much takes 320 MB of memory; need 1.6 MB
     XMP_BYTES: 64 << 20,  # of all packets; extended XMP counts once for each packet that names it; need 1.7 MB
-    XMP_TAGS: 500_000,  # about 10 microseconds and 350 bytes each; need 447
+    XMP_TAGS: 400_000,  # about 10 microseconds and 350 bytes each; need 447
     XMP_ATTRIBUTES: 100_000,  # about 20 microseconds and 600 bytes each; need 246
     RARE_ELEMENTS: 30_000,  # which rdflib reads, in about 0.1 milliseconds each; need 225
 }
