@@ -75,7 +75,7 @@ def of_texts(number, mark):
     inside = f"<dc:subject><rdf:Bag>{texts}</rdf:Bag></dc:subject><dc:title><rdf:Alt>{titles}</rdf:Alt></dc:title>"
     long = mark + b"x" * 20 * number
     return Made(
-        Parts(((0x010E, ASCII, long + b"\0"),), b"\x1c\x02\x78" + struct.pack(">H", len(long)) + long, (xmp(inside),)),
+        Parts(((0x010E, ASCII, long + b"\0"),), iim(long[:30_000]), (xmp(inside),)),
         {EXIF: 1, IPTC: 1, XMP: 2 * number},
     )
 
@@ -200,9 +200,9 @@ class Growth(NamedTuple):
 
 IN_EACH_FORMAT = {
     "fields": Growth(of_fields, 300, 5000),
-    "texts": Growth(of_texts, 300, 3000),
+    "texts": Growth(of_texts, 300, 1500),
     "packets": Growth(of_packets, 120, 2000),
-    "parts": Growth(of_parts, 300, 4000),
+    "parts": Growth(of_parts, 300, 20_000),
 }
 
 
