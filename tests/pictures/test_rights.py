@@ -106,3 +106,19 @@ def test_a_replaced_file_takes_no_list_from_its_folder(called, catalogue, folder
     subprocess.run(["setfacl", "-d", "-m", "u:4003:rwx", folder], check=True)
     assert called(*WRITING["export"])[0] == 0
     assert ("the named user", "read") not in allowed(folder / "out")
+
+
+@pytest.mark.parametrize("umask", (0o022, 0o077), ids=oct)
+def test_what_umask_gives(called, folder, umask):
+    """To a catalogue, a list of digests and a spreadsheet."""
+    pytest.importorskip("xlsxwriter")
+    (folder / "p").mkdir()
+    (folder / "p" / "a.jpg").write_bytes(PICTURE)
+    before = os.umask(umask)
+    try:
+        assert called("index", "p", "--catalogue", "c", "--quiet", "--pixels")[0] == 0
+        assert called("verify", "--catalogue", "c", "--evidence", "sums", "--quiet", "--jobs", "1")[0] == 0
+        assert called("show", "p/a.jpg", "--xlsx", "table.xlsx")[0] == 0
+    finally:
+        os.umask(before)
+    assert {(folder / name).stat().st_mode & 0o777 for name in ("c", "sums", "table.xlsx")} == {0o666 & ~umask}
