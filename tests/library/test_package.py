@@ -86,7 +86,7 @@ def test_each_cause_is_one_fault_and_a_sentence():
 
 
 def test_older_words_are_still_understood():
-    """Programs compare with them. They are told the new word."""
+    """Programs compare with them. A warning names the new word."""
     (block,) = exifnorm.jpeg_blocks(b"\xff\xd8\xff\xed\0\x22Photoshop 3.0\x008BIM\4\4\0\0\0\0\0\6\x1c\2\x78\0\1a\xff\xd9")
     (field,) = exifnorm.fields(block.data)
     for word, old in ((block.kind, "iim"), (exifnorm.kind(block.data), "iim"), (field.directory, "record")):

@@ -15,7 +15,7 @@ from ..model.records import PictureRecord
 from .label_texts import rows_of
 from .store import Catalogue, NoCatalogue, put_text, texts_table
 
-Report = Callable[[int, int], None]  # is told of how many pictures the texts were added, and how many had none
+Report = Callable[[int, int], None]  # of how many pictures the texts were added, and how many had none
 
 AT_ONCE = 1000  # pictures of a transaction
 _OTHERS = "temp.other_texts"

@@ -145,7 +145,7 @@ def run(arguments: argparse.Namespace) -> int:
         else:
             night.compare()
         if night.status:
-            _tell(night)
+            _print_news(night)
         nights.keep(bool(night.status))
     return night.status
 
@@ -154,9 +154,9 @@ def _no_picture(folders: Sequence[bytes]) -> NothingThere:
     return NothingThere(f"no picture is below {', '.join(map(shown_path, folders))}: is the disk mounted?")
 
 
-def _tell(night: Night) -> None:
-    """Prints the letter and writes the page. All of it is told before tonight's catalogue becomes the last one: what a run that is killed hasn't
-    told is news tomorrow, too."""
+def _print_news(night: Night) -> None:
+    """Prints the letter and writes the page, before tonight's catalogue becomes the last one: if this is killed, the news is in tomorrow's
+    letter."""
     if night.arguments.json:
         _print_objects(night)
     else:
@@ -178,7 +178,7 @@ def _write_page(night: Night) -> None:
         about = contents.About(tonight, last, session=night.arguments.session)
         try:
             write_report(about, night.arguments.html, night.nights.names)
-        except book.TooLarge as error:  # the letter is told all the same
+        except book.TooLarge as error:  # the letter is printed all the same
             signals.say(f"exifnorm-pictures: note: {night.arguments.html} isn't written: {error}")
 
 

@@ -64,7 +64,7 @@ class Book:
     def __init__(self, about: About, put: Optional[Put] = None) -> None:
         """`put` writes the further pages of a folder; without it there is one page. Raises `TooLarge`."""
         self.about, self._put = about, put
-        self.done: Callable[[int], None] = lambda count: None  # is told how many pictures are shown
+        self.done: Callable[[int], None] = lambda count: None  # gets the number of pictures that are shown
         self.counts = lists.counts_of(about)
         if not put and self.counts.total > MOST_OF_A_PAGE:
             raise TooLarge(f"{self.counts.total:,} files are too many")

@@ -61,7 +61,7 @@ def _shrunk(image_module: Any, source: Any, orientation: int) -> Optional[bytes]
             picture.save(made, "JPEG", quality=72, optimize=True)
             if made.tell() <= LARGEST:
                 return made.getvalue()
-    except Exception:  # Pillow raises many kinds, also for want of memory
+    except Exception:  # Pillow raises many kinds, also when it is out of memory
         return None
     return None
 

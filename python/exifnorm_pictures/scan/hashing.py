@@ -17,7 +17,7 @@ from .index import Look, looked
 from .walk import FoundFile
 
 CHUNK = 1 << 20  # bytes: hashlib lets other threads run while it hashes
-_AHEAD = 4  # files of each thread that wait to be told
+_AHEAD = 4  # files of each thread that wait to be reported
 
 
 def looker(before: Catalogue) -> Look:
