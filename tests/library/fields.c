@@ -10,7 +10,7 @@
 #include <stdio.h>
 #include <stdlib.h>
 
-static const char *const directories[] = {"main", "record", "exif", "interop", "gps", "thumb"};
+static const char *const directories[] = {"main", "iptc", "exif", "interop", "gps", "thumb"};
 
 static const char *type_name(uint32_t type) {
     static const char *const names[] = {"", "BYTE", "ASCII", "SHORT", "LONG", "RATIONAL", "SBYTE", "UNDEFINED", "SSHORT", "SLONG", "SRATIONAL", "FLOAT",

@@ -61,7 +61,7 @@ SIZES = {"SHORT": 2, "LONG": 4, "WHOLE": 4, "RATIONAL": 8, "SSHORT": 2, "SLONG":
 
 def lines_of_listing(listing):
     """The lines that fields.c prints for the fields of a listing (docs/FORMAT.md, "Listing")."""
-    directory = "record"
+    directory = "iptc"
     for line in listing.splitlines():
         if re.fullmatch(r"\[\w+\]", line):
             directory = line[1:-1]
@@ -69,7 +69,7 @@ def lines_of_listing(listing):
             head, _, elements = line.partition(": ") if ": " in line else (line[:-1], "", "")
             *words, count = head.split()
             size = int(count) * SIZES.get(words[-1], 1)
-            where = "record" if ":" in words[0] else directory
+            where = "iptc" if ":" in words[0] else directory
             yield f"{where} {' '.join(words)} {count}:{' ' * bool(elements)}{elements} ({size})".replace(" WHOLE ", " LONG ")
 
 
@@ -208,9 +208,7 @@ def test_a_value_that_is_no_record_is_a_field(sanitized, folder, number, octets)
     form = form_of((0x83BB, number, len(octets), ONE), behind=octets + b"\0" * (len(octets) % 2))
     (line, end) = run(sanitized, "print", write_forms(folder / "form", [form])).splitlines()
     expected = (
-        "record 2:25 1: 61 (1)"
-        if (number, octets) == (7, DATASET)
-        else rf"main 83bb \w+ {len(octets)}:( {octets.hex()})? \({len(octets)}\)"
+        "iptc 2:25 1: 61 (1)" if (number, octets) == (7, DATASET) else rf"main 83bb \w+ {len(octets)}:( {octets.hex()})? \({len(octets)}\)"
     )
     assert line == expected or re.fullmatch(expected, line)
     assert end == "whole"
