@@ -314,13 +314,13 @@ def test_a_catalogue_that_is_written_meanwhile(archive, night, called, monkeypat
     night()
     lose(archive)
     put(archive.parent / "q", {"a.jpg": picture(77, title="1")})
-    tell = nightly._tell
+    tell = nightly._print_news
 
     def tell_meanwhile(found):
         tell(found)
         assert called("index", "q", "--catalogue", "c.catalogue", "--quiet")[0] == 0
 
-    monkeypatch.setattr(nightly, "_tell", tell_meanwhile)
+    monkeypatch.setattr(nightly, "_print_news", tell_meanwhile)
     assert called("nightly", "p", "--catalogue", "c.catalogue")[0] == 4
     monkeypatch.undo()
     monkeypatch.chdir(archive.parent)
