@@ -3,14 +3,16 @@
 from __future__ import annotations
 
 import base64
+import contextlib
 import json
 import os
 import shutil
+import signal
 import subprocess
 import tempfile
 import time
 from pathlib import Path
-from typing import Any, Dict, List
+from typing import Any, Dict, Iterator, List
 
 WORDS = ["chromium", "--headless", "--no-sandbox", "--disable-gpu", "--remote-debugging-pipe", "--disable-background-networking"]
 PATIENCE = 120  # seconds, also on a very busy machine
@@ -123,6 +125,16 @@ class Browser:
     def end(self) -> None:
         self.call("Browser.close")
         self.process.wait(60)
+        for process in self.left():  # such as the one that waits for crashes, which would take its time
+            with contextlib.suppress(ProcessLookupError):
+                os.kill(process, signal.SIGKILL)
         os.close(self.commands)
         os.close(self.answers)
         shutil.rmtree(self.profile, ignore_errors=True)
+
+    def left(self) -> Iterator[int]:
+        """The processes of this browser, by the folder of its profile in their arguments."""
+        for process in filter(str.isdigit, os.listdir("/proc")):
+            with contextlib.suppress(OSError):
+                if os.fsencode(self.profile) in Path("/proc", process, "cmdline").read_bytes():
+                    yield int(process)
