@@ -220,7 +220,7 @@ def test_a_disk_that_is_not_mounted(name, is_empty, archive, night, folder):
 
 
 def test_a_folder_that_was_removed(archive, night, called):
-    """It is told until it is forgotten. One of which a picture was found elsewhere was emptied by somebody."""
+    """It is in each letter until `forget`. If one of its pictures was found elsewhere, somebody emptied it."""
     night()
     os.rename(archive / "web/0.jpg", archive / "0.jpg")
     shutil.rmtree(archive / "web")

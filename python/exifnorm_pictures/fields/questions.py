@@ -279,7 +279,7 @@ class _Reader:
             return self._tokens[first]
         if self._next.word in _SIGNS:  # as in == and <>, which other programs have
             self._fail(
-                self._next, f"expected: a value. The comparisons are {' '.join(COMPARISONS)}; a value that begins so stands in quotes"
+                self._next, f"expected: a value. The comparisons are {' '.join(COMPARISONS)}; put a value that begins like that in quotes"
             )
         while self._next.word not in (*_JOINING, "(") and not self._next.is_quoted:
             self._at += 1
