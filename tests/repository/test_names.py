@@ -117,8 +117,9 @@ def test_paths_in_backticks(path: Path) -> None:
     assert [it for it in paths if not is_there(it) and not is_there(f"specs/{it}") and not (path.parent / it).exists()] == []
 
 
-def test_lemmas_and_definitions_are_in_their_files() -> None:
-    found = list(lemmas((TOP / "docs" / "PROOFS.md").read_text(encoding="utf-8")))
+@pytest.mark.parametrize("name", ["PROOFS", "READING"])
+def test_lemmas_and_definitions_are_in_their_files(name: str) -> None:
+    found = list(lemmas((TOP / "docs" / f"{name}.md").read_text(encoding="utf-8")))
     assert found
     assert [it for it in found if not any(it[0] in words_of(file) for file in files_named(it[1], it[2]))] == []
 
@@ -159,10 +160,25 @@ def test_a_row_of_the_table_of_changes(row: List[str]) -> None:
             assert f"\n## {it}." in (TOP / "docs" / "FORMAT.md").read_text(encoding="utf-8"), it
 
 
+def definition_files(name: str) -> List[Tuple[str, str]]:
+    """The files of definitions that a document's table lists, in its order, as (crate, file)."""
+    rows = re.findall(r"(?m)^\| (px_\w+) \| ([^|]*) \|(?: \d+ \|)?$", (TOP / "docs" / f"{name}.md").read_text(encoding="utf-8"))
+    return [(crate, file) for crate, files in rows for file in re.findall(r"`(\w+)`", files)]
+
+
+def test_the_headline_is_quoted_as_it_is() -> None:
+    """READING quotes definitions of px_engine, and lists files of definitions in the order of PROOFS."""
+    text = (TOP / "docs" / "READING.md").read_text(encoding="utf-8")
+    definitions = (TOP / "crates" / "px_engine" / "specs" / "Headline.antt").read_text(encoding="utf-8")
+    quotes = re.findall(r"(?ms)^```\n(.*?)^```$", text)
+    assert quotes and all(quote in definitions for quote in quotes)
+    listed = definition_files("READING")
+    assert [name for name in definition_files("PROOFS") if name in listed] == listed
+
+
 def test_what_must_be_read_is_all_and_in_order() -> None:
     """PROOFS lists the definitions of each crate; each follows those that it uses, and none uses the words of single calls."""
-    rows = re.findall(r"(?m)^\| (px_\w+) \| ([^|]*) \| \d+ \|$", (TOP / "docs" / "PROOFS.md").read_text(encoding="utf-8"))
-    listed = [(crate, name) for crate, files in rows for name in re.findall(r"`(\w+)`", files)]
+    listed = definition_files("PROOFS")
     there = {(it.parent.parent.name, it.stem) for it in TOP.glob("crates/px_*/specs/[A-Z]*.antt")} - {
         (it.name, "Lib") for it in TOP.glob("crates/*")
     }
