@@ -3,6 +3,7 @@
 What decides the pixels is in the formats' standards: ITU T.81, the PNG specification, RFC 9649, TIFF 6.0.
 """
 
+import csv
 import hashlib
 import io
 import itertools
@@ -363,6 +364,61 @@ def test_same(folder, called_lines):
     assert {it["keep"] for it in group["pictures"]} == {None} and (summary["groups"], summary["undecided"]) == (1, 2)
     rows = called_lines("same", "--catalogue", "c", "--kind", "pixels", "--csv")[1]
     assert len(rows) == 6 and "coded picture" in rows[1] and [it.split(",")[-1] for it in rows[3:]] == lines[4:7]
+
+
+def test_groups_of_files(folder, called_lines):
+    """Those with the same bytes by Python's SHA-256, whatever they are; names of one file are links."""
+    rng = random.Random(64)
+    kinds = [jpeg(app1(A)), jpeg(app1(B)), jpeg(app1(A))[:-9], b"", b"text", jpeg(app1(A), base=OTHER)]
+    put(folder, {f"p/{number:02}.jpg": rng.choice(kinds) for number in range(20)})
+    called_lines("index", "p", "--catalogue", "plain", "--quiet")
+    status, lines, errors = called_lines("same", "--catalogue", "plain", "--kind", "file")
+    assert (status, lines) == (3, []) and "index --pixels" in errors
+    os.link(folder / "p/00.jpg", folder / "p/link.jpg")
+    called_lines("index", "p", "--catalogue", "c", "--pixels", "--quiet")
+    expected = {}
+    for number in range(20):
+        octets = (folder / f"p/{number:02}.jpg").read_bytes()
+        expected.setdefault(hashlib.sha256(octets).digest(), []).append(f"{number:02}.jpg")
+    status, lines, _ = called_lines("same", "--catalogue", "c", "--kind", "file", "--json")
+    *groups, summary = map(json.loads, lines)
+    found = [[os.path.basename(it["path"]) for it in group["pictures"]] for group in groups]
+    assert status == 0 and sorted(found) == sorted(names for names in expected.values() if len(names) > 1)
+    assert {group["basis"] for group in groups} == {"file"} and sum(len(group["links"]) for group in groups) == 1
+    assert (summary["groups"], summary["undecided"]) == (len(groups), 0)
+    assert called_lines("same", "--catalogue", "c", "--kind", "file", "--only", "title")[0] == 3
+
+
+@needs("exiftool")
+def test_scans_with_two_titles(folder, called_lines):
+    """--differ lists the groups whose pictures have other titles, by how they were made, with all their texts."""
+    titles = {"a": ("1998.7", "1998.8"), "b": ("1998.7", "1998.7"), "c": ("Vase", "VASE"), "d": ("1998.10", "1998.1"), "e": ("7", "")}
+    for at, (name, both) in enumerate(titles.items(), 1):
+        put(folder, {f"p/{name}{side}.jpg": SMALL_JPEG[:-2] + bytes([at]) + SMALL_JPEG[-2:] for side in (1, 2)})
+        for side, text in enumerate(both, 1):
+            tool(folder, "exiftool", "-q", "-overwrite_original", f"-IPTC:ObjectName={text}", "-By-line=Otto", f"p/{name}{side}.jpg")
+    called_lines("index", "p", "--catalogue", "c", "--pixels", "--quiet")
+    words = ("same", "--catalogue", "c", "--kind", "pixels", "--differ", "title", "--columns", "creator")
+    status, lines, _ = called_lines(*words, "--json")
+    *groups, summary = map(json.loads, lines)
+    found = {os.path.basename(it["path"])[:2]: it["texts"] for group in groups for it in group["pictures"]}
+    differ = {name: both for name, both in titles.items() if name in "ade"}
+    assert found == {
+        f"{name}{at}": {"creator": ["Otto"], "title": [one] * bool(one)} for name, both in differ.items() for at, one in enumerate(both, 1)
+    }
+    assert (status, summary["groups"], summary["alike"], summary["alike_not_known"]) == (0, 3, 2, 0)
+    rows = list(csv.reader(called_lines(*words, "--csv")[1]))
+    assert rows[0][-2:] == ["creator", "title"] and [row[-1] for row in rows[1:-1]].count("1998.10") == 1
+    assert any(line.startswith("2 groups aren't listed") for line in called_lines(*words)[1])
+
+
+def test_titles_that_may_differ(folder, called_lines):
+    """A picture that was not wholly read may have another title."""
+    refused = b"II*\0\xff\xff\0\0"
+    put(folder, {"p/a.jpg": jpeg(app1(refused)), "p/b.jpg": jpeg(app1(A))})
+    called_lines("index", "p", "--catalogue", "c", "--pixels", "--quiet")
+    status, lines, _ = called_lines("same", "--catalogue", "c", "--kind", "pixels", "--differ", "title")
+    assert status == 2 and any("isn't sure" in line for line in lines), lines
 
 
 def test_a_catalogue_without_digests(folder, called_lines):

@@ -11,6 +11,7 @@ import unicodedata
 
 import pytest
 from made_files import app1_xmp, app13, jpeg, png, png_xmp, resource, xmp
+from made_more_files import gif
 from studio import needs, put, tool
 from test_maker_notes import noted
 
@@ -287,6 +288,24 @@ def test_since(folder, called, asked, monkeypatch):
     called("index", "p", "--catalogue", "c", "--quiet")
     assert asked("--since", "1971-01-01")[0] == ["a.jpg"]
     assert asked("--since", "2200-01-01")[0] == []
+
+
+def test_damage(folder, called, asked):
+    """It is known of files whose pictures were read, by how they were made; nobody looks into a GIF, nor without --pixels."""
+    texts = [("title", "A")]
+    put(folder / "p", {"whole.jpg": picture(texts), "cut.jpg": picture(texts)[:-20], "other.gif": gif(), "d.txt": b"no picture"})
+    called("index", "p", "--catalogue", "plain", "--quiet")
+    assert called("list", "plain", "--with", "damage")[:2] == (2, "0 of 3 pictures; 3 more may fit" + UNREAD)
+    called("index", "p", "--catalogue", "c", "--pixels", "--quiet")
+    found, status, last = asked("--with", "damage")
+    assert (found, status, last["not_known"]) == (["cut.jpg"], 2, 1)
+    assert asked("--without", "damage")[:2] == (["whole.jpg"], 2)
+    assert asked("--where", "title = A and not damage has inside")[0] == ["whole.jpg"]
+    status, printed, _ = called("list", "p", "--with", "damage", "-0")
+    assert (status, printed) == (2, f"{folder}/p/cut.jpg\0")
+
+
+UNREAD = ": their pictures were not read, as index --pixels reads those of JPEG, PNG, TIFF, WebP and raw files\n"
 
 
 # Wrong questions

@@ -40,6 +40,8 @@ COMMANDS = (
     "same --no-look --catalogue C --kind pixels",
     "same --no-look --catalogue C --ignore Artist",
     "same --no-look --catalogue C --only creator",
+    "same --no-look --catalogue C --kind file",
+    "same --no-look --catalogue C --kind pixels --differ creator",
     "changed C D --no-exiftool",
     "changed C D --no-exiftool --each",
     "changed C D --no-exiftool --ignore Artist",
@@ -49,6 +51,7 @@ COMMANDS = (
     "list C --where creator=anna --columns creator",
     "list C --without credit -0",
     "list C --count creator",
+    "list C --with damage --columns damage",
     "list C --where title=x",
     "check rules C",
     "history /archive/one/00000016.jpg C D",
@@ -70,6 +73,7 @@ def make(name, count):
         catalogue.put(catalogue.begin_run("2000-01-01T00:00:00Z"), [first])
         many_rows(catalogue.base, count, "n / 2", "one", 0, "n")
         catalogue.base.execute("UPDATE pictures SET coded_picture = CASE WHEN id % 3 THEN printf('%064x', id / 4) ELSE '' END")
+        catalogue.base.execute("UPDATE pictures SET sha256 = coded_picture")
         for number, basis in enumerate(BASES, 1):
             catalogue.base.execute(f"UPDATE pictures SET {basis} WHERE id / 2 % {len(BASES) + 1} = {number}")
         catalogue.base.execute(

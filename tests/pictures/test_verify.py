@@ -71,6 +71,16 @@ HAPPENS = {
     "moved and captioned": (lambda it: (it.unlink(), written(it.parent / "z.jpg", CAPTIONED)), ("moved", "captioned, too"), 0),
 }
 
+# The words of --list
+LISTS = {
+    "damaged": {"DAMAGED", "cut off"},
+    "missing": {"missing"},
+    "other": {"other picture", "other file"},
+    "captioned": {"captioned", "written again"},
+    "moved": {"moved"},
+    "unknown": {"can't be read", "without a digest"},
+}
+
 
 @pytest.mark.parametrize("name", HAPPENS)
 def test_what_happens_to_a_picture(name, archive, verified):
@@ -80,6 +90,10 @@ def test_what_happens_to_a_picture(name, archive, verified):
         (archive / "b.jpg").write_bytes(b"text")
         status = 1
     found, states, (summary,) = verified()
+    listed = {word: verified("--list", word)[1] for word in LISTS}
+    assert {word: dict(of_word) for word, of_word in listed.items()} == {
+        word: {name: it for name, it in states.items() if it[0] in of_word} for word, of_word in LISTS.items()
+    }
     states.pop("b.jpg", None)
     assert (found, states) == (status, {"a.jpg": state} if state else {})
     assert summary["new"] == 0
@@ -169,6 +183,20 @@ def test_a_picture_that_was_damaged_before(archive, called):
     called("index", "p", "--catalogue", "c", "--quiet")
     status, printed, _ = called("verify", "--catalogue", "c")
     assert status == 0 and re.search(r"4 files as they were\n +\S*/a.jpg \(damaged before, too: ", printed), printed
+    (archive / "b.jpg").write_bytes((PICTURE + b"trailer")[: len(PICTURE) // 2])
+    status, printed, _ = called("verify", "--catalogue", "c", "--list", "damaged")
+    names = [line.partition(":")[0] for line in printed.splitlines() if line.startswith("/")]
+    assert (status, names) == (1, [f"{archive}/a.jpg", f"{archive}/b.jpg"]), printed
+
+
+def test_all_damaged_files_are_listed(archive, called):
+    """Without --list the first ones are, and two dots."""
+    put(archive, {f"{number}.jpg": PICTURE for number in range(30)})
+    called("index", "p", "--catalogue", "c", "--quiet")
+    for number in range(30):
+        (archive / f"{number}.jpg").write_bytes(PICTURE[:-20])
+    assert called("verify", "--catalogue", "c")[1].count(".jpg") == 10
+    assert called("verify", "--catalogue", "c", "--list", "damaged")[1].count(".jpg: ") == 30
 
 
 def test_index_goes_on_with_digests(archive, called, verified):

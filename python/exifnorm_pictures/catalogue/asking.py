@@ -12,7 +12,7 @@ from dataclasses import dataclass
 from typing import Callable, Dict, Iterator, List, NamedTuple, Optional, Sequence, Tuple, Union
 
 from ..fields.folding import bare, folded
-from ..fields.labels import DATE, is_in_maker_notes
+from ..fields.labels import DAMAGE, DATE, is_in_maker_notes
 from ..fields.listing import LONGEST_TEXT
 from ..fields.questions import All, Any, Condition, Not, Question, With, fields_in, labels_of
 from ..model.columns import Damaged
@@ -32,11 +32,16 @@ IN_SCOPE = f"p.id NOT IN ({_LEFT_OUT})"
 OPEN = f"p.id IN (SELECT id FROM pictures WHERE {NOT_WHOLE} UNION ALL SELECT picture FROM texts WHERE label = '')"
 # What makes a missing serial number or owner unknown, too: a MakerNote that ExifTool wasn't asked about
 NOTE_NOT_READ = "(p.maker_notes != '' AND p.id NOT IN (SELECT picture FROM maker_notes))"
+# What makes it unknown whether a file is damaged: nobody has read its picture, or none of its format is read
+_NOT_LOOKED_AT = "(p.damage = '' AND ifnull(p.coded_picture, '') = '')"
 
 
 def unread(labels: Sequence[str]) -> str:
     """What makes it unknown whether a picture has a text of some labels."""
-    return f"({OPEN} OR {NOTE_NOT_READ})" if any(map(is_in_maker_notes, labels)) else OPEN
+    reasons = [_NOT_LOOKED_AT] if DAMAGE in labels else []
+    reasons += [OPEN] if set(labels) != {DAMAGE} else []
+    reasons += [NOTE_NOT_READ] if any(map(is_in_maker_notes, labels)) else []
+    return f"({' OR '.join(reasons)})"
 
 
 class _Part(NamedTuple):
@@ -211,6 +216,7 @@ class Answer:
         sure, may = ([_Part(self._found.condition(question, is_sure))] if question else [] for is_sure in (True, False))
         self._sure, self._may = _joined("AND", [self._scope, *sure]), _joined("AND", [self._scope, *may])
         self._not_known: Optional[int] = None
+        self._open_for: Optional[str] = None  # the label for which `may_have` has a table
         self._are_all = question is None and scope == Scope()
 
     def count(self) -> int:
@@ -246,10 +252,20 @@ class Answer:
         query = f"SELECT p.id, p.path FROM pictures p WHERE {self._sure.sql} ORDER BY p.path"
         yield from self._catalogue.rows(query, self._sure.values, _fitting)
 
-    def texts_of(self, picture: Fitting, labels: Sequence[str]) -> List[Tuple[str, ...]]:
-        """The texts of a picture for some labels."""
+    def may_have(self, number: int, label: str) -> bool:
+        """Whether a picture, by its number, may have a further text of a label, because it was not wholly read."""
+        if self._open_for != label:  # found once, because many pictures are asked for
+            with self._catalogue.guarded():
+                self._catalogue.base.execute("DROP TABLE IF EXISTS temp.open_pictures")
+                self._catalogue.base.execute("CREATE TEMP TABLE open_pictures (picture INTEGER PRIMARY KEY)")
+                self._catalogue.base.execute(f"INSERT INTO temp.open_pictures SELECT p.id FROM pictures p WHERE {unread([label])}")
+            self._open_for = label
+        return next(self._catalogue.rows("SELECT 1 FROM temp.open_pictures WHERE picture = ?", (number,)), None) is not None
+
+    def texts_of(self, number: int, labels: Sequence[str]) -> List[Tuple[str, ...]]:
+        """The texts of a picture, by its number, for some labels."""
         query = "SELECT text FROM texts WHERE label = ? AND long IN (0, 1) AND picture = ? ORDER BY number"
-        return [tuple(self._catalogue.rows(query, (label, picture.id), _text)) for label in labels]
+        return [tuple(self._catalogue.rows(query, (label, number), _text)) for label in labels]
 
     def counted(self, label: str) -> "Iterator[Tuple[str, int, str]]":
         """The texts of a label with the number of pictures that have each, the most frequent first, and beside it those that are spelled

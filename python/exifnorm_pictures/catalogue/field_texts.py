@@ -1,4 +1,5 @@
-"""The texts of fields that have no label, for a question about them: of all pictures, in one pass over the fields that the catalogue has."""
+"""The texts of fields that have no label, for a question about them: of all pictures, in one pass over the fields that the catalogue has.
+What is damaged of a file, which is no field, is a text, too."""
 
 from __future__ import annotations
 
@@ -8,6 +9,7 @@ from typing import Any, Iterator, List, Sequence, Tuple
 from ..fields.block_fields import with_fields
 from ..fields.choosing import Choice
 from ..fields.field import Field
+from ..fields.labels import DAMAGE
 from ..fields.listing import LONGEST_TEXT, is_rest
 from ..fields.plain_values import plain
 from ..fields.typed import typed
@@ -21,7 +23,8 @@ _FIELDS = "temp.field_texts"
 
 
 def add_fields(catalogue: Catalogue, words: Sequence[str], report: Report = say_nothing) -> None:
-    """Makes the name `texts` stand for the texts of these fields, too, each with its word as a label. The texts by label are ready."""
+    """Makes the name `texts` stand for the texts of these fields, too, each with its word as a label. The texts by label are ready. Of damage
+    the fields of no picture are read."""
     base = catalogue.base
     with catalogue.guarded():
         has_view = base.execute("SELECT 1 FROM sqlite_temp_master WHERE type = 'view' AND name = 'texts'").fetchone()
@@ -30,7 +33,13 @@ def add_fields(catalogue: Catalogue, words: Sequence[str], report: Report = say_
         tables = ["main.texts", *["temp.other_texts"] * bool(has_view), _FIELDS]
         base.execute("CREATE INDEX temp.field_short_texts ON field_texts (label, head, text) WHERE long = 0")
         base.execute(f"CREATE TEMP VIEW texts AS {' UNION ALL '.join(f'SELECT * FROM {table}' for table in tables)}")
-    choices = [(word, Choice(only=[word])) for word in words]
+    if DAMAGE in words:
+        with catalogue.guarded():
+            damaged = catalogue.rows("SELECT id, damage FROM main.pictures WHERE damage != ''")
+            base.executemany(put_text(_FIELDS), ((number, 0, *kept_text(DAMAGE, text)) for number, text in damaged))
+    choices = [(word, Choice(only=[word])) for word in words if word != DAMAGE]
+    if not choices:
+        return
     due = int(next(catalogue.rows("SELECT count(*) FROM main.pictures"))[0])
     done, last = 0, 0
     while done < due:

@@ -177,7 +177,7 @@ def _check_head(name: str, make: bool) -> None:
     except FileNotFoundError:
         if make:
             return
-        raise NoCatalogue(f"there is no catalogue {name}") from None
+        raise NoCatalogue(f"there is no catalogue {name}{_of_day(name)}") from None
     if not stat.S_ISREG(kind):
         raise NoCatalogue(f"{name} is no catalogue: it is no regular file")
     log = _mark(f"{name}-wal")
@@ -199,6 +199,20 @@ def _check_head(name: str, make: bool) -> None:
         )
     if version > VERSION:
         raise NoCatalogue(f"{name} is a catalogue of a later release (version {version}, here {VERSION})")
+
+
+def _of_day(name: str) -> str:
+    """What to do if somebody gives a day in place of a catalogue.
+
+    >>> _of_day("x.catalogue"), len(_of_day("2026-11-20")) > 100
+    ('', True)
+    """
+    if not re.fullmatch(r"\d{4}-\d\d-\d\d", name):
+        return ""
+    return (
+        f". For a day: exifnorm-pictures list CATALOGUE --since {name}, which lists the pictures that are new or changed since;"
+        " what changed in them is known only by an older catalogue, such as index --keep-old and nightly keep"
+    )
 
 
 _PLAIN = b"/-._~0123456789ABCDEFGHIJKLMNOPQRSTUVWXYZabcdefghijklmnopqrstuvwxyz"  # bytes of a path that stay as they are in a URI

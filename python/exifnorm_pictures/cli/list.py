@@ -9,24 +9,25 @@ import sys
 import time
 from datetime import datetime, timezone
 from itertools import groupby
-from typing import TYPE_CHECKING, Iterator, List, Optional, Sequence, Tuple
+from typing import List, Optional, Sequence, Tuple
 
 from ..catalogue.asking import Answer, Fitting, Scope
-from ..fields.labels import POSITION, is_in_maker_notes
+from ..fields.labels import DAMAGE, POSITION, is_in_maker_notes
 from ..fields.places import place_of
 from ..fields.questions import Not, Question, With, WrongQuestion, all_of, given_label, labels_of, question_of
 from ..files import signals
 from ..model.texts import Members, escaped, path_members, shown_path
+from . import listed_texts
 from .exit_codes import SUCCESS, UNKNOWN
 from .looking import Preparing, catalogue_for_questions, refuse_for_catalogues
 from .objects import print_object
 from .output import print_line, table_of
 from .parser import refuse
 
-if TYPE_CHECKING:
-    from .tables import Cell
-
-_WIDEST = 40  # characters in front of which the counts of --count stand
+_WHAT_CHANGED = (
+    "What changed in them isn't known from this catalogue: exifnorm-pictures changed OLD NEW says it,"
+    " with an older one, such as index --keep-old and nightly keep"
+)
 
 
 def run(arguments: argparse.Namespace) -> int:
@@ -38,6 +39,7 @@ def run(arguments: argparse.Namespace) -> int:
     scope = Scope(_since(arguments.since) if arguments.since else None)
     source = _source(arguments)
     refuse_for_catalogues(arguments, source)
+    arguments.pixels = DAMAGE in (*(labels_of(question) if question else ()), *columns, counted)  # of a folder
     with catalogue_for_questions(source, arguments) as catalogue, catalogue.reading():
         shown = [*columns, *([] if counted is None else [counted])]
         answer = Answer(catalogue, question, scope, Preparing(arguments).report, shown)
@@ -80,7 +82,7 @@ def _question(arguments: argparse.Namespace) -> Optional[Question]:
 def _columns(arguments: argparse.Namespace, question: Optional[Question]) -> List[str]:
     """The labels whose texts are printed: those that are asked for, in a table at least those of the question."""
     if arguments.columns is not None:
-        return [given_label(word) for word in arguments.columns.split(",")]
+        return listed_texts.labels_in(arguments.columns)
     in_question = labels_of(question) if question else []
     return list(dict.fromkeys(["title", *in_question])) if arguments.csv or arguments.json or arguments.geojson else []
 
@@ -100,15 +102,15 @@ def _since(text: str) -> str:
 
 
 def _print_pictures(arguments: argparse.Namespace, answer: Answer, columns: Sequence[str]) -> None:
-    table = table_of(arguments, ["picture", *_heads(columns)])
+    table = table_of(arguments, ["picture", *listed_texts.heads(columns)])
     listed = 0
     if arguments.geojson:
         print('{"type": "FeatureCollection", "features": [')
     for picture in answer.pictures():
         listed += 1
-        texts = answer.texts_of(picture, columns) if columns else []
+        texts = answer.texts_of(picture.id, columns) if columns else []
         if table:
-            table.row(picture.path, *_cells(columns, texts))
+            table.row(picture.path, *listed_texts.cells(columns, texts))
         elif arguments.json:
             captions = {label: list(of_label) for label, of_label in zip(columns, texts)}
             print_object("list", "picture", {**path_members(picture.path), "texts": captions})
@@ -117,7 +119,7 @@ def _print_pictures(arguments: argparse.Namespace, answer: Answer, columns: Sequ
         elif arguments.null:
             sys.stdout.buffer.write(picture.path + b"\0")
         else:
-            for line in _lines(picture, columns, texts):
+            for line in [shown_path(picture.path), *listed_texts.lines(columns, texts, "  ")]:
                 print_line(line)
     if arguments.geojson:
         print("]}")
@@ -126,30 +128,10 @@ def _print_pictures(arguments: argparse.Namespace, answer: Answer, columns: Sequ
 
 def _feature(picture: Fitting, columns: Sequence[str], texts: Sequence[Tuple[str, ...]], answer: Answer) -> Members:
     """A picture on a map (RFC 7946), whose positions have the longitude first."""
-    place = next((place_of(text) for text in answer.texts_of(picture, [POSITION])[0]), None)
+    place = next((place_of(text) for text in answer.texts_of(picture.id, [POSITION])[0]), None)
     geometry = None if place is None else {"type": "Point", "coordinates": [place.longitude, place.latitude]}
     properties = {**path_members(picture.path), **{label: "; ".join(of_label) for label, of_label in zip(columns, texts)}}
     return {"type": "Feature", "geometry": geometry, "properties": properties}
-
-
-def _heads(columns: Sequence[str]) -> List[str]:
-    """The heads of a table, in which a position is two numbers, as maps take them."""
-    return [head for label in columns for head in (("latitude", "longitude") if label == POSITION else (label,))]
-
-
-def _cells(columns: Sequence[str], texts: Sequence[Tuple[str, ...]]) -> Iterator[Cell]:
-    for label, of_label in zip(columns, texts):
-        if label == POSITION:
-            yield from (place_of(of_label[0]) if of_label else None) or (None, None)
-        else:
-            yield "; ".join(of_label)
-
-
-def _lines(picture: Fitting, columns: Sequence[str], texts: Sequence[Tuple[str, ...]]) -> Iterator[str]:
-    yield shown_path(picture.path)
-    width = max(map(len, columns), default=0)
-    for label, of_label in zip(columns, texts):
-        yield f"  {label:<{width}}  {escaped('; '.join(of_label)) or '(none)'}"
 
 
 def _print_end(arguments: argparse.Namespace, answer: Answer, listed: int) -> None:
@@ -161,6 +143,8 @@ def _print_end(arguments: argparse.Namespace, answer: Answer, listed: int) -> No
     end = f"{listed:,} of {_pictures(answer.count())}{_of_unknown(answer)}"
     if not (arguments.csv or arguments.null or arguments.geojson):
         print_line(end)
+        if arguments.since and listed:
+            print_line(_WHAT_CHANGED)
     elif answer.not_known():
         signals.say(f"exifnorm-pictures: note: {end}")
 
@@ -172,6 +156,10 @@ def _of_unknown(answer: Answer) -> str:
 
 def _unread(labels: Sequence[str]) -> str:
     """What was not read of pictures, if these labels are asked for."""
+    if DAMAGE in labels:
+        return "their pictures were not read, as index --pixels reads those of JPEG, PNG, TIFF, WebP and raw files" + (
+            ", or they were not wholly read" if set(labels) != {DAMAGE} else ""
+        )
     if any(map(is_in_maker_notes, labels)):
         return "they were not wholly read, or have a MakerNote, which index --maker-notes reads"
     return "they were not wholly read"

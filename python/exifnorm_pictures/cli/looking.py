@@ -41,7 +41,7 @@ def catalogue_of(name: str, arguments: argparse.Namespace) -> Catalogue:
 
 
 def _is_quiet(arguments: argparse.Namespace) -> bool:
-    return arguments.quiet or not sys.stderr.isatty()
+    return getattr(arguments, "quiet", False) or not sys.stderr.isatty()
 
 
 class Preparing:

@@ -12,7 +12,7 @@ from ..model.budgets import PROGRAM_SECONDS
 from ..model.texts import safe
 from .exit_codes import USAGE
 
-PIXELS = "pixels"  # the kind of groups with the same coded picture
+PIXELS, FILE = "pixels", "file"  # the kinds of groups with the same coded picture, and with the same bytes
 
 _STATUSES = """Statuses:
   0    done, or the same (index: also if metadata are refused, which the
@@ -250,8 +250,14 @@ def _merge_arguments(parser: argparse.ArgumentParser) -> None:
 def _same_arguments(parser: argparse.ArgumentParser) -> None:
     _example(parser, "same --catalogue archive.catalogue --csv > same.csv")
     parser.add_argument("--catalogue", required=True, type=_name, metavar="FILE")
-    words = "what must be the same: all metadata, or those of one kind (all); pixels: the picture, whatever its metadata, by index --pixels"
-    parser.add_argument("--kind", choices=("all", *KINDS, PIXELS), default="all", help=words)
+    words = (
+        "what must be the same: all metadata, or those of one kind (all); pixels: the picture, whatever its metadata, and file: all bytes, both by"
+        " index --pixels. A copy that was resized or saved again has another picture"
+    )
+    parser.add_argument("--kind", choices=("all", *KINDS, PIXELS, FILE), default="all", help=words)
+    parser.add_argument("--columns", metavar="LABELS", help="also print the texts of these labels for each picture, as in title,creator")
+    words = "only groups whose pictures have other texts of this label, which is printed too, as two scans with two titles"
+    parser.add_argument("--differ", metavar="LABEL", help=words)
     parser.add_argument("--least-fields", type=_positive, default=0, metavar="N", help="leave out groups of pictures with fewer fields")
     parser.add_argument("--no-look", action="store_true", help="don't look at the files, as for a catalogue from elsewhere")
     _choice_arguments(parser)
@@ -327,6 +333,11 @@ def _verify_arguments(parser: argparse.ArgumentParser) -> None:
     words = "in place of a catalogue, verify the files of a bag (BagIt) by its manifest-sha256.txt"
     parser.add_argument("--bag", type=_name, metavar="BAG", help=words)
     parser.add_argument("--evidence", type=_name, metavar="FILE", help="write SHA-256 of each file to a new file, for sha256sum -c")
+    states = ("damaged", "missing", "other", "captioned", "moved", "unknown")
+    words = (
+        f"list all files of this state, in place of the first ones of each: {', '.join(states)}. Those that were damaged before are damaged"
+    )
+    parser.add_argument("--list", choices=states, metavar="STATE", help=words)
     words = "keep what was read in this new folder until the run ends: a run that was stopped goes on from there"
     parser.add_argument("--state", type=_name, metavar="DIR", help=words)
     _limit_arguments(parser)
@@ -393,9 +404,9 @@ def _list_arguments(parser: argparse.ArgumentParser) -> None:
 
 _FIRST = """The first list or check after index reads the texts of new pictures from the
 catalogue, and keeps them in it."""
-_QUESTIONS = """A label of captions, or position, serial or owner, or a field by a name that
---only of changed takes, such as FNumber or XMP-dc:rights; numbers are as in
-exiftool -n. All fields are read for that. A question compares labels
+_QUESTIONS = """A label of captions, position, serial, owner, damage, or a field by a name
+that --only of changed takes, such as FNumber or XMP-dc:rights; numbers are as
+in exiftool -n. All fields are read for that. A question compares labels
 by =, !=, has, like (with * and ?), and dates and numbers by <, <=, >, >=, and
 joins that by and, or, not and brackets:
   keywords = clay and not creator like 'Otto*'

@@ -11,34 +11,39 @@ from typing import TYPE_CHECKING, Dict, Iterator, List, Optional, Sequence, Tupl
 from ..catalogue.store import Catalogue
 from ..comparison.group import Group, Link
 from ..comparison.group_sentence import sentence_of
-from ..comparison.groups import CodedPictures, Groups, coded_pictures, left_out
+from ..comparison.groups import CodedPictures, Groups, coded_pictures, left_out, whole_files
 from ..comparison.keeping import KEEP_ALL, NOT_KNOWN, Keep, keeping
 from ..comparison.readings import of_unknown
 from ..fields.choosing import Choice
+from ..fields.folding import folded
 from ..fields.left_out import BY_LISTING, members_of, of_labels
+from ..fields.questions import given_label
 from ..files import signals
 from ..model.results import Result
 from ..model.errors import WrongUse
 from ..model.found import KINDS
 from ..model.records import PictureRecord
 from ..model.texts import Members, path_members, shown_path
+from . import listed_texts
 from .choice import choice_of, listings_of, note_absent, refuse_unknown
 from .exit_codes import UNKNOWN, status_of_results
+from .looking import Preparing
 from .names import chosen_paths, say_unknown
 from .objects import line_of, print_object
 from .output import print_line, table_of
-from .parser import PIXELS
+from .parser import FILE, PIXELS
 
 if TYPE_CHECKING:
+    from ..catalogue.asking import Answer
     from .tables import Table
 
 
 class _Listed:
     """What `same` lists, and the numbers of it."""
 
-    def __init__(self, arguments: argparse.Namespace, choice: Choice) -> None:
-        self.arguments, self.choice = arguments, choice
-        self.table = table_of(arguments, _HEADS)
+    def __init__(self, arguments: argparse.Namespace, choice: Choice, texts: "_Texts") -> None:
+        self.arguments, self.choice, self.texts = arguments, choice, texts
+        self.table = table_of(arguments, (*_HEADS, *listed_texts.heads(texts.labels)))
         self.groups: "Counter[str]" = Counter()  # of pictures, and of other files
         self.pictures: "Counter[str]" = Counter()  # in them
         self.results: "Counter[Result]" = Counter()
@@ -46,7 +51,9 @@ class _Listed:
         self.unknown_pictures = 0  # groups of which it isn't known whether their pictures are the same, too
 
     def add(self, group: Group) -> None:
-        """Prints a group, and counts it."""
+        """Prints a group, and counts it, if its pictures differ in the label of --differ."""
+        if not self.texts.differ_in(group):
+            return
         what = "pictures" if group.are_pictures else "files"
         self.groups[what] += 1
         self.pictures[what] += group.count
@@ -56,26 +63,68 @@ class _Listed:
         has_keep = self.arguments.kind == "all" and not self.arguments.no_look and not self.choice
         keeps = keeping(group, bool(self.arguments.json or self.table)) if has_keep else {}
         if self.arguments.json:
-            _print_group(number, group, keeps)
+            _print_group(number, group, keeps, self.texts)
         elif self.table:
-            _print_rows(self.table, number, group, keeps)
+            _print_rows(self.table, number, group, keeps, self.texts)
         else:
-            _print_lines(group, number, keeps)
+            _print_lines(group, number, keeps, self.texts)
             self.unknown_pictures += any(one.why == NOT_KNOWN for one in keeps.values())
+
+
+class _Texts:
+    """The texts of the labels of --columns and --differ, of each picture that is listed."""
+
+    def __init__(self, catalogue: Catalogue, arguments: argparse.Namespace) -> None:
+        self._label = given_label(arguments.differ) if arguments.differ else None
+        columns = listed_texts.labels_in(arguments.columns) if arguments.columns else []
+        self.labels = list(dict.fromkeys([*columns, *([] if self._label is None else [self._label])]))
+        self.alike = 0  # groups that aren't listed
+        self.not_known = 0  # those of them that may differ, because a picture was not wholly read
+        self._answer: Optional[Answer] = None
+        if self.labels:
+            from ..catalogue import asking  # which most groups don't need
+
+            self._answer = asking.Answer(catalogue, None, report=Preparing(arguments).report, shown=self.labels)
+
+    def of(self, picture: PictureRecord) -> listed_texts.Texts:
+        """The texts of a picture, for each label."""
+        return self._answer.texts_of(picture.id, self.labels) if self._answer else []
+
+    def differ_in(self, group: Group) -> bool:
+        """Whether the pictures of a group have other texts of the label that they have to differ in, if there is one."""
+        if self._label is None or self._answer is None:
+            return True
+        at = self.labels.index(self._label)
+        if len({frozenset(map(folded, self.of(picture)[at])) for picture in group.members}) > 1:
+            return True
+        self.alike += 1
+        self.not_known += any(self._answer.may_have(one.id, self._label) for one in group.members)
+        return False
+
+    def end(self) -> Iterator[str]:
+        """What is said about the groups that aren't listed."""
+        if self.alike:
+            groups = "1 group isn't listed: its" if self.alike == 1 else f"{self.alike:,} groups aren't listed: their"
+            may = f"; of {self.not_known:,} that isn't sure, because a picture was not wholly read" if self.not_known else ""
+            yield f"{groups} pictures have the same {self._label}{may}"
 
 
 def run(arguments: argparse.Namespace) -> int:
     """Lists the groups of pictures that mean the same."""
-    kinds = KINDS if arguments.kind in ("all", PIXELS) else (arguments.kind,)
+    kinds = KINDS if arguments.kind in ("all", PIXELS, FILE) else (arguments.kind,)
     chosen = chosen_paths(arguments)
+    if arguments.columns or arguments.differ:
+        from ..catalogue import kept_texts  # which takes long to import
+
+        kept_texts.keep(arguments.catalogue, Preparing(arguments).report)
     with contextlib.ExitStack() as open_:
         catalogue = open_.enter_context(Catalogue(arguments.catalogue))
         only = None if chosen is None else catalogue.choose(chosen)
         choice = choice_of(arguments)
         refuse_unknown(choice, listings_of(catalogue))
         note_absent(choice, listings_of(catalogue), catalogue.with_maker_note() if choice.asks_for_private else 0)
-        groups = Groups(catalogue, only, not arguments.no_look, None if arguments.kind == PIXELS else arguments.session)
-        listed = _Listed(arguments, choice)
+        groups = Groups(catalogue, only, not arguments.no_look, None if arguments.kind in (PIXELS, FILE) else arguments.session)
+        listed = _Listed(arguments, choice, _Texts(catalogue, arguments))
         for group in _asked(groups, arguments, kinds, choice):
             listed.add(group)
         left = 0 if listed.table else _left_out(catalogue, arguments.kind, kinds, only)
@@ -83,34 +132,41 @@ def run(arguments: argparse.Namespace) -> int:
             print_object("same", "summary", _summary(listed, groups, left))
         elif listed.table:
             _add_notes(listed.table, groups, choice)
-            for text in _of_coded_pictures(coded_pictures(catalogue, only)) if arguments.kind == PIXELS else ():
+            for text in _compared_files(arguments.kind, groups):
                 listed.table.row(*(None,) * 6, text)
+            for text in listed.texts.end():
+                signals.say(f"exifnorm-pictures: note: {text}")
         else:
             _print_totals(listed, groups, left)
         say_unknown(chosen or (), catalogue.has)
-    return UNKNOWN if groups.unknown else status_of_results(listed.results)
+    return UNKNOWN if groups.unknown or listed.texts.not_known else status_of_results(listed.results)
 
 
 def _left_out(catalogue: Catalogue, kind: str, kinds: Sequence[str], only: Optional[str]) -> int:
     """How many pictures can't be in a group of this kind."""
+    if kind == FILE:
+        return whole_files(catalogue, only).unreadable
     return sum(coded_pictures(catalogue, only)[1:3]) if kind == PIXELS else left_out(catalogue, kinds, only)
 
 
 class NoDigests(WrongUse):
-    """No digests of coded pictures, or options that have nothing to do with them."""
+    """No digests of coded pictures or files, or options that have nothing to do with them."""
 
 
 def _asked(groups: Groups, arguments: argparse.Namespace, kinds: Sequence[str], choice: Choice) -> Iterator[Group]:
     """The groups of the kind that is asked for. Raises `NoDigests`."""
-    if arguments.kind != PIXELS:
+    if arguments.kind not in (PIXELS, FILE):
         return groups.by_meaning(kinds, choice, arguments.least_fields)
+    is_of_files = arguments.kind == FILE
     if choice or arguments.least_fields:
-        raise NoDigests("--kind pixels compares coded pictures and no fields: leave out the options for fields")
-    count = coded_pictures(groups.catalogue, groups.only).not_requested
+        what = "all bytes of files" if is_of_files else "coded pictures and no fields"
+        raise NoDigests(f"--kind {arguments.kind} compares {what}: leave out the options for fields")
+    about = (groups.catalogue, groups.only)
+    count = whole_files(*about).not_requested if is_of_files else coded_pictures(*about).not_requested
     if count:
         have = "1 picture has" if count == 1 else f"{count:,} pictures have"
-        raise NoDigests(f"{have} no digest of the coded picture yet: `index --pixels` adds it")
-    return groups.by_coded_picture()
+        raise NoDigests(f"{have} no digest of the {'file' if is_of_files else 'coded picture'} yet: `index --pixels` adds it")
+    return groups.by_file() if is_of_files else groups.by_coded_picture()
 
 
 # Lines
@@ -134,15 +190,27 @@ def _totals(listed: _Listed, groups: Groups, left: int) -> Iterator[str]:
         yield f"{groups.small} more, of pictures with fewer than {listed.arguments.least_fields} fields, {are} not listed"
     if groups.absent:
         yield _of_absent(groups.absent)
-    if left and listed.arguments.kind != PIXELS:
+    yield from listed.texts.end()
+    if left and listed.arguments.kind not in (PIXELS, FILE):
         why = "can't be the same by meaning: a block is refused or unreadable, or a part was not read"
         yield f"{left} picture{'s' * (left > 1)} {why}"
     yield from [of_unknown(groups.unknown)] * bool(groups.unknown)
     yield from of_labels(listed.choice)
     yield from [BY_LISTING] * bool(listed.partial)
     yield from [_ONLY_METADATA] * bool(listed.unknown_pictures)
-    if listed.arguments.kind == PIXELS:
+    yield from _compared_files(listed.arguments.kind, groups)
+    yield from [_NOT_FOUND] * (listed.arguments.kind == PIXELS)
+
+
+def _compared_files(kind: str, groups: Groups) -> Iterator[str]:
+    """How many pictures or files were compared by digests, and how many weren't."""
+    if kind == PIXELS:
         yield from _of_coded_pictures(coded_pictures(groups.catalogue, groups.only))
+    elif kind == FILE:
+        counts = whole_files(groups.catalogue, groups.only)
+        yield f"{counts.compared:,} file{'s' * (counts.compared != 1)} compared by all {'its' if counts.compared == 1 else 'their'} bytes"
+        if counts.unreadable:
+            yield f"{counts.unreadable:,} not compared: {'it was' if counts.unreadable == 1 else 'they were'} not read"
 
 
 def _of_absent(count: int) -> str:
@@ -163,11 +231,12 @@ def _pictures(count: int) -> str:
     return f"{count:,} picture{'s' * (count != 1)}"
 
 
+_NOT_FOUND = "A copy that was resized or saved again has other data, and isn't found by them"
 _ONLY_METADATA = "Only metadata was compared, and pictures with the same metadata may differ: index --pixels compares them too"
 _ALL_THE_SAME = "the pictures are the same too: any one may stay"
 
 
-def _print_lines(group: Group, number: int, keeps: Keeps) -> None:
+def _print_lines(group: Group, number: int, keeps: Keeps, texts: _Texts) -> None:
     if number > 1:
         print_line("")
     print_line(f"{group.count} {'pictures' if group.are_pictures else 'files'}: {sentence_of(group)}:")
@@ -182,6 +251,8 @@ def _print_lines(group: Group, number: int, keeps: Keeps) -> None:
         more = f", and {others:,} that {'are' if others > 1 else 'is'} in a group with it above" if others else ""
         notes = [reason] * (len(reasons) > 1) + [about.get(picture.id, Keep()).note]
         print_line(f"  {shown_path(picture.path)}" + (f"   ({text})" if (text := "; ".join(filter(None, notes))) else "") + more)
+        for line in listed_texts.lines(texts.labels, texts.of(picture), "      "):
+            print_line(line)
         for link in links.get(picture.path, ()):
             print_line(f"      not counted, {link.how}: {shown_path(link.path)}")
     if len(reasons) == 1 and reasons != {""}:
@@ -200,12 +271,13 @@ def _print_lines(group: Group, number: int, keeps: Keeps) -> None:
 _HEADS = ("group", "pictures", "what is the same", "rests on", "picture", "keep", "note")
 
 
-def _print_rows(table: Table, number: int, group: Group, keeps: Keeps) -> None:
+def _print_rows(table: Table, number: int, group: Group, keeps: Keeps, texts: _Texts) -> None:
     """A row for each picture, and one without a word on keeping for each file that doesn't count."""
     about = (number, group.count, sentence_of(group), group.basis)
     for picture in group.members:
         keep = keeps.get(picture.id, Keep())
-        table.row(*about, picture.path, None if keep.keep is None else int(keep.keep), _note(group, picture, keep))
+        cells = listed_texts.cells(texts.labels, texts.of(picture))
+        table.row(*about, picture.path, None if keep.keep is None else int(keep.keep), _note(group, picture, keep), *cells)
     for path, note in _not_counted(group):
         table.row(*about, path, None, note)
 
@@ -238,10 +310,12 @@ def _not_counted(group: Group) -> Iterator[Tuple[bytes, str]]:
 def _summary(listed: _Listed, groups: Groups, left: int) -> Members:
     totals = {"groups": sum(listed.groups.values()), "pictures": sum(listed.pictures.values()), "undecided": left}
     missing = {"small_groups": groups.small, "absent_groups": groups.absent, "maker_notes_unknown": dict(groups.unknown)}
-    return {**totals, **missing, **members_of(listed.choice)}
+    texts = listed.texts
+    alike = {"alike": texts.alike, "alike_not_known": texts.not_known} if listed.arguments.differ else {}
+    return {**totals, **missing, **alike, **members_of(listed.choice)}
 
 
-def _print_group(number: int, group: Group, keeps: Keeps) -> None:
+def _print_group(number: int, group: Group, keeps: Keeps, texts: _Texts) -> None:
     """One object. Its pictures come last, and one by one: they may be all of an archive."""
     known = {
         "number": number,
@@ -257,7 +331,8 @@ def _print_group(number: int, group: Group, keeps: Keeps) -> None:
     }
     print(line_of("same", "group", known)[:-1], end=', "pictures": [')
     for at, picture in enumerate(group.members):
-        print(", " * (at > 0) + json.dumps(_picture_members(group, picture, keeps.get(picture.id, Keep()))), end="")
+        more: Members = {"texts": {label: list(one) for label, one in zip(texts.labels, texts.of(picture))}} if texts.labels else {}
+        print(", " * (at > 0) + json.dumps({**_picture_members(group, picture, keeps.get(picture.id, Keep())), **more}), end="")
     print("]}")
 
 

@@ -44,8 +44,9 @@ class Table:
         self.row(*heads)
 
     def row(self, *cells: Cell) -> None:
-        """Writes a row: a path is bytes, a number stays one, and None is an empty cell."""
-        assert len(cells) == self._width
+        """Writes a row: a path is bytes, a number stays one, and None is an empty cell, as are those that aren't given."""
+        assert len(cells) <= self._width
+        cells += (None,) * (self._width - len(cells))
         if self._sheet:
             self._sheet.row(cells)
         else:

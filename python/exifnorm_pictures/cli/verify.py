@@ -27,6 +27,15 @@ from .output import closed_folder, print_line
 from .parser import refuse
 
 SHOWN = 10  # files that are named of each state
+# The words of --list, and the states of the files that are listed then
+LISTS = {
+    "damaged": (State.ROTTED, State.CUT),  # besides files that were damaged before
+    "missing": (State.MISSING,),
+    "other": (State.OTHER, State.OTHER_FILE, State.NOT_LISTED_SO),
+    "captioned": (State.CAPTIONED, State.AGAIN),
+    "moved": (State.MOVED,),
+    "unknown": (State.UNREADABLE, State.NO_DIGEST),
+}
 
 
 class NotThere(WrongUse):
@@ -49,7 +58,10 @@ def run(arguments: argparse.Namespace) -> int:
         now = open_.enter_context(reading)
         for file in verified.verified(before, now, folders):
             counts[file.state] += 1
-            if file.state != State.AS_IT_WAS or file.note:
+            if arguments.list:
+                if file.state in LISTS[arguments.list] or (arguments.list == "damaged" and file.damage):
+                    _print_one(arguments, file)
+            elif file.state != State.AS_IT_WAS or file.note:
                 _add(arguments, listed.setdefault(file.state, []), file)
         new = verified.new_files(before, now) - counts[State.MOVED]
         size, files = next(now.rows("SELECT ifnull(sum(size), 0), count(*) FROM pictures WHERE sha256 != ''"))
@@ -146,15 +158,28 @@ def _check_state(folder: str) -> None:
 def _add(arguments: argparse.Namespace, listed: List[str], result: verified.Verified) -> None:
     """Prints an object, or notes the line of a file if it is one of the first."""
     if arguments.json:
+        _print_one(arguments, result)
+    elif len(listed) <= SHOWN:
+        words = _words(result)
+        listed.append(shown_path(result.path) + (f" ({', '.join(words)})" if words else ""))
+
+
+def _print_one(arguments: argparse.Namespace, result: verified.Verified) -> None:
+    """Prints an object, or the line of a file with its state."""
+    if arguments.json:
         place = None if result.place is None else path_members(result.place)
         print_object("verify", "picture", {**path_members(result.path), "state": result.state, "note": result.note or None, "place": place})
-    elif len(listed) <= SHOWN:
-        words = [result.note] * bool(result.note)
-        if result.place is not None:
-            words = (
-                [f"to {shown_path(result.place)}", *words] if result.state == State.MOVED else [f"{result.note} {shown_path(result.place)}"]
-            )
-        listed.append(shown_path(result.path) + (f" ({', '.join(words)})" if words else ""))
+    else:
+        state = [result.state.text.removesuffix(": index --pixels adds it")] * (result.state != State.AS_IT_WAS)
+        print_line(f"{shown_path(result.path)}: {', '.join([*state, *_words(result)])}")
+
+
+def _words(result: verified.Verified) -> List[str]:
+    """What more is known of a file than its state."""
+    if result.place is None:
+        return [result.note] * bool(result.note)
+    place = shown_path(result.place)
+    return [f"to {place}", *[result.note] * bool(result.note)] if result.state == State.MOVED else [f"{result.note} {place}"]
 
 
 def _by_earlier(count: int) -> str:

@@ -31,6 +31,10 @@ class Basis(Word):
     MAKER_NOTE = ("maker note", True)
     REPAIR = ("repair", True, True)
     CODED_PICTURE = ("coded picture",)  # the metadata may differ
+    FILE = ("file",)  # all bytes of their files
+
+
+OTHERS = (Basis.CODED_PICTURE, Basis.FILE)  # which say nothing about how metadata were compared
 
 
 class Shared(NamedTuple):
@@ -105,7 +109,7 @@ class Group:
     def digests(self) -> Dict[str, str]:
         """The digest of each kind that they have, as far as it is known."""
         first, digests = self.members[0], {}
-        if self.shared.is_partial or self.basis == Basis.CODED_PICTURE:  # no digest is of what they have in common
+        if self.shared.is_partial or self.basis in OTHERS:  # no digest is of what they have in common
             return {}
         for kind, digest in zip(KINDS, first.meanings):
             if kind in self.shared.kinds and digest != "" and (kind != EXIF or not self.has_other_notes):

@@ -7,7 +7,7 @@ from typing import Dict, Iterable, Iterator, List, Tuple
 
 from ..model.found import EXIF
 from ..model.records import PictureRecord
-from .group import Basis, Group, meaning_of_exif
+from .group import OTHERS, Group, meaning_of_exif
 from .readings import NotKnown, Readings
 
 _Note = Tuple[str, str]
@@ -17,7 +17,7 @@ def by_reading(group: Group, readings: Readings) -> Iterator[Group]:
     """The group; a group for each reading of the MakerNotes, where they are at different places or in different bytes. Where a reading isn't
     known, a block that was written anew is in no group with others, and its picture is counted."""
     written = _written(group.members)
-    is_of_exif = EXIF in group.shared.kinds and group.basis != Basis.CODED_PICTURE
+    is_of_exif = EXIF in group.shared.kinds and group.basis not in OTHERS
     if len(written) < 2 or not is_of_exif or not any(place for place, _ in written):
         yield group
         return

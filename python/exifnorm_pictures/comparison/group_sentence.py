@@ -15,6 +15,8 @@ def sentence_of(group: Group) -> str:
     """What is the same, such as `Exif and IPTC are the same in the same bytes, no XMP`."""
     if group.basis == Basis.CODED_PICTURE:
         return f"the coded picture is the same; {_of_metadata(group.members)}"
+    if group.basis == Basis.FILE:
+        return "the files are the same byte for byte"
     if group.members[0].file:
         return _of_files(group)
     text = _of_kinds(group)

@@ -19,7 +19,7 @@ from ..model.found import EXIF, KINDS, NAMES, each_kind
 from ..model.problems import NOT_THERE
 from ..model.records import PictureRecord, picture_of_row
 from ..model.results import Result
-from .group import Basis, Group, Shared
+from .group import OTHERS, Basis, Group, Shared
 from .group_files import files_of
 from .group_notes import by_maker_notes, by_reading
 from .readings import Readings, Unknown
@@ -98,6 +98,10 @@ class Groups:
     def by_coded_picture(self) -> Iterator[Group]:
         """The groups of files with the same coded picture, the largest first."""
         return self._groups(_Query(Basis.CODED_PICTURE, ("coded_picture",), _coded("!= ''", self.only)), KINDS, "pictures")
+
+    def by_file(self) -> Iterator[Group]:
+        """The groups of files with the same bytes, the largest first."""
+        return self._groups(_Query(Basis.FILE, ("sha256",), _whole("!= ''", self.only)), KINDS, "pictures")
 
     def _groups(self, query: _Query, kinds: Tuple[str, ...], table: str) -> Iterator[Group]:
         """The groups that SQLite finds in a table, by the files that are there."""
@@ -183,7 +187,7 @@ def _take_one_of_each(group: Group) -> None:
 def _add_details(catalogue: Catalogue, group: Group) -> None:
     """What isn't simply the same: the result that `changed` has, the unread parts, and why blocks aren't accepted."""
     group.result = _result(group)
-    if group.members[0].not_read != "" and group.basis not in (Basis.MAKER_NOTE, Basis.CODED_PICTURE):
+    if group.members[0].not_read != "" and group.basis not in (Basis.MAKER_NOTE, *OTHERS):
         group.not_read = ", ".join(each_kind(it.what for it in catalogue.not_read_of(group.members[0])))
     if group.basis.has_reasons or (group.basis == Basis.MAKER_NOTE and group.has_refused):
         texts: Dict[str, str] = {}
@@ -249,6 +253,24 @@ def coded_pictures(catalogue: Catalogue, only: Optional[str] = None) -> CodedPic
 
 def _coded(words: str, only: Optional[str]) -> str:
     return f"problem IS NULL AND coded_picture {words}" + (f" AND path IN {only}" if only else "")
+
+
+class WholeFiles(NamedTuple):
+    """How many files have a digest of all their bytes, how many have none because they couldn't be read, and of how many it wasn't requested."""
+
+    compared: int
+    unreadable: int
+    not_requested: int
+
+
+def whole_files(catalogue: Catalogue, only: Optional[str] = None) -> WholeFiles:
+    """The files of a catalogue by what is known of their bytes."""
+    words = ("!= ''", "IS NOT NULL AND sha256 = '' OR (sha256 IS NULL AND problem IS NOT NULL)", "IS NULL AND problem IS NULL")
+    return WholeFiles(*(int(next(catalogue.rows(f"SELECT count(*) FROM pictures WHERE {_whole(it, only)}"))[0]) for it in words))
+
+
+def _whole(words: str, only: Optional[str]) -> str:
+    return f"ifnull(problem, '') NOT IN {NOT_THERE} AND (sha256 {words})" + (f" AND path IN {only}" if only else "")
 
 
 def totals(catalogue: Catalogue, kinds: Sequence[str] = KINDS, only: Optional[str] = None, choice: Choice = EVERYTHING) -> Tuple[int, int]:

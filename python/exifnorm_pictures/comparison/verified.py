@@ -45,6 +45,7 @@ class Verified(NamedTuple):
     state: State
     note: str = ""
     place: Optional[bytes] = None  # where it is now, or where the same picture is
+    damage: str = ""  # of the file as it is now, also if it was damaged before
 
 
 def state_of(before: PictureRecord, now: PictureRecord) -> Tuple[State, str]:
@@ -82,7 +83,7 @@ def verified(before: Catalogue, now: Catalogue, folders: Sequence[bytes]) -> Ite
         if there is None or there.problem in NOT_THERE:
             yield _gone(before, now, picture)
         else:
-            yield Verified(picture.path, *state_of(picture, there))
+            yield Verified(picture.path, *state_of(picture, there), damage=there.damage)
 
 
 def _at(catalogue: Catalogue, path: bytes) -> Optional[PictureRecord]:

@@ -54,6 +54,7 @@ WINDOWS = {"9c9b": "title", "9c9c": COMMENT, "9c9d": "creator", "9c9e": "keyword
 
 
 POSITION = "position"  # no label of a text: where the picture was taken, by GPS
+DAMAGE = "damage"  # no label either: where a file is cut off, or its coded picture is damaged. No field has it
 # No labels of texts either: what tells which camera, lens and owner a picture is of. A MakerNote may have it, too, which only ExifTool reads
 PRIVATE = {
     "serial": (

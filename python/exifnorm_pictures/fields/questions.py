@@ -16,7 +16,7 @@ from dataclasses import dataclass
 from typing import Iterable, List, NamedTuple, NoReturn, Optional, Sequence, Tuple, Union
 
 from ..model.errors import WrongUse
-from .labels import DATE, fields_by_label, label_of
+from .labels import DAMAGE, DATE, fields_by_label, label_of
 
 COMPARISONS = ("=", "!=", "has", "like", "<", "<=", ">", ">=")
 ORDERED = ("<", "<=", ">", ">=")
@@ -120,8 +120,8 @@ def given_label(text: str) -> str:
 
 
 def _label_or_field(text: str) -> Optional[str]:
-    """A label, or the name of a field as --only takes it; None if no field is named so."""
-    label = label_of(text)
+    """A label, damage, or the name of a field as --only takes it; None if no field is named so."""
+    label = DAMAGE if text.casefold() == DAMAGE else label_of(text)
     if label is None and text and not text.isspace():
         from .choosing import is_known  # which few questions need
 
@@ -130,7 +130,7 @@ def _label_or_field(text: str) -> Optional[str]:
 
 
 def fields_in(words: Iterable[str]) -> List[str]:
-    """Those of some words that are fields and no labels, each once."""
+    """Those of some words that are fields or damage and no labels, each once."""
     labels = fields_by_label()
     return [word for word in dict.fromkeys(words) if word not in labels]
 
@@ -138,7 +138,7 @@ def fields_in(words: Iterable[str]) -> List[str]:
 def _nearest(text: str) -> str:
     from .choosing import hint
 
-    labels = list(fields_by_label())
+    labels = [*fields_by_label(), DAMAGE]
     near = difflib.get_close_matches(text.casefold(), labels, 1, 0.6)
     return f" (perhaps {near[0]} is meant)" if near else hint(text) or f". The labels are {', '.join(labels)}"
 
