@@ -179,8 +179,8 @@ class Task:
 class Near:
     """A cluster in this process, in place of Dask's package: its client notes each call, and its tasks end in the order of their calls."""
 
-    def __init__(self, outcomes=(), workers=1):
-        self.outcomes, self.workers, self.calls, self.waits = list(outcomes), workers, [], []
+    def __init__(self, outcomes=(), workers=1, threads=2):
+        self.outcomes, self.workers, self.threads, self.calls, self.waits = list(outcomes), workers, threads, [], []
 
     def Client(self, scheduler, timeout):
         self.calls.append((scheduler, timeout))
@@ -198,8 +198,8 @@ class Near:
         self.calls.append((root, names, how.room, how.seconds, pure, retries))
         return Task(self.outcomes.pop(0) if self.outcomes else function(root, names, how))
 
-    def scheduler_info(self):
-        return {"workers": {} if not self.workers else {"one": 1}}
+    def nthreads(self):
+        return {"one": self.threads} if self.workers else {}
 
     def wait(self, tasks, timeout, return_when):
         self.waits.append((len(tasks), timeout, return_when))
@@ -311,14 +311,25 @@ class Tasks(unittest.TestCase):
         self.assertEqual([it.type for it in result[2:]], ["GIF"] * 63)
         self.assertEqual([it[0] for it in near.waits], [2] + [1] * 65)
 
+    def test_few_tasks_wait_for_each_worker(self):
+        """The work is taken while it is done, for four tasks of each thread of the workers."""
+        taken = []
+        work = (taken.append(number) or found(b"%d" % number) for number in range(64 * 20))
+        near = Near(threads=2)
+        real = near.wait
+        near.wait = lambda tasks, **more: near.calls.append(len(taken)) or real(tasks, **more)
+        self.assertEqual(len(self.looked(near, work)), 64 * 20)
+        self.assertEqual(max(waiting for waiting, *_ in near.waits), 4 * 2)
+        self.assertLessEqual(next(it for it in near.calls if isinstance(it, int)), 64 * 9 + 1)
+
     def test_a_cluster_without_workers(self):
         """It may take as long as a program may take for one file; while there are workers, it may take any time."""
-        near, now = Near(workers=0), iter([0.0, 7.9, 8.0, 8.1])
+        near, now = Near(workers=0), iter([0.0, 0.0, 7.9, 8.0, 8.1])
         with mock.patch.object(cluster.time, "monotonic", lambda: next(now)):
             with self.assertRaisesRegex(programs.Failed, f"^the cluster {FAR} has no worker$"):
                 self.looked(near, [found(b"a")], seconds=8.0)
         self.assertEqual(len(near.waits), 3)
-        near, now = Near([[], "slow", "slow", "slow"]), iter([0.0, 9.0, 99.0, 999.0])
+        near, now = Near([[], "slow", "slow", "slow"]), iter([1.0, 1.0, 9.0, 99.0, 999.0, 999.0, 999.0])
         with mock.patch.object(cluster.time, "monotonic", lambda: next(now)):
             self.assertEqual(self.looked(near, [found(b"a")], seconds=8.0), [])
         self.assertEqual((len(near.waits), list(now)), (4, []))

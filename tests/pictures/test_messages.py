@@ -193,6 +193,25 @@ class Progress(unittest.TestCase):
                     true = begin + 80 - at if len(rates) == 1 or since > 0 else (total - done) / rates[0]
                     self.assertTrue(true / 2 - 1 <= left <= 2 * true + 1, (begin, rates, at, line, true))
 
+    def test_while_pictures_are_found(self):
+        """Neither the number of all nor the time that is left is known, and no line is the last one."""
+        stream = Stream()
+        with mock.patch.object(progress.time, "monotonic", lambda: 100.0):
+            it = progress.Progress(0, stream)
+        for seconds, count, total, is_whole in (
+            (1.0, 10, 500, False),
+            (4.0, 610, 610, False),
+            (6.0, 620, 620, True),
+            (7.0, 620, 620, True),
+        ):
+            it.total, it.is_whole = total, is_whole
+            with mock.patch.object(progress.time, "monotonic", lambda seconds=seconds: 100.0 + seconds):
+                it.done(count)
+        self.assertEqual(
+            stream.getvalue(),
+            "10 of at least 500 pictures\n610 of at least 610 pictures, 200 a second\n620 of 620 pictures, 103 a second\n",
+        )
+
     def test_nothing(self):
         self.assertEqual(self.shown(Stream(), [(5.0, 10)], quiet=True), "")
         self.assertEqual(self.shown(Stream(), [(5.0, 0)], total=0), "")

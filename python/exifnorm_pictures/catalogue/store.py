@@ -518,10 +518,11 @@ class Catalogue:
         """Whether no picture is known, as in a first run."""
         return next(self.rows("SELECT 1 FROM pictures LIMIT 1"), None) is None
 
-    def below(self, folder: bytes) -> Iterator[Tuple[int, bytes, Optional[str]]]:
-        """The number, path and problem of each picture below a folder, by path."""
+    def below(self, folder: bytes, run: int = 0) -> Iterator[Tuple[int, bytes, Optional[str]]]:
+        """The number, path and problem of each picture below a folder, by path, without those that a run has looked at."""
         start = folder.rstrip(b"/") + b"/"
-        yield from self.rows("SELECT id, path, problem FROM pictures WHERE path > ? AND path < ? ORDER BY path", (start, start[:-1] + b"0"))
+        query = "SELECT id, path, problem FROM pictures WHERE path > ? AND path < ? AND run != ? ORDER BY path"
+        yield from self.rows(query, (start, start[:-1] + b"0", run))
 
     def count_below(self, folder: bytes) -> int:
         """How many pictures are below a folder, without those that are gone."""

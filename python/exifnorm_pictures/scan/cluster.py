@@ -1,7 +1,8 @@
 """`index --scheduler`: the workers of a Dask cluster look at the pictures (Debian: python3-distributed).
 
 The workers get names relative to the folder, which may be mounted elsewhere there, and return the results: no picture is
-transferred, and workers write only temporary files. Only this process writes the catalogue.
+transferred, and workers write only temporary files. Only this process writes the catalogue. It lists the folders while the workers read, and a
+few tasks wait for each of them.
 """
 
 from __future__ import annotations
@@ -10,7 +11,8 @@ import logging
 import os
 import time
 from dataclasses import replace
-from typing import Any, Dict, Iterator, List, Optional, Sequence
+from itertools import chain, islice
+from typing import Any, Dict, Iterable, Iterator, List, Optional, Sequence
 
 from ..extract import programs
 from ..files.session import Session
@@ -29,6 +31,7 @@ except ImportError:
     distributed = None
 
 CHUNK = 64  # pictures of a task
+TASKS = 4  # of each thread of a worker, which runs one of them
 POLL = 2.0  # seconds without a result after which the workers are counted
 
 
@@ -53,9 +56,11 @@ def looker(scheduler: str, elsewhere: Optional[str], names: Sequence[bytes]) -> 
     if elsewhere and (len(names) != 1 or not os.path.isdir(names[0])):
         raise programs.Failed("--elsewhere is the path of one folder: give one FOLDER")
 
-    def look(work: Sequence[FoundFile], how: How) -> Iterator[PictureRecord]:
-        if work:
-            yield from _Cluster(scheduler, os.fsencode(elsewhere) if elsewhere else None, how).looked(work)
+    def look(work: Iterable[FoundFile], how: How) -> Iterator[PictureRecord]:
+        files = iter(work)
+        first = next(files, None)
+        if first is not None:
+            yield from _Cluster(scheduler, os.fsencode(elsewhere) if elsewhere else None, how).looked(chain([first], files))
 
     return look
 
@@ -68,15 +73,20 @@ class _Cluster:
         self.scheduler = scheduler
         self.tasks: Dict[Any, Sequence[FoundFile]] = {}
         self.suspects: List[FoundFile] = []  # the pictures of chunks at which workers died
+        self.threads = 0  # of all workers, when they were last counted
+        self.counted = 0.0
 
-    def looked(self, work: Sequence[FoundFile]) -> Iterator[PictureRecord]:
+    def looked(self, work: Iterable[FoundFile]) -> Iterator[PictureRecord]:
         """The result for each of these files, in order of arrival."""
         logging.disable(logging.CRITICAL)  # Dask writes tracebacks; what is wrong is in the errors below
         try:
             with self._client() as client:
-                for chunk in _chunks(work):
-                    self._submit(client, chunk)
-                while self.tasks or self.suspects:
+                chunks = _chunks(work)
+                while True:
+                    for chunk in islice(chunks, self._lacking(client)):
+                        self._submit(client, chunk)
+                    if not self.tasks and not self.suspects:
+                        break
                     if not self.tasks:  # one of these runs without any other task, so a failure has no other cause
                         self._submit(client, [self.suspects.pop()])
                     for task in self._finished(client):
@@ -90,6 +100,13 @@ class _Cluster:
             return distributed.Client(self.scheduler, timeout=max(self.how.seconds, 1.0))
         except (ValueError, TypeError, KeyError, RuntimeError) as error:
             raise programs.Failed(f"the cluster {self.scheduler} failed: {error}") from error
+
+    def _lacking(self, client: Any) -> int:
+        """How many tasks can be given to the workers now; one at least if none has any."""
+        if not self.counted or time.monotonic() - self.counted > POLL:
+            self.threads = sum(client.nthreads().values())
+            self.counted = time.monotonic()
+        return max(0, TASKS * max(1, self.threads) - len(self.tasks))
 
     def _submit(self, client: Any, chunk: Sequence[FoundFile]) -> None:
         root = chunk[0].root
@@ -105,7 +122,7 @@ class _Cluster:
                 return list(distributed.wait(list(self.tasks), timeout=POLL, return_when="FIRST_COMPLETED").done)
             except TimeoutError:
                 pass
-            if client.scheduler_info()["workers"]:
+            if client.nthreads():
                 since = time.monotonic()
             elif time.monotonic() - since > self.how.seconds:
                 raise programs.Failed(f"the cluster {self.scheduler} has no worker")
@@ -126,7 +143,7 @@ class _Cluster:
             yield _here(file, answer)
 
 
-def _chunks(work: Sequence[FoundFile]) -> Iterator[Sequence[FoundFile]]:
+def _chunks(work: Iterable[FoundFile]) -> Iterator[List[FoundFile]]:
     """Pictures of one folder each, at most CHUNK together."""
     chunk: List[FoundFile] = []
     for file in work:
@@ -134,7 +151,8 @@ def _chunks(work: Sequence[FoundFile]) -> Iterator[Sequence[FoundFile]]:
             yield chunk
             chunk = []
         chunk.append(file)
-    yield chunk
+    if chunk:
+        yield chunk
 
 
 def _failed(file: FoundFile, why: str) -> PictureRecord:

@@ -6,7 +6,8 @@ import hashlib
 import threading
 from collections import deque
 from concurrent.futures import Future, ThreadPoolExecutor
-from typing import Deque, Iterator, List, Optional, Sequence, Tuple
+from itertools import chain, islice
+from typing import Deque, Iterable, Iterator, List, Optional, Tuple
 
 from ..catalogue.store import PICTURE_COLUMNS, Catalogue
 from ..files import opening
@@ -17,20 +18,24 @@ from .index import Look, looked
 from .walk import FoundFile
 
 CHUNK = 1 << 20  # bytes: hashlib lets other threads run while it hashes
+OTHERS = 10_000  # files that are looked into together
 _AHEAD = 4  # files of each thread that wait to be reported
 
 
 def looker(before: Catalogue) -> Look:
     """Looks only into those files that have another SHA-256 than a catalogue has."""
 
-    def look(work: Sequence[FoundFile], how: How) -> Iterator[Result]:
+    def look(work: Iterable[FoundFile], how: How) -> Iterator[Result]:
         others: List[FoundFile] = []
-        for file, digest in _hashed(work, how.processes):
+        for file, digest in _hashed(iter(work), how.processes):
             known = _known(before, file.path)
             if digest and known.sha256 == digest and known.problem not in NOT_THERE:
                 yield known.stamped(file.stamp)._replace(path=file.path, root=file.root)
             else:
                 others.append(file)
+            if len(others) >= OTHERS:
+                yield from looked(others, how)
+                others.clear()
         yield from looked(others, how)
 
     return look
@@ -41,16 +46,18 @@ def _known(catalogue: Catalogue, path: bytes) -> PictureRecord:
     return next(catalogue.rows(query, (path,), picture_of_row), PictureRecord())
 
 
-def _hashed(work: Sequence[FoundFile], threads: int) -> Iterator[Tuple[FoundFile, str]]:
+def _hashed(work: Iterator[FoundFile], threads: int) -> Iterator[Tuple[FoundFile, str]]:
     """The files with their SHA-256, in their order. Several threads read them, one file each."""
-    if threads == 1 or len(work) < 2:
-        yield from ((file, digest(file.path)) for file in work)
+    begin = list(islice(work, 2))
+    files = chain(begin, work)
+    if threads == 1 or len(begin) < 2:
+        yield from ((file, digest(file.path)) for file in files)
         return
     waiting: "Deque[Tuple[FoundFile, Future[str]]]" = deque()
     is_stopped = threading.Event()
     with ThreadPoolExecutor(threads) as pool:
         try:
-            for file in work:
+            for file in files:
                 waiting.append((file, pool.submit(digest, file.path, is_stopped)))
                 if len(waiting) > _AHEAD * threads:
                     first, future = waiting.popleft()

@@ -1,4 +1,7 @@
-"""`index`: looks at all pictures that are new or changed since the last run, and keeps the results in a catalogue."""
+"""`index`: looks at all pictures that are new or changed since the last run, and keeps the results in a catalogue.
+
+The folders are listed while pictures are read, so that a run holds only the names that are read next, however many an archive has.
+"""
 
 from __future__ import annotations
 
@@ -9,6 +12,7 @@ import time
 from collections import Counter
 from dataclasses import dataclass, field
 from datetime import datetime, timezone
+from itertools import chain, islice
 from typing import Callable, Dict, Iterable, Iterator, List, Optional, Sequence, Set, Tuple
 
 from ..catalogue.store import Catalogue, Known
@@ -22,26 +26,30 @@ from .batches import LONGEST_WAIT, Batch, How, Lines, Result
 from .excluded import Excluded
 from .moved import Departed, moved_together
 from .progress import Progress
-from .walk import FoundFile, Unlisted, below
+from .seen import Numbers, Paths
+from .walk import FoundFile, Unlisted, below, can_overlap, outermost
 
 BATCH = 1000  # pictures of one transaction
+AHEAD = 500  # files that are found at once; as many again are known before the first of them is looked at
 FEW = 64  # pictures for which starting a further process takes too long
 GARBAGE = 20_000  # objects after which Python looks for rings of them: what is made of a picture has none
 FILES = 8  # of batches, which SQLite attaches at once; it can attach ten
 
 PrintLine = Callable[[str], None]
-Look = Callable[[Sequence[FoundFile], How], Iterator[Result]]
+Look = Callable[[Iterable[FoundFile], How], Iterator[Result]]
 
 
-def looked(work: Sequence[FoundFile], how: How) -> Iterator[Result]:
+def looked(work: Iterable[FoundFile], how: How) -> Iterator[Result]:
     """The results for these files, in their order. What is needed takes long to import, and in most runs nothing has changed."""
-    if how.processes == 1 or len(work) <= FEW:
+    files = iter(work)
+    first = list(islice(files, 0 if how.processes == 1 else FEW + 1))
+    if len(first) <= FEW:
         from .looking import in_this_process
 
-        return in_this_process(work, how)
+        return in_this_process(chain(first, files), how)
     from .workers import in_several_processes
 
-    return in_several_processes(work, how)
+    return in_several_processes(chain(first, files), how)
 
 
 @dataclass
@@ -62,17 +70,17 @@ class IndexOptions:
 
 @dataclass
 class Work:
-    """The pictures that a run has to look at."""
+    """What a run has found, and what it has to look at."""
 
-    to_read: List[FoundFile] = field(default_factory=list)
-    new: Set[bytes] = field(default_factory=set)  # those of them that the catalogue doesn't know, if it knows any
+    to_read: int = 0  # files that are new or changed, as far as folders are listed
+    new: bool = False  # whether the catalogue, if it knows any picture, doesn't know one of them ..
+    reread: Paths = field(default_factory=Paths)  # .. and which of them it knows
     unlisted: List[Unlisted] = field(default_factory=list)
     counts: "Counter[str]" = field(default_factory=Counter)
-    devices: List[Tuple[int, int]] = field(default_factory=list)  # of unchanged pictures, on which file system they are now
-    sidecars: Set[bytes] = field(default_factory=set)  # the XMP files that belong to pictures
-    taken: List[int] = field(default_factory=list)  # the numbers of those that were files by themselves before
-    unfinished: Set[int] = field(default_factory=set)  # the numbers of pictures for which a program was missing that is there now
-    seen: Dict[int, int] = field(default_factory=dict)  # a set of row numbers, 4,096 in a number
+    sidecars: Numbers = field(default_factory=Numbers)  # of XMP files that belong to pictures, and were files by themselves before
+    taken: List[int] = field(default_factory=list)  # those of them that are forgotten
+    unfinished: Numbers = field(default_factory=Numbers)  # of pictures for which a program was missing that is there now
+    seen: Numbers = field(default_factory=Numbers)  # of pictures that were found
 
 
 def index(options: IndexOptions, catalogue: Catalogue) -> "Counter[str]":
@@ -81,18 +89,15 @@ def index(options: IndexOptions, catalogue: Catalogue) -> "Counter[str]":
     A picture that was looked at with this size, these times and this inode is skipped, unless `again` is set.
     """
     run = catalogue.begin_run(_now(), options.how.sidecars)
-    with catalogue.reading():
-        work = _work(options, catalogue)
-    if work.devices:
-        catalogue.set_devices(work.devices)
-    gone, departed = _gone(options, work, catalogue)
+    work, first = Work(), catalogue.is_empty()
+    at_work = _Looking(options, catalogue, run, work)
+    at_work.all(_Finding(options, catalogue, work, first))
+    gone, departed = ([], Departed()) if first else _gone(options, work, catalogue, run)
     if work.taken:
         catalogue.forget_pictures(work.taken)
     if gone:
         catalogue.put(run, gone)
-    at_work = _Looking(options, catalogue, run, work)
-    at_work.all()
-    left = list(departed.settle(catalogue, run, gone, work.new))
+    left = list(departed.settle(catalogue, run, gone, None if not work.new else lambda path: path not in work.reread))
     together = moved_together(departed.went) if options.moved_line else {}
     in_folders = {path for paths in together.values() for path in paths}
     for picture in left:
@@ -115,32 +120,67 @@ def _own_files(name: str) -> Tuple[bytes, ...]:
     return tuple(it + ending for it in names for ending in (b"", b"-wal", b"-shm", b"-journal"))
 
 
-def _work(options: IndexOptions, catalogue: Catalogue) -> Work:
-    """The files that have to be looked at, and how many are unchanged; each file once."""
-    work = Work()
-    named: Set[bytes] = set()
-    many, first = len(options.names) > 1, catalogue.is_empty()
-    if not first:
-        work.unfinished.update(_unfinished(catalogue))
-    sidecars = work.sidecars if options.how.sidecars else None
-    own = [path for name in (catalogue.name, *options.own) for path in _own_files(name)]
-    for file in below(options.names, work.unlisted.append, own, sidecars, options.excluded):
-        if many:
-            if file.path in named:
-                continue
-            named.add(file.path)
-        known = None if first else catalogue.known(file.path)
-        if known is None and not first:
-            work.new.add(file.path)
-        elif known is not None:
-            work.seen[known.id >> 12] = work.seen.get(known.id >> 12, 0) | 1 << (known.id & 4095)
+class _Finding:
+    """Finds the files that have to be looked at, each once. It is some files ahead of those that look at them."""
+
+    def __init__(self, options: IndexOptions, catalogue: Catalogue, work: Work, first: bool) -> None:
+        """`first`: the catalogue knows no picture."""
+        self.options, self.catalogue, self.work, self.first = (options, catalogue, work, first)
+        self.is_whole = False  # whether all files are found
+        self.named = Paths() if can_overlap(options.names) else None
+        self._remounted: List[Tuple[int, int]] = []  # a file system that is there now, and an unchanged picture on it
+        if not first:
+            for number in _unfinished(catalogue):
+                work.unfinished.add(number)
+        own = [path for name in (catalogue.name, *options.own) for path in _own_files(name)]
+        on_sidecar = self._note_sidecar if options.how.sidecars else None
+        self._files = below(options.names, work.unlisted.append, own, on_sidecar, options.excluded)
+
+    def each(self, between: Callable[[], object]) -> Iterator[FoundFile]:
+        """The files that have to be looked at; `between` is called each time that some are found. The catalogue is not locked outside."""
+        some: List[FoundFile] = []
+        while not self.is_whole:
+            following = self._some()
+            self.work.to_read += len(following)
+            between()
+            yield from some
+            some = following
+        yield from some
+
+    def _some(self) -> List[FoundFile]:
+        """Of the next files those that have to be looked at."""
+        with self.catalogue.reading():
+            files = list(islice(self._files, AHEAD))
+            self.is_whole = len(files) < AHEAD
+            to_read = list(filter(None, map(self._to_read, files)))
+        if self._remounted:
+            self.catalogue.set_devices(self._remounted)
+            self._remounted = []
+        return to_read
+
+    def _to_read(self, file: FoundFile) -> Optional[FoundFile]:
+        """A file with what is known of it, if it has to be looked at."""
+        work, options = self.work, self.options
+        if self.named is not None and not self.named.add(file.path):
+            return None
+        known = None if self.first else self.catalogue.known(file.path)
+        if known:
+            work.seen.add(known.id)
         if options.again or not _is_unchanged(file, known, options.how) or (known and known.id in work.unfinished):
-            work.to_read.append(file._replace(problem=known.problem) if known and known.problem and not options.again else file)
-        else:
-            work.counts["unchanged"] += 1
-            if known and known.stamp and file.stamp and known.stamp.device != file.stamp.device:  # mounted again
-                work.devices.append((file.stamp.device, known.id))
-    return work
+            if known:
+                work.reread.add(file.path)
+            elif not self.first:
+                work.new = True
+            return file._replace(problem=known.problem) if known and known.problem and not options.again else file
+        work.counts["unchanged"] += 1
+        if known and known.stamp and file.stamp and known.stamp.device != file.stamp.device:  # mounted again
+            self._remounted.append((file.stamp.device, known.id))
+        return None
+
+    def _note_sidecar(self, path: bytes) -> None:
+        known = None if self.first else self.catalogue.known(path)
+        if known:
+            self.work.sidecars.add(known.id)
 
 
 def _unfinished(catalogue: Catalogue) -> Iterator[int]:
@@ -173,19 +213,19 @@ def _worth_another(problem: Optional[str]) -> bool:
     return problem in AGAIN or (program is not None and programs.is_there(program))
 
 
-def _gone(options: IndexOptions, work: Work, catalogue: Catalogue) -> Tuple[List[PictureRecord], Departed]:
+def _gone(options: IndexOptions, work: Work, catalogue: Catalogue, run: int) -> Tuple[List[PictureRecord], Departed]:
     """The pictures below the folders that are missing now, and the facts by which they are recognised under another name.
 
     Those of a folder that can't be read aren't gone: nothing is known of them. Neither are those that are excluded and still there.
     """
     hidden = tuple(it.path.rstrip(b"/") + b"/" for it in work.unlisted)
     gone, departed = [], Departed()
-    for top in {os.path.abspath(it) for it in options.names if os.path.isdir(it)}:
+    for top in outermost(it for it in options.names if os.path.isdir(it)):
         head = len(top.rstrip(b"/")) + 1
-        for number, path, problem in catalogue.below(top):
-            if work.seen.get(number >> 12, 0) >> (number & 4095) & 1 or problem in GONE or path.startswith(hidden):
+        for number, path, problem in catalogue.below(top, run):
+            if number in work.seen or problem in GONE or path.startswith(hidden):
                 continue
-            if path in work.sidecars:
+            if number in work.sidecars:
                 work.taken.append(number)
             elif not os.path.lexists(path):
                 gone.append(PictureRecord.of(path, b"", problem=Problem.VANISHED, detail=Problem.VANISHED.text))
@@ -214,8 +254,8 @@ class _Looking:
     """Looks at pictures and commits the results in batches, each before it is reported."""
 
     def __init__(self, options: IndexOptions, catalogue: Catalogue, run: int, work: Work) -> None:
-        self.options, self.catalogue, self.run, self.work = options, catalogue, run, work
-        self.progress = Progress(len(work.to_read), quiet=options.quiet)
+        self.options, self.catalogue, self.run, self.work = (options, catalogue, run, work)
+        self.progress = Progress(0, quiet=options.quiet)
         self.ready: List[Result] = []
         self.version = ""  # of the library
         self.versions: Dict[str, Optional[str]] = {}  # of the other programs that have read a picture
@@ -224,17 +264,33 @@ class _Looking:
         self.done = 0
         self.last = time.monotonic()
 
-    def all(self) -> None:
-        """Looks at every picture that must be read."""
-        if not self.work.to_read:
-            return
+    def all(self, finding: "_Finding") -> None:
+        """Looks at every picture that must be read, while they are found."""
+
+        def found_some() -> None:
+            self.progress.total, self.progress.is_whole = (self.work.to_read, finding.is_whole)
+            if self.ready and time.monotonic() - self.last > LONGEST_WAIT:
+                self.commit()
+
+        files = finding.each(found_some)
+        first = next(files, None)
+        if first is not None:
+            self._begin()
+            self._look(chain([first], files))
+            self.progress.done(self.done)
+
+    def _begin(self) -> None:
+        """Makes ready for the first picture that is read. In most runs nothing has changed, and they don't load the library."""
         self.progress.start()
         gc.set_threshold(GARBAGE)
-        import exifnorm  # in most runs nothing has changed, and they don't load the library
+        import exifnorm
 
         self.version = exifnorm.version()
         self.catalogue.set_versions(self.run, self.version, None, None)
-        for result in self.options.look(self.work.to_read, self.options.how):
+
+    def _look(self, files: Iterable[FoundFile]) -> None:
+        """Looks at pictures, and commits each result."""
+        for result in self.options.look(files, self.options.how):
             self.ready.append(result)
             self.files += isinstance(result, Batch)
             self.pictures += sum(result.states.values()) if isinstance(result, Batch) else 1

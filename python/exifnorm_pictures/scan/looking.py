@@ -4,7 +4,7 @@ from __future__ import annotations
 
 import os
 import time
-from typing import TYPE_CHECKING, Iterator, List, Optional, Sequence, Tuple
+from typing import TYPE_CHECKING, Iterable, Iterator, List, Optional, Sequence, Tuple
 
 from exifnorm import LibraryMissing
 
@@ -157,7 +157,7 @@ def _is_racy(times: Sequence[int], began: int) -> bool:
     return times[1] > began or any(it % 1_000_000_000 == 0 or abs(began - it) < FINE for it in near)
 
 
-def in_this_process(work: Sequence[FoundFile], how: How) -> Iterator[PictureRecord]:
+def in_this_process(work: Iterable[FoundFile], how: How) -> Iterator[PictureRecord]:
     """The results for these files, in their order."""
     with Session(how.seconds, how.debug, how.room or None) as session:
         for file in work:

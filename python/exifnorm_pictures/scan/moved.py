@@ -3,7 +3,7 @@
 from __future__ import annotations
 
 import os
-from typing import Collection, Dict, Iterator, List, Optional, Sequence, Tuple
+from typing import Callable, Dict, Iterator, List, Optional, Sequence, Tuple
 
 from ..catalogue.store import Catalogue
 from ..model.problems import Problem
@@ -46,14 +46,19 @@ class Departed:
         if same is not None:
             self.went[same] = path
 
-    def settle(self, catalogue: Catalogue, run: int, gone: Sequence[PictureRecord], new: Collection[bytes]) -> Iterator[PictureRecord]:
-        """The report on each picture that is gone: moved, if one of those that are new in this run is the same, or missing."""
-        if self.by_content or self.by_file:
+    def settle(
+        self, catalogue: Catalogue, run: int, gone: Sequence[PictureRecord], is_new: Optional[Callable[[bytes], bool]]
+    ) -> Iterator[PictureRecord]:
+        """The report on each picture that is gone: moved, if one of those that are new in this run is the same, or missing.
+
+        `is_new` tells whether a picture of this run was unknown before; None if there is no such picture.
+        """
+        if is_new and (self.by_content or self.by_file):
             query = f"SELECT path, {_MARKS} FROM pictures WHERE run = ? AND problem IS NULL AND size IS NOT NULL ORDER BY id"
             for row in catalogue.rows(query, (run,)):
-                if row[0] in new:
+                if is_new(row[0]):
                     self._meet(*row)
-        remounted = list(self._remounted(catalogue, run, new)) if new else []
+        remounted = list(self._remounted(catalogue, run, is_new)) if is_new else []
         if self.went:
             with catalogue.transaction():
                 words = ((f"to {shown_path(to)}", path) for path, to in self.went.items())
@@ -62,7 +67,7 @@ class Departed:
             to = self.went.get(picture.path)
             yield picture if to is None else PictureRecord.of(picture.path, b"", problem=Problem.MOVED, detail=f"to {shown_path(to)}")
 
-    def _remounted(self, catalogue: Catalogue, run: int, new: Collection[bytes]) -> Iterator[PictureRecord]:
+    def _remounted(self, catalogue: Catalogue, run: int, is_new: Callable[[bytes], bool]) -> Iterator[PictureRecord]:
         """The pictures of folders that are gone and whose files are new in this run: a file system that is mounted at another place.
 
         A folder that is gone may be a disk that isn't mounted, and a new file a copy of one on it. So the time and the inode must be the
@@ -73,7 +78,7 @@ class Departed:
             if os.path.lexists(root):
                 continue
             for old, path in catalogue.rows(_REMOUNTED, (run, root)):
-                if path in new and path not in used and old not in self.went and not os.path.lexists(old):
+                if path not in used and old not in self.went and is_new(path) and not os.path.lexists(old):
                     used.add(path)
                     self.went[old] = path
                     yield PictureRecord.of(old, b"")

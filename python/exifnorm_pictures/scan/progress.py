@@ -32,12 +32,14 @@ class Progress:
     def __init__(self, total: int, stream: Optional[TextIO] = None, quiet: bool = False, what: str = "") -> None:
         """`what` precedes the numbers: what is done with the pictures, if they aren't looked at."""
         self.total = total
+        self.is_whole = True  # whether there are no more
         self.what = what
         self.stream = stream or sys.stderr
         self.quiet = quiet
         self.began = time.monotonic()
         self.last = 0.0
         self.is_shown = False  # whether a line that will change is on the terminal
+        self._is_over = False  # whether the last line was printed
         self._reports: Deque[Tuple[float, int]] = deque()  # when how many were done, the newest last
 
     def start(self) -> None:
@@ -51,11 +53,12 @@ class Progress:
         self._reports.append((now, count))
         while len(self._reports) > 2 and now - self._reports[1][0] > WINDOW:
             self._reports.popleft()
-        on_terminal = self.stream.isatty()
-        if self.quiet or not self.total or (count < self.total and now - self.last < (0.2 if on_terminal else 1.0)):
+        on_terminal, is_last = (self.stream.isatty(), self.is_whole and count >= self.total)
+        is_due = is_last or now - self.last >= (0.2 if on_terminal else 1.0)
+        if self.quiet or not self.total or not is_due or self._is_over:
             return
-        self.last = now
-        end = "\n" if not on_terminal or count == self.total else ""
+        self.last, self._is_over = now, is_last
+        end = "\n" if not on_terminal or is_last else ""
         self._write((_CLEAR if on_terminal else "") + self.text(count, now - self.began) + end)
         self.is_shown = on_terminal and not end
 
@@ -85,9 +88,12 @@ class Progress:
         >>> Progress(1000).text(1000, 10.0)
         '1000 of 1000 pictures, 100 a second'
         """
-        so_far = f"{self.what}{count:,} of {self.total:,} pictures" if self.what else f"{count} of {self.total} pictures"
-        if count >= self.total:
+        total = f"{self.total:,}" if self.what else str(self.total)
+        so_far = f"{self.what}{f'{count:,}' if self.what else count} of {'' if self.is_whole else 'at least '}{total} pictures"
+        if self.is_whole and count >= self.total:
             return f"{so_far}, {count / max(seconds, 0.001):.0f} a second"
         rate = self.rate()
-        left = f", {rate:.0f} a second, {duration((self.total - count) / rate)} left" if rate else ""
-        return f"{so_far}{left}"
+        if not rate:
+            return so_far
+        left = f", {duration((self.total - count) / rate)} left" if self.is_whole else ""
+        return f"{so_far}, {rate:.0f} a second{left}"

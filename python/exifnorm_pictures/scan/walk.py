@@ -6,7 +6,7 @@ import io
 import os
 import stat
 import sys
-from typing import Callable, Collection, Iterable, Iterator, NamedTuple, Optional, Set, Tuple, cast
+from typing import Callable, Collection, Iterable, Iterator, List, NamedTuple, Optional, Sequence, Tuple, cast
 
 from ..extract.sidecars import Folder, Folders, Sidecar
 from ..model.errors import WrongUse
@@ -43,15 +43,15 @@ def below(
     names: Iterable[bytes],
     unlisted: OnUnlisted,
     leave_out: Collection[bytes] = (),
-    sidecars: Optional[Set[bytes]] = None,
+    on_sidecar: Optional[Callable[[bytes], object]] = None,
     excluded: Optional[Excluded] = None,
 ) -> Iterator[FoundFile]:
-    """Each file of the arguments, and all files below each folder, in the order of their names.
+    """Each file of the arguments, and all files below each folder, in the order of their names. Only the names of one folder are held.
 
     Paths are absolute. Links to folders aren't followed. Hidden files and folders are included; the files of `leave_out` are not, and
     neither is what is excluded, with all below it.
     A folder that can't be read, and a name without a file, are passed to `unlisted`, and the other files are still returned.
-    With a set `sidecars` the XMP files that belong to pictures go into it, and to their pictures; a name that is given is always returned.
+    With `on_sidecar` the XMP files that belong to pictures are passed to it, and are with their pictures; a name that is given is always returned.
     """
     folders = Folders()
     excluded = excluded or Excluded()
@@ -66,34 +66,47 @@ def below(
                 unlisted(Unlisted(top, reason(error)))
             continue
         if stat.S_ISDIR(now.st_mode):
-            yield from _below(top, unlisted, leave_out, sidecars, excluded)
+            yield from _below(top, unlisted, leave_out, on_sidecar, excluded)
         elif top not in leave_out and not excluded.passes_over(os.path.basename(top)):
-            yield FoundFile(top, os.path.dirname(top), Stamp.of(now), () if sidecars is None else folders.of(top))
+            yield FoundFile(top, os.path.dirname(top), Stamp.of(now), () if on_sidecar is None else folders.of(top))
 
 
 def _below(
-    top: bytes, unlisted: OnUnlisted, leave_out: Collection[bytes], sidecars: Optional[Set[bytes]], excluded: Excluded
+    top: bytes, unlisted: OnUnlisted, leave_out: Collection[bytes], on_sidecar: Optional[Callable[[bytes], object]], excluded: Excluded
 ) -> Iterator[FoundFile]:
     waiting = [top]
     head = len(top.rstrip(b"/")) + 1  # bytes of a path before what is below the folder
     while waiting:
         folder = waiting.pop()
         try:
-            with os.scandir(folder) as entries:
-                listing = sorted(entries, key=lambda it: it.name)
+            folders, files = _listed(folder, head, excluded)
         except OSError as error:
             unlisted(Unlisted(folder, reason(error)))
             continue
-        if excluded:
-            listing = [it for it in listing if not excluded.passes_over(it.path[head:])]
-        waiting += [it.path for it in reversed(listing) if it.is_dir(follow_symlinks=False)]
-        files = [it for it in listing if not _leads_to_folder(it) and it.path not in leave_out]
-        known = Folder([] if sidecars is None else [it.name for it in files])
-        for entry in files:
-            if sidecars is not None and entry.name in known.files:
-                sidecars.add(entry.path)
+        waiting += [os.path.join(folder, it) for it in reversed(folders)]
+        files = [it for it in files if os.path.join(folder, it) not in leave_out] if leave_out else files
+        known = Folder([] if on_sidecar is None else files)
+        for name in files:
+            path = os.path.join(folder, name)
+            if on_sidecar is not None and name in known.files:
+                on_sidecar(path)
             else:
-                yield FoundFile(entry.path, top, _stamp(entry), known.of(entry.name))
+                yield FoundFile(path, top, _stamp(path), known.of(name))
+
+
+def _listed(folder: bytes, head: int, excluded: Excluded) -> Tuple[List[bytes], List[bytes]]:
+    """The names of the folders and of the files of a folder, without what is excluded; a link to a folder is neither."""
+    folders: List[bytes] = []
+    files: List[bytes] = []
+    with os.scandir(folder) as entries:
+        for entry in entries:
+            if excluded and excluded.passes_over(entry.path[head:]):
+                continue
+            if entry.is_dir(follow_symlinks=False):
+                folders.append(entry.name)
+            elif not _leads_to_folder(entry):
+                files.append(entry.name)
+    return sorted(folders), sorted(files)
 
 
 def _leads_to_folder(entry: "os.DirEntry[bytes]") -> bool:
@@ -103,11 +116,33 @@ def _leads_to_folder(entry: "os.DirEntry[bytes]") -> bool:
         return False
 
 
-def _stamp(entry: "os.DirEntry[bytes]") -> Optional[Stamp]:
+def _stamp(path: bytes) -> Optional[Stamp]:
     try:
-        return Stamp.of(entry.stat())
+        return Stamp.of(os.stat(path))
     except OSError:
         return None
+
+
+def can_overlap(names: Sequence[bytes]) -> bool:
+    """Whether a file can be found by two of some names: one of them is named twice, or is below another.
+
+    >>> can_overlap([b"/a", b"/ab", b"/b/c"]), can_overlap([b"/a", b"/b", b"/a/c"]), can_overlap([b"a", b"./a/"])
+    (False, True, True)
+    """
+    return len(list(outermost(names))) < len(names)
+
+
+def outermost(names: Iterable[bytes]) -> Iterator[bytes]:
+    """The absolute paths of those names that are not below another.
+
+    >>> list(outermost([b"/a/b", b"/ab", b"/a/", b"/a"]))
+    [b'/a', b'/ab']
+    """
+    outer: Optional[bytes] = None
+    for top in sorted(os.path.abspath(it).rstrip(b"/") + b"/" for it in names):
+        if outer is None or not top.startswith(outer):
+            outer = top
+            yield top.rstrip(b"/") or b"/"
 
 
 LONGEST_LIST = 1 << 28  # bytes of a list that is a file, or a device that has no end

@@ -30,6 +30,8 @@ from .walk import FoundFile
 CHUNK = 500  # pictures that a process gets at once at most
 PARTS = 8  # chunks of each process at least, so that all end at nearly the same time ..
 LEAST_CHUNK = 8  # .. unless they have fewer pictures than this
+SIZES = [LEAST_CHUNK << it for it in range(6)]  # of the first chunks
+AHEAD = 64_000  # files at most that are known before a process gets them
 WATCH = 5.0  # seconds after which it is looked whether a result can still come
 
 
@@ -44,21 +46,28 @@ class Task(NamedTuple):
     file: str
 
 
-def in_several_processes(work: Sequence[FoundFile], how: How) -> Iterator[Result]:
+def in_several_processes(work: Iterable[FoundFile], how: How) -> Iterator[Result]:
     """The results for these files. If no process can be started, this one looks at them."""
-    done = 0
+    files = iter(work)
+    waiting: Deque[FoundFile] = deque()  # those that are taken, and have no result yet
+
+    def taken() -> Iterator[FoundFile]:
+        for file in files:
+            waiting.append(file)
+            yield file
+
     try:
-        for result in _by_several(work, how):
+        for result in _by_several(taken(), how):
+            for _ in range(sum(result.states.values()) if isinstance(result, Batch) else 1):
+                waiting.popleft()
             yield result
-            done += sum(result.states.values()) if isinstance(result, Batch) else 1
     except CannotStart as error:
         signals.say(f"exifnorm-pictures: one process looks at the pictures, since {error}")
-        yield from in_this_process(work[done:], how)
+        yield from in_this_process(itertools.chain(waiting, files), how)
 
 
-def _by_several(work: Sequence[FoundFile], how: How) -> Iterator[Result]:
-    size = max(LEAST_CHUNK, min(CHUNK, len(work) // (PARTS * how.processes)))
-    chunks = iter([work[at : at + size] for at in range(0, len(work), size)])
+def _by_several(work: Iterator[FoundFile], how: How) -> Iterator[Result]:
+    chunks = chunks_of(work, how.processes)
     files = (os.path.join(how.room, f"rows-{number}") for number in itertools.count())
     unfinished: List[Task] = [Task([], "")]
     while unfinished:
@@ -66,6 +75,22 @@ def _by_several(work: Sequence[FoundFile], how: How) -> Iterator[Result]:
         yield from _by_processes(chunks, how, files, unfinished)
         for task in unfinished:
             yield from _one_by_one(task.chunk, how)
+
+
+def chunks_of(work: Iterator[FoundFile], processes: int) -> Iterator[List[FoundFile]]:
+    """The work in parts: small ones at first, so that all processes begin soon, and small ones again when the end of the work is in sight."""
+    ahead: List[FoundFile] = []
+    parts = PARTS * processes
+    most = max(LEAST_CHUNK, min(CHUNK, AHEAD // parts))
+    for size in itertools.chain(filter(most.__gt__, SIZES), itertools.repeat(most)):
+        ahead += itertools.islice(work, max(0, parts * size - len(ahead)))
+        if len(ahead) < parts * size:
+            break
+        for _ in range(processes):
+            yield ahead[:size]
+            del ahead[:size]
+    size = max(LEAST_CHUNK, min(most, len(ahead) // parts))
+    yield from (ahead[at : at + size] for at in range(0, len(ahead), size))
 
 
 def look_at_some(task: Task, how: How) -> Batch:

@@ -1,0 +1,50 @@
+"""What a run has seen of an archive, in little memory: numbers of rows as bits, and paths in a file once there are many."""
+
+from __future__ import annotations
+
+import sqlite3
+from typing import Dict
+
+
+class Numbers:
+    """A set of numbers of rows, which lie close together: 4,096 in a number of Python's.
+
+    >>> numbers = Numbers()
+    >>> numbers.add(5000)
+    >>> 5000 in numbers, 904 in numbers
+    (True, False)
+    """
+
+    def __init__(self) -> None:
+        self._bits: Dict[int, int] = {}
+
+    def add(self, number: int) -> None:
+        """Adds a number."""
+        self._bits[number >> 12] = self._bits.get(number >> 12, 0) | 1 << (number & 4095)
+
+    def __contains__(self, number: int) -> bool:
+        return bool(self._bits.get(number >> 12, 0) >> (number & 4095) & 1)
+
+    def __bool__(self) -> bool:
+        return bool(self._bits)
+
+
+class Paths:
+    """A set of paths. SQLite writes it to a temporary file when it is larger than a cache, and removes the file.
+
+    >>> paths = Paths()
+    >>> paths.add(b"/a"), paths.add(b"/a"), b"/a" in paths, b"/b" in paths
+    (True, False, True, False)
+    """
+
+    def __init__(self) -> None:
+        self._base = sqlite3.connect("", isolation_level=None)
+        self._base.execute("PRAGMA journal_mode = OFF")
+        self._base.execute("CREATE TABLE paths (path BLOB PRIMARY KEY) WITHOUT ROWID")
+
+    def add(self, path: bytes) -> bool:
+        """Adds a path; whether it wasn't there."""
+        return self._base.execute("INSERT OR IGNORE INTO paths VALUES (?)", (path,)).rowcount > 0
+
+    def __contains__(self, path: bytes) -> bool:
+        return self._base.execute("SELECT 1 FROM paths WHERE path = ?", (path,)).fetchone() is not None
