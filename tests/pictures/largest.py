@@ -12,7 +12,7 @@ from made_raw import fuji
 from exifnorm_pictures.model import budgets
 
 MEGABYTE = 1 << 20
-BLOCK = 16 * MEGABYTE - 4096  # bytes of the values of a block, which is a little longer
+BLOCK = 16 * MEGABYTE - 32_768  # bytes of the values of a block, which is a little longer
 PIECE = 65_000  # bytes of a segment
 
 
@@ -45,6 +45,7 @@ class Size(NamedTuple):
     exif: int
     record: int
     packets: Tuple[int, ...]
+    scale: int = 1  # how many times lower all limits are
 
 
 _THREE = (BLOCK, BLOCK, (BLOCK - MEGABYTE,))  # blocks in 48 MB, with the heads of their parts
@@ -68,6 +69,10 @@ SIZES: Dict[str, Size] = {
 }
 
 
+def of_one_field(size: Size) -> Parts:
+    return Parts(((0x010F, ASCII, b"Abc\0"),), packets=(xmp("<dc:format>x</dc:format>"),))
+
+
 def of_long_values(size: Size) -> Parts:
     """Blocks of few values, each as long as may be."""
     text = b"x" * 30_000
@@ -78,18 +83,31 @@ def of_long_values(size: Size) -> Parts:
 
 def of_many_fields(size: Size) -> Parts:
     """Blocks of as many fields as may be, each of a few bytes."""
-    entries = tuple((0x1000 + it, ASCII, b"abc\0") for it in range(60_000)) if size.exif else ((0x010F, ASCII, b"Abc\0"),)
-    number = budgets.LIMITS[budgets.XMP_TAGS] // 2 // max(1, len(size.packets)) - 10
+    entries = tuple((0x1000 + it, ASCII, b"abc\0") for it in range(60_000 // size.scale)) if size.exif else ((0x010F, ASCII, b"Abc\0"),)
+    number = budgets.LIMITS[budgets.XMP_TAGS] // size.scale // 2 // max(1, len(size.packets)) - 10
     packets = tuple(xmp("".join(f"<dc:a{at}>{it}</dc:a{at}>" for at in range(number))) for it in range(len(size.packets)))
     return Parts(entries, iim(b"a") * (size.record // 6), packets)
 
 
-FILLINGS: Dict[str, Callable[[Size], Parts]] = {"long values": of_long_values, "many fields": of_many_fields}
+def of_many_parts(size: Size) -> Parts:
+    """As many small parts and packets as may be, and a packet with as many texts of one property."""
+    number = 9000 // size.scale
+    texts = "".join(f"<rdf:li>{it}</rdf:li>" for it in range(budgets.LIMITS[budgets.XMP_TAGS] // size.scale // 2 - 10 * number))
+    packets = (
+        xmp(f"<dc:subject><rdf:Bag>{texts}</rdf:Bag></dc:subject>"),
+        *(xmp(f"<dc:format>{it}</dc:format>") for it in range(number // 10)),
+    )
+    return Parts(((0x010F, ASCII, b"Abc\0"),), b"", packets, number)
 
 
-def made(name: str, filling: str) -> bytes:
-    """The largest picture of a format."""
-    return MAKERS[name][1](FILLINGS[filling](SIZES[name]))
+FILLINGS: Dict[str, Callable[[Size], Parts]] = {"long values": of_long_values, "many fields": of_many_fields, "many parts": of_many_parts}
+
+
+def made(name: str, filling: str, scale: int = 1) -> bytes:
+    """The largest picture of a format, if all limits are so many times lower."""
+    limit, exif, record, packets, _ = SIZES[name]
+    size = Size(limit // scale, exif // scale, record // scale, tuple(it // scale for it in packets), scale)
+    return MAKERS[name][1]({**FILLINGS, "one field": of_one_field}[filling](size))
 
 
 def of_name(name: str) -> str:

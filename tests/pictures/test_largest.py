@@ -1,44 +1,126 @@
-"""SECURITY.md: a picture costs at most about 256 MB, also at the limits, in each format and each command; the start of a process isn't counted."""
+"""SECURITY.md: a picture costs at most about 256 MB, also at the limits, in each command; the start of a command isn't counted.
+
+All limits and the memory are an eighth of what they are, and so are the pictures: what is proportional stays so, and takes an eighth of the
+time. Each format has each filling once, and each command has each filling once.
+"""
+
+import itertools
+import re
 
 import pytest
 from growing import FORMATS
-from largest import SIZES, made, of_name
+from made_blocks import SHORT
+from made_files import iim, page, resource, tiff
+from made_more_files import psd
+from largest import FILLINGS, SIZES, made, of_name
 from test_attacks import NO_CLOCK, run_each
 
+from exifnorm_pictures.cli.parser import parsers
+from exifnorm_pictures.model import budgets
 
-MEMORY = 256 << 20
-READERS = [["show", "{}", "--json"], ["explain", "{}"], ["conflicts", "{}"], ["index", "{}", "--catalogue", "c", "--quiet", "--jobs", "1"]]
-MORE = [["captions", "{}", "--json"], ["mend", "{}", "copy"]]
+MEMORY, SCALE = 256 << 20, 8
+SMALL = "\n".join(
+    [
+        NO_CLOCK,
+        f"budgets.LIMITS.update({{what: most // {SCALE} for what, most in budgets.LIMITS.items()}})",
+        *(f"budgets.{name} //= {SCALE}" for name, value in vars(budgets).items() if name.isupper() and type(value) is int and value > 9999),
+        "",
+    ]
+)
+INDEX = "index {} --catalogue {} --quiet --jobs 1 --pixels"
+# What each command is given: P and Q are folders with the picture and with another one of the same name
+COMMANDS = {
+    "index": INDEX.format("P", "new"),
+    "merge": "merge c d --catalogue e",
+    "forget": "forget P --catalogue kept",
+    "relocate": "relocate moving P Q",
+    "verify": "verify P --catalogue c --quiet --jobs 1",
+    "same": "same --catalogue c --json --ignore dc:none",
+    "changed": "changed d c --exact --no-exiftool --quiet --jobs 1",
+    "history": "history P/{} d c",
+    "compare": "compare P/{0} Q/{0} --json --exact --no-exiftool",
+    "list": "list P --json --where title=x --columns keywords --quiet --jobs 1",
+    "check": "check rules P --json --quiet --jobs 1",
+    "nightly": "nightly P --catalogue d --rules rules --jobs 1",
+    "show": "show P/{} --json",
+    "captions": "captions P --json",
+    "conflicts": "conflicts P --all",
+    "explain": "explain P/{}",
+    "report": "report --catalogue c --since d --html page",
+    "export": "export c tables --quiet",
+    "mend": "mend P/{} copy",
+}
+# The catalogues, and what makes each: the last one is of Q, as if that were P
+CATALOGUES = {it: [INDEX.format("P", it)] for it in ("c", "kept", "moving")}
+CATALOGUES["d"] = [INDEX.format("Q", "d"), "relocate d Q P"]
 
 
-def test_each_format_has_a_largest_picture():
-    assert set(SIZES) == set(FORMATS)
+def test_all_commands_and_formats_are_tried():
+    assert set(COMMANDS) == set(parsers()[1]) and set(SIZES) == set(FORMATS)
 
 
-def memory_of(folder, name, commands):
-    """The most memory of each command, more than of one that reads nothing; none goes over a limit of what it counts."""
-    calls = [[it.format(name) for it in words] for words in commands]
-    start, *ended = run_each(folder, [["show", "nothing"], *calls], NO_CLOCK, PATH="/nowhere")
-    for command in ended:
-        assert command.status in (0, 1, 2) and "TooMuch" not in command.out + command.err, (command.words, command.out[-500:], command.err)
-    return {command.words[0]: command.memory - start.memory for command in ended}
+def choice():
+    """For each format and filling the commands that are tried: the filling of a command is another one with each format."""
+    names = itertools.cycle(COMMANDS)
+    commands = -(-len(COMMANDS) * len(FILLINGS) // (len(SIZES) * len(FILLINGS)))
+    return [(name, filling, [next(names) for _ in range(commands)]) for filling in FILLINGS for name in SIZES]
 
 
-@pytest.mark.parametrize("name", SIZES)
-def test_long_values(name, tmp_path):
-    """The blocks are as long as they may be. The commands read all formats alike, and `captions` keeps most of what it reads."""
-    octets, file = made(name, "long values"), of_name(name)
-    assert len(octets) > 0.7 * SIZES[name].limit, "it isn't near the limit"
-    (tmp_path / file).write_bytes(octets)
-    del octets
-    is_first = name == next(iter(SIZES))
-    found = memory_of(tmp_path, file, [*READERS, *MORE[:2]] if is_first else MORE[:1])
-    assert max(found.values()) <= MEMORY, found
+def put(folder, name, filling):
+    (folder / "rules").write_text("every picture needs credit\n")
+    for side, words in (("P", filling), ("Q", "one field")):
+        (folder / side).mkdir(parents=True)
+        (folder / side / of_name(name)).write_bytes(made(name, words, SCALE))
 
 
-def test_many_fields(tmp_path):
-    """One picture has as many fields as it may have."""
-    name, file = next(iter(SIZES)), "a.jpg"
-    (tmp_path / file).write_bytes(made(name, "many fields"))
-    found = memory_of(tmp_path, file, [READERS[0], READERS[3]])
-    assert max(found.values()) <= MEMORY, found
+def run_all(folder, commands, name):
+    """Runs commands after what makes the catalogues that they need."""
+    words = [COMMANDS[it].format(of_name(name)).split() for it in commands]
+    makes = [call.split() for it, made_by in CATALOGUES.items() if any(it in some for some in words) for call in made_by]
+    return run_each(folder, [*makes, *words], SMALL, PATH="/nowhere")
+
+
+@pytest.fixture(scope="module")
+def start(tmp_path_factory):
+    """The memory of each command for hardly anything."""
+    folder = tmp_path_factory.mktemp("start")
+    put(folder, "JPEG", "one field")
+    return {it.words[0]: it.memory for it in run_all(folder, COMMANDS, "JPEG")}
+
+
+@pytest.mark.parametrize("name, filling, commands", choice(), ids=lambda it: it if isinstance(it, str) else " ".join(it))
+def test_memory(name, filling, commands, start, tmp_path):
+    put(tmp_path, name, filling)
+    for ended in run_all(tmp_path, commands, name):
+        about = (ended.words, ended.status, ended.out[-500:], ended.err)
+        assert ended.status in (0, 1, 2) and not re.search("internal|TooMuch|over a limit", ended.out + ended.err), about
+        assert (ended.memory - start[ended.words[0]]) * SCALE <= MEMORY, (ended.words, ended.memory - start[ended.words[0]])
+
+
+def many_records(number):
+    """A PSD of many records, each with as many DataSets as are kept of one."""
+    return psd(*(resource(0x0404, iim(b"a") * (budgets.FIELDS // SCALE - 1) + iim(b"%d" % it)) for it in range(number)))
+
+
+def many_values(tag, pages):
+    """A TIFF of pages with a tenth each of the entries that a picture may have, each with a value of its own."""
+    number = budgets.LIMITS[budgets.ENTRIES] // SCALE // 10
+    return tiff(*(page(*((tag, SHORT, b"%08d" % (number * it + at)) for at in range(number))) for it in range(pages)))
+
+
+OVER = {
+    "records.psd": lambda: many_records(80),
+    "values.tif": lambda: many_values(0x010F, 25),
+    "layers.tif": lambda: many_values(0x935C, 9),
+}
+
+
+@pytest.mark.parametrize("name", OVER)
+def test_over_the_limits(name, start, tmp_path):
+    """It isn't read, and costs no more."""
+    (tmp_path / name).write_bytes(OVER[name]())
+    for ended in run_each(
+        tmp_path, [["show", name, "--json"], ["captions", name], ["index", name, "--catalogue", "c"]], SMALL, PATH="/nowhere"
+    ):
+        assert ended.status in (0, 2) and re.search("TooMuch|over a limit", ended.out), (ended.words, ended.out[-500:], ended.err)
+        assert (ended.memory - start[ended.words[0]]) * SCALE <= MEMORY, (ended.words, ended.memory - start[ended.words[0]])

@@ -9,7 +9,7 @@ from typing import TYPE_CHECKING, Iterator, List, Optional, Sequence
 
 from ..comparison.coded import Coded, coded_result
 from ..comparison.proved import head_of_file
-from ..comparison.two_pictures import ComparedPair, FieldRow, compare, read, rows_of, with_position
+from ..comparison.two_pictures import MORE, ComparedPair, FieldRow, compare, read, rows_of, with_position
 from ..comparison.wording import NONE, tag_of
 from ..fields.block_fields import fields_of
 from ..fields.choosing import Choice
@@ -106,8 +106,9 @@ def _sentence(comparison: ComparedPair, rows: Sequence[FieldRow]) -> str:
     if comparison.result.sentence:
         return comparison.result.sentence
     equal = sum(it.is_equal_number for it in rows)
-    real = len(rows) - equal
-    what = [f"{real} field{'s differ' if real != 1 else ' differs'}"] if real else []
+    has_more = rows[-1:] == [MORE]
+    real = len(rows) - equal - has_more
+    what = [f"{'more than ' * has_more}{real} field{'s differ' if real != 1 else ' differs'}"] if real else []
     what += [f"{equal} equal number{'s are' if equal != 1 else ' is'} only written otherwise"] if equal else []
     head = "Different metadata" + (" after a repair in memory" if comparison.result == Result.DIFFERENT_REPAIRED else "")
     return f"{head}: {', and '.join(what)}." if what else f"{head}."

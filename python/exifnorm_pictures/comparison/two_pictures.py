@@ -16,6 +16,7 @@ from ..fields.plain_names import group_name
 from ..fields.plain_values import POSITION_TAGS, position
 from ..files.session import Session
 from ..judge.sides import Fresh
+from ..model.budgets import SHOWN_FIELDS
 from ..model.found import EXIF, IPTC, KINDS, NAMES
 from ..model.problems import Problem
 from ..model.records import PictureRecord, Stamp
@@ -118,12 +119,16 @@ def _proved(comparison: Compared, heads: Heads) -> Optional[Result]:
 
 def rows_of(comparison: ComparedPair, each: bool) -> List[FieldRow]:
     """A row for each change; those of equal numbers at the end, and then, with `each`, one for each value of a MakerNote that ExifTool reads
-    otherwise."""
+    otherwise. After as many as `show` shows there is `MORE`."""
     if comparison.is_identical:
         return []
-    rows = list(map(_row, comparison.found.changes))
+    rows = list(map(_row, comparison.found.changes[:SHOWN_FIELDS]))
     rows.sort(key=lambda row: (row.is_equal_number, _place(row)))
-    return rows + (_note_rows(comparison.found) if each else [])
+    rows += _note_rows(comparison.found) if each else []
+    return rows + [MORE] * (len(comparison.found.changes) > SHOWN_FIELDS)
+
+
+MORE = FieldRow("further fields", (None, None), (None, None), note=f"more than {SHOWN_FIELDS:,} fields differ, and these are not shown")
 
 
 def _note_rows(comparison: Compared) -> List[FieldRow]:

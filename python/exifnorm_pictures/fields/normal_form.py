@@ -7,12 +7,10 @@ from typing import Iterable, List
 
 from exifnorm._forms import _READ, Place, places
 
-from ..model.budgets import FIELDS
+from ..model.budgets import ALL_FIELDS, FIELDS, LEAST_FIELD, Budget
 from ..model.xmp_values import Long
 from .field import Field, Identity
 from .listing import OCTETS, digest_of
-
-_LEAST = 5  # bytes of a field: the head of an empty DataSet
 
 
 def fields_of_form(form: bytes) -> List[Field]:
@@ -27,12 +25,20 @@ def fields_of_form(form: bytes) -> List[Field]:
 def contents(form: bytes) -> List[Identity]:
     """What identifies each field of a normal form, where the time for objects matters."""
     each = places(form)
-    if len(form) <= _LEAST * FIELDS:
+    if len(form) <= LEAST_FIELD * FIELDS:
         return _read(form, each)
     first_fields = _read(form, islice(each, FIELDS))  # 16 MB can be three million DataSets, for which Python needs 1 GB
     if next(each, None) is not None:
         first_fields.append(("iptc", "more", "octets", len(form), Long(digest_of(form), b"")))
     return first_fields
+
+
+def count(form: bytes, budget: Budget) -> None:
+    """Counts the fields of a form that will be read. Raises `TooMuch` if those of all blocks of a picture are too many."""
+    budget.small_forms -= len(form)
+    if budget.small_forms < 0:
+        budget.check_time()
+        budget.spend(ALL_FIELDS, sum(1 for _ in islice(places(form), FIELDS)))
 
 
 def _read(form: bytes, each: Iterable[Place]) -> List[Identity]:

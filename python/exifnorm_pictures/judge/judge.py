@@ -23,7 +23,7 @@ _BY_ITSELF = FoundBlock("", b"", "", "")  # where a block is that was given with
 
 def judge(kind: str, block: bytes, packs: bool = False, at: FoundBlock = _BY_ITSELF, budget: Optional[Budget] = None) -> BlockRecord:
     """Judges a block that was taken as one of `kind`; a refused block never gets a digest. With `packs` its fields are packed for a catalogue,
-    otherwise they are made when they are asked for. Raises `TooLong` if a repair takes too much time."""
+    otherwise they are made when they are asked for. Raises `TooMuch` if a picture's budget is used up."""
     octets = hashlib.sha256(block).hexdigest()
     if block.startswith(COMPRESSED):
         return _unreadable(kind, at, len(block), octets, "Compressed")
@@ -40,7 +40,7 @@ def judge(kind: str, block: bytes, packs: bool = False, at: FoundBlock = _BY_ITS
     except MemoryError:
         return BlockRecord(kind, *at[2:5], Status.FAILED, None, "OutOfMemory", None, len(block), octets)
     digest = octets if form == block else hashlib.sha256(form).hexdigest()
-    return _with_form(BlockRecord(kind, *at[2:5], Status.ACCEPTED, digest, None, None, len(block), octets), form, packs)
+    return _with_form(BlockRecord(kind, *at[2:5], Status.ACCEPTED, digest, None, None, len(block), octets), form, packs, budget)
 
 
 def _misplaced(kind: str, block: bytes) -> str:
@@ -52,8 +52,10 @@ def _misplaced(kind: str, block: bytes) -> str:
     return "NoMarker" if kind == IPTC else "UnknownKind"
 
 
-def _with_form(block: BlockRecord, form: bytes, packs: bool) -> BlockRecord:
+def _with_form(block: BlockRecord, form: bytes, packs: bool, budget: Optional[Budget]) -> BlockRecord:
     """A block with the fields of its normal form."""
+    if budget is not None:
+        normal_form.count(form, budget)
     if not packs:
         return block._replace(fresh=Fields(normal_form.fields_of_form, form))
     return _with_packed(block, packed_contents(normal_form.contents(form)))
@@ -72,7 +74,7 @@ def _repaired(refused: BlockRecord, block: bytes, packs: bool, budget: Optional[
     if repair is None:
         return refused
     known = refused._replace(repair=steps.packed(repair.steps), repaired=hashlib.sha256(repair.form).hexdigest())
-    return _with_form(known, repair.form, packs)
+    return _with_form(known, repair.form, packs, budget)
 
 
 def _says_nothing(block: FoundBlock) -> bool:

@@ -26,6 +26,7 @@ EXTENSIONS, BLOCK_BYTES = "images and extensions", "bytes of application extensi
 RESOURCES, RESOURCE_BYTES = "Photoshop resources", "bytes of Photoshop resources"
 BOXES, BOX_BYTES, ITEMS, EXTENTS = "boxes", "bytes of boxes", "items", "extents of items"
 DIRECTORIES, ENTRIES, VALUE_BYTES = "directories", "entries of directories", "bytes of values"
+ALL_FIELDS = "fields of Exif and IPTC"
 XMP_BYTES, XMP_TAGS, XMP_ATTRIBUTES, RARE_ELEMENTS = "bytes of XMP", "tags of XMP", "attributes of XMP", "elements of rare RDF"
 
 LIMITS: Dict[str, int] = {
@@ -46,8 +47,9 @@ LIMITS: Dict[str, int] = {
     RESOURCES: 10_000,  # each is an object of Python: 2.6 million take 2.4 GB; need 64
     RESOURCE_BYTES: 48 << 20,  # of a PSD, of those that are kept; need 18 kB
     DIRECTORIES: 10_000,  # of a TIFF; need 15
-    ENTRIES: 1_000_000,  # of all its directories; need 12,361
+    ENTRIES: 400_000,  # of all its directories; with what is kept of their places 350 bytes each; need 12,361
     VALUE_BYTES: 40 << 20,  # of these entries; twice as much takes 320 MB of memory; need 1.6 MB
+    ALL_FIELDS: 300_000,  # of all blocks, of each at most `FIELDS`: about 180 bytes and 2 microseconds each; need 400
     XMP_BYTES: 64 << 20,  # of all packets; extended XMP counts once for each packet that names it; need 1.7 MB
     XMP_TAGS: 400_000,  # about 10 microseconds and 350 bytes each; need 447
     XMP_ATTRIBUTES: 100_000,  # about 20 microseconds and 600 bytes each; need 246
@@ -62,6 +64,7 @@ NESTED = 100  # elements of a packet in one another
 LANGUAGE = 100  # characters of a language of XMP, which each of its texts repeats; RFC 5646, 4.4.1 asks for 35
 CACHED = 1000  # characters of a text that a cache keeps: it counts its texts, and a stranger's can have millions each
 BLOCK_ENTRIES = 5 * 65_535  # of five directories of a block, as it may have; in a refused one each entry may name a further one; need 150
+LEAST_FIELD = 5  # bytes of a field in a normal form: the head of an empty DataSet
 FIELDS = 100_000  # of a block that are kept to be shown; the block is compared by its digest in any case; need 150
 SHOWN_FIELDS = 50_000  # of a picture that show prints, all its blocks together: as JSON each takes 2.4 kB of memory; need 400
 SHOWN_CHARACTERS = 8 << 20  # of their values, plain and exact
@@ -98,6 +101,7 @@ class Budget:
         self.times = WHOLE if whole else 1
         self.left = {what: most * WHOLE for what, most in LIMITS.items()} if whole else LIMITS.copy()
         self.small_packets = 4  # of XMP that aren't counted, because counting takes time for each usual picture
+        self.small_forms = LEAST_FIELD * FIELDS  # bytes of normal forms whose fields aren't counted, for the same reason
         self._counts = 0
         self._ends = 0.0  # the clock starts when it is first looked at, which most pictures never need
 

@@ -205,10 +205,10 @@ class Reader:
         elif entry.tag == _PHOTOSHOP and data:
             photoshop.add_resources(self.blocks, [(where, data)], part)
         elif entry.tag == _LAYERS and entry.size > IN_ENTRY and (place := self.directories.place_of(entry)):
-            self.blocks.not_read.append(NotRead(f"Photoshop's layers of {of}", digest_of_rest(self.directories.stream, *place) or ""))
+            self.blocks.name(NotRead(f"Photoshop's layers of {of}", digest_of_rest(self.directories.stream, *place) or ""))
         else:
             if entry.tag in _OTHER_POINTERS and entry.type in (LONG, IFD):
-                self.blocks.not_read.append(NotRead(f"{_OTHER_POINTERS[entry.tag]} of {of}", ""))
+                self.blocks.name(NotRead(f"{_OTHER_POINTERS[entry.tag]} of {of}", ""))
             return False
         return True
 
