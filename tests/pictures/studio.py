@@ -147,6 +147,14 @@ def put(folder, files):
         write(path, octets)
 
 
+def without_own_script(page):
+    """A page of the report without its only script, which is the last thing in it. What else begins a script stays."""
+    with open(os.path.join(TOP, "python/exifnorm_pictures/report/templates/report.js"), encoding="utf-8") as file:
+        own = f"<script>{file.read()}</script></body></html>"
+    assert page.rstrip().endswith(own)
+    return page.rstrip()[: -len(own)]
+
+
 def read(path):
     with open(path, "rb") as file:
         return file.read()

@@ -7,7 +7,7 @@ import sqlite3
 import struct
 
 from made_blocks import HEADER, MAKE, block, with_exif, with_iptc
-from studio import SMALL_JPEG, WithPictures, needs, read, run, tool, write
+from studio import SMALL_JPEG, WithPictures, needs, read, run, tool, without_own_script, write
 
 NAMES = [
     b"new\nline.jpg",
@@ -49,7 +49,7 @@ class Hostile(WithPictures):
         page = read(self.path("r.html")).decode()
         self.assertIn("&lt;b onclick=alert(1)&gt;&amp;amp;.jpg", page)
         self.assertNotIn("<b onclick", page)
-        self.assertNotIn("<script", page)
+        self.assertNotIn("<script", without_own_script(page))
         self.assertEqual(sorted(os.listdir(self.folder)), ["c", "p", "r.html"])
 
     def test_names_on_standard_input(self):
@@ -100,7 +100,7 @@ class Hostile(WithPictures):
         self.asked("report", "--catalogue", "two.c", "--since", "one.c", "--html", "r.html")
         page = read(self.path("r.html")).decode()
         self.assertIn("&lt;script&gt;alert(1)&lt;/script&gt;", page)
-        self.assertNotIn("<script", page)
+        self.assertNotIn("<script", without_own_script(page))
         self.assertNotIn("<img src=x", page)
 
     def test_a_picture_that_vanishes_keeps_its_meaning(self):

@@ -21,7 +21,7 @@ def picture(maker, model=b"Xyz\0"):
 class Text(HTMLParser):
     """The texts of a page by their element, or its class, and by section; its links; whether each element is closed."""
 
-    VOID = {"meta", "img", "rect", "br"}
+    VOID = {"meta", "img", "rect", "br", "input"}
 
     def __init__(self, page):
         super().__init__()

@@ -20,6 +20,9 @@ from test_captions import data_set, with_record
 
 TOP = Path(__file__).resolve().parents[2]
 LONG = "Ein Gefäß aus Köln, zerbrochen und wieder geklebt, "
+STEERS = "document.title='steered'"
+HOSTILE_NAME = f"same/<img src=x onerror={STEERS}>\"'.jpg"
+HOSTILE_TEXT = f"</script><script>{STEERS}</script>]);{STEERS};\u2028//"
 
 
 def captioned(number: int, text: str) -> bytes:
@@ -38,7 +41,8 @@ def after(number: int) -> str:
 
 @pytest.fixture(scope="module")
 def report(tmp_path_factory: pytest.TempPathFactory, library: Path) -> Path:
-    """The folder with page.html, about pictures of which each has something for a list, and 24 changed captions."""
+    """The folder with page.html and the folder pages, about pictures of which each has something for a list, and 24 changed captions. One
+    more has a name and a caption that would run a script, if they were any page's own."""
     folder = tmp_path_factory.mktemp("report")
     environment = {**os.environ, "PYTHONPATH": str(TOP / "python"), "EXIFNORM_LIBRARY": str(library / "libexifnorm.so.1")}
 
@@ -54,6 +58,7 @@ def report(tmp_path_factory: pytest.TempPathFactory, library: Path) -> Path:
     for number in range(24):
         put(f"captions/{number}.jpg", captioned(number, before(number)))
     put(f"{'a_very_long_name_without_any_space_' * 5}.jpg", with_exif(SMALL_JPEG, BLOCKS["Overlap"]))
+    put(HOSTILE_NAME, captioned(99, "plain"))
     put("same/one.jpg", SMALL_JPEG)
     put("same/trailer.jpg", jpeg(app1(exif(b"abc"))) + b"TRAILER")
     put("same/text.txt", b"text")
@@ -61,8 +66,11 @@ def report(tmp_path_factory: pytest.TempPathFactory, library: Path) -> Path:
     run("index", "p", "--catalogue", "old", "--quiet")
     for number in range(24):
         put(f"captions/{number}.jpg", captioned(number, after(number)))
+    title = HOSTILE_TEXT.replace("<", "&lt;")
+    put(HOSTILE_NAME, jpeg(app1_xmp(xmp(f"<dc:title><rdf:Alt><rdf:li xml:lang='x-default'>{title}</rdf:li></rdf:Alt></dc:title>"))))
     run("index", "p", "--catalogue", "c", "--quiet")
-    run("report", "c", "--since", "old", "--rules", "rules", "--html", "page.html")
+    for page in ("page.html", "pages/"):
+        run("report", "c", "--since", "old", "--rules", "rules", "--html", page)
     return folder
 
 
@@ -149,7 +157,7 @@ def test_contents_lead_to_each_section(browser: Browser, report: Path) -> None:
 
 def test_everything_is_reached_by_the_keyboard_in_the_order_of_the_page(browser: Browser, report: Path) -> None:
     opened(browser, report)
-    wanted = browser.ask("[...document.querySelectorAll('a')].map((it, at) => (it.dataset.at = at)).length")
+    wanted = browser.ask("[...document.querySelectorAll('a, input, select')].map((it, at) => (it.dataset.at = at)).length")
     seen = []
     for _ in range(40):
         browser.press("Tab", 9)
@@ -184,6 +192,84 @@ def test_it_asks_for_nothing_and_keeps_its_policy(browser: Browser, report: Path
     assert blocked == "blocked"
     style = "(() => { document.body.setAttribute('style', 'display: none'); return getComputedStyle(document.body).display; })()"
     assert browser.ask(style) != "none", "a style that is none of the page's is used"
+
+
+# The search box
+
+PAGES = ["page.html", "pages/index.html"]
+SHOWN = """[...document.querySelectorAll("main:not([hidden]) #changed article:not([hidden]) h3, #found:not([hidden]) > li")]
+  .map((it) => it.querySelector("a").textContent)"""
+
+
+def searched(browser: Browser, words: str, kind: str = "changed") -> List[str]:
+    """The changed pictures that are left, or found in the pages of a folder, when somebody has typed and chosen something."""
+    values = f"form.elements.words.value = {json.dumps(words)}; form.elements.kind.value = {json.dumps(kind)};"
+    browser.ask(f"(() => {{ const form = document.getElementById('search'); {values} form.dispatchEvent(new Event('input')); }})()")
+    browser.wait("/^[0-9]/.test(document.querySelector('#search output').textContent)")
+    return sorted(browser.ask(SHOWN))
+
+
+@pytest.mark.parametrize("page", PAGES)
+def test_a_search_finds_what_has_the_words(page: str, browser: Browser, report: Path) -> None:
+    """Words of values before and after in any order, of names of fields, labels and pictures; and kinds of change."""
+    browser.open(f"file://{report}/{page}")
+    names = [f"captions/{number}.jpg" for number in range(24)]
+    for number in range(0, 24, 5):
+        word = f"new{number * number}"
+        expected = sorted(it for at, it in enumerate(names) if word in after(at) and "number" in before(at))
+        assert searched(browser, f" {word.upper()}  Number") == expected, word
+    assert searched(browser, "gefass koln") == sorted(it for at, it in enumerate(names) if at % 4), "accents don't matter"
+    assert searched(browser, "caption") == searched(browser, "Caption-Abstract") == sorted(names + [HOSTILE_NAME])
+    assert searched(browser, "title") == [HOSTILE_NAME], "no IPTC title has changed"
+    assert searched(browser, "captions/7.jpg") == ["captions/7.jpg"]
+    assert searched(browser, "", "changed/different") == sorted(names + [HOSTILE_NAME])
+    assert searched(browser, "1 new25 nowhere") == searched(browser, "number", "unread") == []
+
+
+def test_each_hit_leads_to_its_place(browser: Browser, report: Path) -> None:
+    browser.open(f"file://{report}/pages/index.html")
+    assert len(searched(browser, "jpg", "")) > 50
+    for link in browser.ask("[...document.querySelectorAll('#found a')].map((it) => it.getAttribute('href'))"):
+        name, _, place = link.partition("#")
+        assert f'id="{place}"' in (report / "pages" / (name or "index.html")).read_text(encoding="utf-8"), link
+    searched(browser, "trailer.jpg", "unread")
+    browser.ask("document.querySelector('#found a').click()")
+    browser.wait("document.querySelector(':target')?.checkVisibility()")
+    assert "trailer.jpg" in browser.ask("document.querySelector(':target').textContent")
+
+
+@pytest.mark.parametrize("page", PAGES)
+def test_without_scripts_everything_is_there(page: str, browser: Browser, report: Path) -> None:
+    browser.call("Emulation.setScriptExecutionDisabled", value=True)
+    try:
+        browser.open(f"file://{report}/{page}")
+        assert browser.ask("[...document.querySelectorAll('[hidden]')].map((it) => it.id)") in (["search"], ["search", "found"])
+        assert browser.ask(
+            "[...document.querySelectorAll('main, section, article, li:not(#found li), tr')].every((it) => it.checkVisibility())"
+        )
+    finally:
+        browser.call("Emulation.setScriptExecutionDisabled", value=False)
+
+
+@pytest.mark.parametrize("page", [*PAGES, "pages/changed-1.html"])
+def test_names_and_texts_run_nothing(page: str, browser: Browser, report: Path) -> None:
+    """Neither what is on the page nor what is found."""
+    browser.log.clear()
+    browser.open(f"file://{report}/{page}")
+    assert "steered" in browser.ask("document.body.innerText") or page == "pages/index.html"
+    if page in PAGES:
+        assert searched(browser, "steered") == [HOSTILE_NAME]
+    assert browser.ask("[document.title, document.scripts.length, document.querySelectorAll('img[src=x]').length]") == [
+        browser.ask("document.title.replace('steered', '')"),
+        2 if page == "pages/index.html" else 1,
+        0,
+    ]
+    assert browser.log == []
+    browser.ask(
+        "document.body.append(Object.assign(document.createElement('p'), { innerHTML: '<img src=data: onerror=\"document.title=1\">' }))"
+    )
+    browser.wait(f"{'true' if browser.log else 'document.querySelector(`p > img`).complete'}")
+    assert browser.ask("document.title") != "1", "the policy allows what is in the markup"
 
 
 def printed(browser: Browser, report: Path) -> List[str]:

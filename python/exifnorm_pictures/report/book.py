@@ -14,6 +14,7 @@ from .contents import About
 from .entries import Entry, pages_of
 from .marks import Marks
 from .rendering import Renderer
+from .searching import SearchIndex
 
 INDEX = "index.html"
 MOST_OF_A_PAGE = 2_000  # files of a report that is one page
@@ -70,6 +71,7 @@ class Book:
             raise TooLarge(f"{self.counts.total:,} files are too many")
         self._marks = Marks()
         self._renderer = Renderer(about, self._marks)
+        self._search = SearchIndex(put, about.catalogue.roots()) if put else None
         self._size = self._shown = 0
 
     def index(self) -> str:
@@ -79,12 +81,19 @@ class Book:
             rules = Checked(self.about.catalogue, self.about.rules) if self.about.rules else None
             written = [self._written(section) for section in self._sections(changes, rules)]
             shown = [it for it in written if it.entries or self._says_something(it.section.key)]
-            return self._renderer.index(self.counts, shown, changes, rules)
+            return self._renderer.index(self.counts, shown, changes, rules, self._files(written))
         finally:
             self._marks.close()
             self._renderer.shrinker.close()
             if changes:
                 changes.close()
+
+    def _files(self, written: List[Written]) -> int:
+        """How many files the index for the search box has; 0 if all is on the first page."""
+        if not self._search or not any(it.pages for it in written):
+            return 0
+        self._search.close()
+        return self._search.files
 
     def _says_something(self, key: str) -> bool:
         """Whether a list without entries is shown."""
@@ -128,6 +137,9 @@ class Book:
         places = ((path, f"{name}#{key}-{number}") for number, entry in enumerate(page, first) for path in entry.pictures)
         self._marks.add(key, places)
         body = self._renderer.entries(key, page, first)
+        if self._search:
+            for number, entry in enumerate(page, first):
+                self._search.add(key, f"{name}#{key}-{number}", entry)
         written.entries += len(page)
         written.number += sum(it.is_counted if key == "same" else len(it.pictures) for it in page)
         if key == "folders":

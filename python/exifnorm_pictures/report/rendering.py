@@ -10,12 +10,14 @@ from typing import TYPE_CHECKING, Any, Dict, List, Optional, Sequence
 from ..catalogue.checking import Checked
 from ..model.found import STANDARDS
 from ..model.problems import NOT_THERE
+from ..model.results import Result
 from .changes import Changes
 from .contents import About, unproved
 from .entries import Entry
 from .links import Links, below
 from .lists import Counts, mending_all
 from .marks import Marks
+from .searching import kinds_of
 from .templating import TEMPLATES, environment
 from .thumbnails import Shrinker, small_pictures
 
@@ -37,7 +39,7 @@ class Renderer:
         self._templates = environment(filters)
         for name in self._templates.list_templates(extensions=["html"]):
             self._templates.get_template(name)  # compiled once, whatever is listed
-        style = (TEMPLATES / "report.css").read_text(encoding="utf-8")
+        style, script = ((TEMPLATES / name).read_text(encoding="utf-8") for name in ("report.css", "report.js"))
         self._shared: Dict[str, Any] = {
             "title": about.title,
             "now": datetime.now().astimezone().strftime("%Y-%m-%d %H:%M"),
@@ -48,6 +50,9 @@ class Renderer:
             "absent": NOT_THERE,
             "style": self._html(style),
             "style_digest": digest(style),
+            "script": self._html(script),
+            "script_digest": digest(script),
+            "files": 0,
             "mend_all": mending_all(about.catalogue.name),
         }
 
@@ -71,9 +76,12 @@ class Renderer:
         values = {**self._shared, "section": section, "number": number, "has_next": has_next, "body": body}
         return str(self._templates.get_template("list.html").render(values))
 
-    def index(self, counts: Counts, lists: List["Written"], changes: Optional[Changes], rules: Optional[Checked]) -> str:
-        """The first page, or the only one."""
-        values = {**self._shared, "counts": counts, "lists": lists, "changes": changes, "rules": rules, "pictures": {}}
+    def index(self, counts: Counts, lists: List["Written"], changes: Optional[Changes], rules: Optional[Checked], files: int) -> str:
+        """The first page, or the only one, whose search box looks into the index if that has files."""
+        results = [it for it in Result if changes and changes.results[it] and it.has_changed is not False]
+        kinds = kinds_of([(it.section.key, it.section.title) for it in lists if it.entries], results)
+        values = {**self._shared, "counts": counts, "lists": lists, "changes": changes, "rules": rules, "pictures": {}, "files": files}
+        values["kinds"] = kinds
         return str(self._templates.get_template("index.html").render(values))
 
     def joined(self, parts: Sequence[Any]) -> Any:

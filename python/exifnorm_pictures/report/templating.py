@@ -14,6 +14,7 @@ from ..model.results import Result
 from ..model.texts import escaped, safe, shown_path
 from ..refusals.causes import CAUSES, words_of
 from .contradictions import texts_by_standard
+from .searching import labels_of
 
 if TYPE_CHECKING:
     import jinja2
@@ -107,6 +108,7 @@ _FILTERS: Dict[str, Callable[..., Any]] = {
     "result_tone": result_tone,
     "problem": lambda problem: TEXTS.get(problem, ""),
     "texts": texts_by_standard,
+    "labels": labels_of,
     "cause": CAUSES.get,
     "words_of_cause": words_of,
 }
