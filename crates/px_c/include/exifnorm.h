@@ -11,8 +11,9 @@
  *
  * Whether two blocks of Exif or IPTC mean the same is proved. Whether two JPEGs have the same Exif and IPTC is proved of the library's
  * call. How blocks are found in other formats, XMP, and groups of pictures are tested. It is proved of each call which status but
- * EXIFNORM_NO_MEMORY it returns for which input, what it sets, and what stays unchanged. What this page says of copies, of the stack, of
- * ownership, and of EXIFNORM_NO_MEMORY is tested.
+ * EXIFNORM_NO_MEMORY it returns for which input, what it sets, and what stays unchanged; and that exifnorm_check doesn't return
+ * EXIFNORM_NO_MEMORY for a block of DataSets. What this page says otherwise of EXIFNORM_NO_MEMORY, and of copies, of the stack, of
+ * ownership, and that EXIFNORM_NAME_ROOM is enough, is tested. That texts are ASCII is read in their definitions, and tested.
  *
  * For every call:
  *
@@ -113,7 +114,7 @@ struct exifnorm_fault {
  *
  *   DONE       kind is set.
  *   REFUSED    fault is set.
- *   NO_MEMORY  nothing is set.
+ *   NO_MEMORY  nothing is set. Never of a block that begins with 1C, as one of DataSets does: it is checked without an allocation.
  */
 uint32_t exifnorm_check(const unsigned char *block, size_t block_length, /* the block */
                         uint32_t *kind,                                  /* is set to its kind */

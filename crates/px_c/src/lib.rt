@@ -13,7 +13,8 @@
 ghost use Rattle.std.specs.Prelude.{◌≡◌, ◌≢◌, ◌⊎◌};
 ghost use Rattle.px_engine.specs.declared.faults.Fault.TheVariants.{NormalTooLong};
 ghost use Rattle.px_engine.specs.declared.forms.Given.TheVariants.{Whole, Needs};
-ghost use Rattle.px_engine.specs.Files.{Said};
+ghost use Rattle.px_engine.specs.declared.kinds.BlockKind.TheVariants.{Iim};
+ghost use Rattle.px_engine.specs.Files.{Said, kind_of};
 ghost use Rattle.px_engine.specs.Hand.{PutsForm, IsUnwritten};
 ghost use Rattle.px_engine.specs.Input.{IsSaid};
 ghost use Rattle.px_engine.specs.Prints.{caption_text, listing};
@@ -58,7 +59,8 @@ pub use unread::ExifnormUnreadPart;
 /// Allocates a bit for each byte of an Exif block, and the fields of its thumbnail directory.
 ///
 /// `REFUSED`: the file has no meaning, and `fault` is its block's first fault. `NO_MEMORY`: an allocation
-/// failed. Only success changes `kind`, and only a refusal changes `fault`.
+/// failed, and the block is Exif: one of DataSets is checked without an allocation. Only success changes `kind`, and only
+/// a refusal changes `fault`.
 #[unsafe(no_mangle)]
 pub extern "C" fn exifnorm_check(
     alloc: Global,
@@ -71,6 +73,7 @@ pub extern "C" fn exifnorm_check(
     ensures refused { result ≡ status.refused → Refuses file.now fault.new }
     ensures kind { result ≢ status.done → kind.new ≡ kind.old }
     ensures fault { result ≢ status.refused → fault.new ≡ fault.old }
+    ensures datasets { kind_of file.now ≡ Iim → result ≢ status.no_memory }
 {
     check_in(&mut Memory::new(alloc), file, kind, fault)
 }

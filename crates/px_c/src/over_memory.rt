@@ -4,7 +4,8 @@ ghost use Rattle.px_bytes.specs.Lacking.{AsksAtMost};
 ghost use Rattle.px_engine.specs.Asking.{block_request, AsksForText};
 ghost use Rattle.px_engine.specs.declared.faults.Fault.TheVariants.{NormalTooLong};
 ghost use Rattle.px_engine.specs.declared.forms.Given.TheVariants.{Whole, Needs};
-ghost use Rattle.px_engine.specs.Files.{Said};
+ghost use Rattle.px_engine.specs.declared.kinds.BlockKind.TheVariants.{Iim};
+ghost use Rattle.px_engine.specs.Files.{Said, kind_of};
 ghost use Rattle.px_engine.specs.Hand.{PutsForm, IsUnwritten};
 ghost use Rattle.px_engine.specs.Input.{IsSaid};
 ghost use Rattle.px_engine.specs.Prints.{caption_text, listing};
@@ -41,6 +42,7 @@ pub(crate) fn check_in(
     ensures fault { result ≢ status.refused → fault.new ≡ fault.old }
     ensures lacking { result ≡ status.no_memory → memory.new.refusals ≡ memory.old.refusals + 1 }
     ensures memory { result ≢ status.no_memory → memory.new.refusals ≡ memory.old.refusals }
+    ensures datasets { kind_of file.now ≡ Iim → result ≢ status.no_memory }
     ensures asked { AsksAtMost (block_request (length file.now)) memory.old memory.new }
 {
     match px_engine::check_of_in(memory, file) {
