@@ -11,12 +11,12 @@ use Rattle.px_jpeg.specs.Pieces.{range, kind_of, begins, piece_of, piece_in, pie
 use Rattle.px_jpeg.specs.Blocks.{Block, piece_octets, joined}
 use Rattle.px_jpeg.specs.Laws.{BlocksJoin}
 
-joined_first : (b : List ℕ) (p : Piece) (ps : List Piece) → p.begins ≡ true
+pub joined_first : (b : List ℕ) (p : Piece) (ps : List Piece) → p.begins ≡ true
     → joined b (p ∷ ps) ≡ ([], record { kind = p.kind; octets = piece_octets b p ++ (joined b ps).0 } ∷ (joined b ps).1)
 unfolding joined
 joined_first b p ps h = cond-true p.begins _ _ h
 
-joined_later : (b : List ℕ) (p : Piece) (ps : List Piece) → p.begins ≡ false
+pub joined_later : (b : List ℕ) (p : Piece) (ps : List Piece) → p.begins ≡ false
     → joined b (p ∷ ps) ≡ (piece_octets b p ++ (joined b ps).0, (joined b ps).1)
 unfolding joined
 joined_later b p ps h = cond-false p.begins _ _ h
@@ -45,7 +45,7 @@ first_begins Xmp x = refl
 first_begins ExtendedXmp x = refl
 
 -- nothing stands before the first block
-none_before : (b : List ℕ) (qs : List Part) → (joined b (pieces b None qs)).0 ≡ []
+pub none_before : (b : List ℕ) (qs : List Part) → (joined b (pieces b None qs)).0 ≡ []
 unfolding joined
 none_before b [] = refl
 none_before b (q ∷ qs) = of (none_before b qs) (kind_of q.code (range b q.start q.size)) refl

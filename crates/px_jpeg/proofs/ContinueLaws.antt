@@ -24,16 +24,16 @@ use Rattle.px_jpeg.proofs.OnePart.{found_nothing, found_other, found_segment, fi
 -- ---- what continues a block of Exif
 
 -- the bytes x are a segment of Exif without a header
-record Continues (x : List ℕ) : Type 0 where
-  fill : List ℕ
-  high : ℕ
-  low : ℕ
-  octets : List ℕ
-  filled : AreFill fill
-  whole : x ≡ fill ++ 255 ∷ 225 ∷ high ∷ low ∷ octets
-  counted : 256 * high + low ≡ 2 + length octets
-  exif : is_exif 225 octets ≡ true
-  later : is_header (drop 6 octets) ≡ false
+pub record Continues (x : List ℕ) : Type 0 where
+  pub fill : List ℕ
+  pub high : ℕ
+  pub low : ℕ
+  pub octets : List ℕ
+  pub filled : AreFill fill
+  pub whole : x ≡ fill ++ 255 ∷ 225 ∷ high ∷ low ∷ octets
+  pub counted : 256 * high + low ≡ 2 + length octets
+  pub exif : is_exif 225 octets ≡ true
+  pub later : is_header (drop 6 octets) ≡ false
 
 other_kinds : (p q r : Bool) → (if p then Some Photoshop else if q then Some Xmp else if r then Some ExtendedXmp else None) ≡ Some Exif → ⊥
 other_kinds true q r e = cc
@@ -41,7 +41,7 @@ other_kinds false true r e = cc
 other_kinds false false true e = cc
 other_kinds false false false e = cc
 
-kind_exif : (c : ℕ) (x : List ℕ) → kind_of c x ≡ Some Exif → is_exif c x ≡ true
+pub kind_exif : (c : ℕ) (x : List ℕ) → kind_of c x ≡ Some Exif → is_exif c x ≡ true
 unfolding kind_of
 kind_exif c x h = elim (cases_Bool (is_exif c x)) [
   | inl t ↦ t
@@ -69,7 +69,7 @@ continuing b q (Some ExtendedXmp) p e f =
 
 -- the data of a segment
 module _ (z fill : List ℕ) (c h l : ℕ) (octets : List ℕ) (w : z ≡ fill ++ 255 ∷ c ∷ h ∷ l ∷ octets) where
-  data_at : drop (length fill + 4) z ≡ octets
+  pub data_at : drop (length fill + 4) z ≡ octets
   data_at =
       ap (drop (length fill + 4)) (w ∙ sym (append_assoc fill (255 ∷ c ∷ h ∷ l ∷ []) octets))
       ∙ drop_at (fill ++ 255 ∷ c ∷ h ∷ l ∷ []) octets (length fill + 4) (length-append fill (255 ∷ c ∷ h ∷ l ∷ []))
@@ -112,7 +112,7 @@ continues_if z q p (inr s) e f =
 continues_of : (x : List ℕ) (m : MayContinue x) → Continues (x ++ m.more)
 continues_of x m = continues_if (x ++ m.more) m.part m.piece m.whole m.contains m.continues
 
-continues_by : (x more : List ℕ) → AllByRecursion (λ o. o < 256) more → Continues (x ++ more) → MayContinue x
+pub continues_by : (x more : List ℕ) → AllByRecursion (λ o. o < 256) more → Continues (x ++ more) → MayContinue x
 continues_by x more bytes r =
     let z : List ℕ = x ++ more in
     let q : Part = record { code = 225; start = length r.fill + 4; size = length r.octets } in

@@ -3,7 +3,6 @@ use Rattle.std.proofs.Common.{◌≡◌, ◌+◌, ℕ, Bool, true, false, inl, i
 use Rattle.std.proofs.Common.{List, [], ◌∷◌, ◌++◌, length, take, drop, refl, sym, ap, ap₂, ◌∙◌, subst, arith, length-append, append_assoc, append-nil, take_at}
 use Rattle.std.specs.List.{AllByRecursion}
 use Rattle.std.specs.Prelude.{MatchOption}
-use Rattle.std.proofs.lemmas.Bool.{both_ways}
 use Rattle.px_jpeg.specs.declared.parts.Part.{Part}
 use Rattle.px_jpeg.specs.declared.faults.Cause.{Cause}
 use Rattle.px_jpeg.specs.declared.faults.Cause.TheVariants.{NoStart, NoMarker, LengthForm, HeadCut}
@@ -15,7 +14,7 @@ use Rattle.px_jpeg.specs.Fault.{FaultAt, Behind, Fault, FaultAfter}
 use Rattle.px_jpeg.specs.Front.{HasFront, last_kind, MayContinue, WithoutLast, AreEnded, IsEnded}
 use Rattle.px_jpeg.specs.Pieces.{kind_of, range, piece_of, piece_in, pieces}
 use Rattle.px_jpeg.specs.Reading.{is_part, part, starts, front}
-use Rattle.px_jpeg.proofs.HeadLaws.{start_holds, start_off, one_head, fault_excludes, one_fault}
+use Rattle.px_jpeg.proofs.HeadLaws.{start_off, one_head, fault_excludes, one_fault}
 use Rattle.px_jpeg.proofs.Walking.{part_end, next_behind, says_head}
 use Rattle.px_jpeg.proofs.FirstParts.{front_nil, front_after, front_spelled, front_ends}
 
@@ -57,7 +56,7 @@ walk_start b s = record {
   block = λ e. absurd (cc);
 }
 
-later_exif : (b : List ℕ) (q : Part) (last : Option Kind) → (piece_of b q Exif last).begins ≡ false → last ≡ Some Exif
+pub later_exif : (b : List ℕ) (q : Part) (last : Option Kind) → (piece_of b q Exif last).begins ≡ false → last ≡ Some Exif
 later_exif b q None e = let clash : true ≡ false = e in absurd (cc)
 later_exif b q (Some Exif) e = refl
 later_exif b q (Some Photoshop) e = let clash : true ≡ false = e in absurd (cc)

@@ -109,7 +109,7 @@ front_after x = cond-false (not (starts (255 ∷ 216 ∷ x))) [] (front_left 2 x
 pub head_front : (b : List ℕ) (qs : List Part) → HasHead b qs → front b ≡ qs
 head_front b qs s = ap front s.whole ∙ front_after (s.spelled ++ s.rest) ∙ front_ends qs 2 s.spelled s.rest s.spells s.ends
 
-behind_front : (b : List ℕ) (c : Cause) (p : ℕ) (qs : List Part) (rest : List ℕ) → Behind b qs rest p → FaultAt c rest → front b ≡ qs
+pub behind_front : (b : List ℕ) (c : Cause) (p : ℕ) (qs : List Part) (rest : List ℕ) → Behind b qs rest p → FaultAt c rest → front b ≡ qs
 behind_front b c p qs rest r f =
     ap front r.whole ∙ front_after (r.front ++ rest) ∙ front_spelled qs 2 r.front rest r.spells r.before
     ∙ ap (λ (ps : List Part). qs ++ ps) (front_none (2 + length r.front) rest (fault_no_part c rest f)) ∙ append-nil qs

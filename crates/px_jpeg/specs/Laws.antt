@@ -1,16 +1,19 @@
 -- The laws of the definitions.
-use Rattle.std.specs.Prelude.{◌≡◌, ◌⊎◌, ◌↔◌, ◌≢◌, ◌+◌, ◌++◌, ℕ, List, [], ◌∷◌, Some, None, filter_map, flat_map, take}
+use Rattle.std.specs.Prelude.{◌≡◌, ◌⊎◌, ◌↔◌, ◌≢◌, ◌<◌, ◌+◌, ◌++◌, ℕ, ⊤, List, [], ◌∷◌, Some, None, filter_map, flat_map, take}
+use Rattle.std.specs.List.{AllByRecursion}
 use Rattle.px_jpeg.specs.declared.parts.Part.{Part}
 use Rattle.px_jpeg.specs.declared.contents.HeadPart.{HeadPart}
 use Rattle.px_jpeg.specs.declared.faults.Cause.{Cause}
 use Rattle.px_jpeg.specs.declared.faults.Cause.TheVariants.{NoStart, NoMarker, LengthForm}
 use Rattle.px_jpeg.specs.Head.{HasHead}
-use Rattle.px_jpeg.specs.Fault.{Behind, Fault}
+use Rattle.px_jpeg.specs.Fault.{Behind, Fault, FaultAfter}
+use Rattle.px_jpeg.specs.Front.{EndedBefore}
 use Rattle.px_jpeg.specs.Reading.{head_of}
 use Rattle.px_jpeg.specs.declared.resources.Resource.{Resource}
 use Rattle.px_jpeg.specs.Resources.{HasResources}
 use Rattle.px_jpeg.specs.Pieces.{pieces, with_pieces}
-use Rattle.px_jpeg.specs.Blocks.{piece_octets, blocks}
+use Rattle.px_jpeg.specs.declared.pieces.Kind.TheVariants.{Photoshop}
+use Rattle.px_jpeg.specs.Blocks.{Block, piece_octets, blocks}
 
 -- The parts of a head can be computed.
 abbrev pub Computes : Type 0
@@ -56,3 +59,23 @@ end_mark p = record { code = 217; start = p + 2; size = 0 }
 abbrev pub FaultServes : Type 0
 FaultServes = (b : List ℕ) (c : Cause) (p : ℕ) → c ≢ NoStart → Fault b c p → (parts : List Part) × (rest : List ℕ) × Behind b parts rest p
     × HasHead (take p b ++ 255 ∷ 217 ∷ []) (parts ++ end_mark p ∷ [])
+
+-- the block k is l or, if both are Photoshop's resources, l has more bytes behind those of k
+abbrev pub MayGrow : Block → Block → Type 0
+MayGrow k l = (k ≡ l) ⊎ ((k.kind ≡ Photoshop) × (l.kind ≡ Photoshop) × ((more : List ℕ) × (l.octets ≡ k.octets ++ more)))
+
+-- the blocks ks are the first of ls; only the last of ks may have more bytes there
+abbrev pub AreFirst : List Block → List Block → Type 0
+AreFirst [] ls = ⊤
+AreFirst (k ∷ ks) [] = ⊥
+AreFirst (k ∷ []) (l ∷ ls) = MayGrow k l
+AreFirst (k ∷ j ∷ ks) (l ∷ ls) = (k ≡ l) × AreFirst (j ∷ ks) ls
+
+-- these are the parts of the head or, if it has a fault, those before the first fault
+abbrev pub AreParts : List ℕ → List Part → Type 0
+AreParts b parts = HasHead b parts ⊎ ((c : Cause) × (p : ℕ) × FaultAfter b parts c p)
+
+-- The blocks that end before a fault are the first of each picture that begins with these bytes.
+abbrev pub EndedServe : Type 0
+EndedServe = (b more : List ℕ) (c : Cause) (p : ℕ) (parts whole : List Part) → c ≢ NoStart → AllByRecursion (λ o. o < 256) more
+    → EndedBefore b parts c p → AreParts (b ++ more) whole → AreFirst (blocks b parts) (blocks (b ++ more) whole)
