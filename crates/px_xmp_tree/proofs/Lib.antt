@@ -1,0 +1,4 @@
+pub mod StackLaws
+pub mod NestingLaws
+pub mod KindLaws
+pub mod FaultLaws

@@ -1,0 +1,5 @@
+pub mod Kinds
+pub mod Nesting
+pub mod Faults
+pub mod Laws
+pub mod calls

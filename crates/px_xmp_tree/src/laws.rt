@@ -1,0 +1,30 @@
+//! The laws of nested elements. Each is the contract of a function that computes nothing.
+ghost use Rattle.px_xmp_tree.specs.Kinds.{KindsAreRead, OnlyKindsAreRead};
+ghost use Rattle.px_xmp_tree.specs.Laws.{OneFault};
+
+/// Each mark of the grammar is read, with its kind.
+pub fn kinds_are_read()
+    ensures { KindsAreRead }
+{
+    px_xmp_marks::laws::start_tags_are_read();
+    px_xmp_marks::laws::end_tags_are_read();
+    px_xmp_marks::laws::marks_are_read();
+}
+
+/// What is read as a mark is one of the grammar.
+pub fn only_kinds_are_read()
+    ensures { OnlyKindsAreRead }
+{
+    px_xmp_marks::laws::start_tags_are_read();
+    px_xmp_marks::laws::end_tags_are_read();
+    px_xmp_marks::laws::only_start_tags_are_read();
+    px_xmp_marks::laws::only_end_tags_are_read();
+    px_xmp_marks::laws::only_marks_are_read();
+}
+
+/// Octets with a fault are no tree, and have one first fault.
+pub fn one_fault()
+    ensures { OneFault }
+{
+    kinds_are_read();
+}

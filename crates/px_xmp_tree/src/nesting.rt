@@ -1,0 +1,212 @@
+// The elements that are open.
+ghost use Rattle.std.specs.Prelude.{◌≡◌, ◌≤◌, ◌<◌, ◌↔◌, List, [], ◌∷◌, length, IsTrue, MatchOption};
+ghost use Rattle.px_xmp_marks.specs.Reading.{name_view};
+ghost use Rattle.px_xmp_tree.specs.Kinds.{kind_view, Opening, Closing, Alone, Data};
+ghost use Rattle.px_xmp_tree.specs.Nesting.{limit, Among, After};
+ghost use Rattle.px_xmp_tree.specs.Faults.{IsWrong, IsWrongStart, IsWrongEnd, IsWrongData, IsCut, unread};
+ghost use Rattle.px_xmp_tree.specs.calls.Steps.{Step};
+
+use crate::faults::Cause;
+use crate::kinds::MarkKind;
+use px_xmp_marks::Name;
+use std::marker::Model;
+
+// No element is inside so many others.
+const LIMIT: usize = 100;
+
+// The names of the open elements.
+#[derive(Drop)]
+struct Stack<'a> {
+    names: [Name<'a>; LIMIT],
+    len: usize,
+}
+
+impl<'a> Model for Stack<'a> {
+    ghost use Rattle.std.specs.Prelude.{List, ◌≡◌, ◌≤◌, length};
+    ghost use Rattle.px_xmp_marks.specs.Reading.{Named};
+    ghost use Rattle.px_xmp_tree.specs.Nesting.{limit};
+    ghost use Rattle.px_xmp_tree.specs.calls.Stacks.{stack_of};
+
+    ghost Value = { List Named };
+
+    ghost view = { λ s. stack_of s.len s.names };
+
+    ghost invariant = { λ s. (s.len ≤ limit) × (length s.names ≡ limit) };
+}
+
+impl<'a> Stack<'a> {
+    fn new(octets: &'a [u8]) -> Self
+        ensures { result ≡ [] }
+    {
+        let nothing = octets.split_at(0).0;
+        let name = Name {
+            prefix: nothing,
+            local: nothing,
+            size: 0,
+        };
+        Stack {
+            names: [name; LIMIT],
+            len: 0,
+        }
+    }
+
+    fn len(&self) -> usize
+        ensures value { result ≡ length self.now }
+        ensures within { result ≤ limit }
+    {
+        self.len
+    }
+
+    fn push(&mut self, name: Name<'a>)
+        requires { length self.old < limit }
+        ensures { self.new ≡ name_view name.entry ∷ self.old }
+    {
+        self.names[self.len] = name;
+        self.len += 1;
+    }
+
+    fn pop(&mut self) -> Option<Name<'a>>
+        ensures { MatchOption result ((self.old ≡ []) × (self.new ≡ [])) (λ n. self.old ≡ name_view n ∷ self.new) }
+    {
+        if self.len == 0 {
+            return None;
+        }
+        self.len -= 1;
+        Some(self.names[self.len])
+    }
+}
+
+// Whether two names are the same.
+fn is_same(a: Name, b: Name) -> bool
+    ensures { IsTrue result ↔ (name_view a.entry ≡ name_view b.entry) }
+{
+    a.size == b.size && a.prefix == b.prefix && a.local == b.local
+}
+
+// A place among marks.
+#[derive(Drop)]
+pub(crate) struct Nesting<'a> {
+    names: Stack<'a>,
+    has_ended: bool,
+}
+
+impl<'a> Model for Nesting<'a> {
+    ghost use Rattle.px_xmp_tree.specs.Nesting.{Place};
+    ghost use Rattle.px_xmp_tree.specs.calls.Stacks.{place_of};
+
+    ghost Value = { Place };
+
+    ghost view = { λ n. place_of n.has_ended n.names };
+}
+
+impl<'a> Nesting<'a> {
+    pub(crate) fn new(octets: &'a [u8]) -> Self
+        ensures { result ≡ Among [] }
+    {
+        Nesting {
+            names: Stack::new(octets),
+            has_ended: false,
+        }
+    }
+
+    fn open(&mut self, name: Name<'a>) -> Option<Cause>
+        ensures { MatchOption result (Step (Opening (name_view name.entry)) self.old self.new) (λ c. IsWrongStart self.old c) }
+    {
+        if self.has_ended {
+            return Some(Cause::SecondRoot);
+        }
+        if self.names.len() == LIMIT {
+            return Some(Cause::TooDeep);
+        }
+        self.names.push(name);
+        None
+    }
+
+    fn stand_alone(&mut self, name: Name<'a>) -> Option<Cause>
+        ensures { MatchOption result (Step (Alone (name_view name.entry)) self.old self.new) (λ c. IsWrongStart self.old c) }
+    {
+        if self.has_ended {
+            return Some(Cause::SecondRoot);
+        }
+        let len = self.names.len();
+        if len == LIMIT {
+            return Some(Cause::TooDeep);
+        }
+        if len == 0 {
+            self.has_ended = true;
+        }
+        None
+    }
+
+    fn close(&mut self, name: Name<'a>) -> Option<Cause>
+        ensures { MatchOption result (Step (Closing (name_view name.entry)) self.old self.new) (λ c. IsWrongEnd (name_view name.entry) self.old c) }
+    {
+        if self.has_ended {
+            return Some(Cause::OtherEnd);
+        }
+        let Some(opened) = self.names.pop() else {
+            return Some(Cause::OtherEnd);
+        };
+        if !is_same(name, opened) {
+            return Some(Cause::OtherEnd);
+        }
+        if self.names.len() == 0 {
+            self.has_ended = true;
+        }
+        None
+    }
+
+    fn pass_data(&self) -> Option<Cause>
+        ensures { MatchOption result (Step Data self.now self.now) (λ c. IsWrongData self.now c) }
+    {
+        if self.has_ended {
+            return Some(Cause::OutsideRoot);
+        }
+        if self.names.len() == 0 {
+            return Some(Cause::OutsideRoot);
+        }
+        None
+    }
+
+    // Passes a mark, or returns what is wrong with it here.
+    pub(crate) fn pass(&mut self, kind: MarkKind<'a>) -> Option<Cause>
+        ensures { MatchOption result (Step (kind_view kind.entry) self.old self.new) (λ c. IsWrong (kind_view kind.entry) self.old c) }
+    {
+        match kind {
+            MarkKind::Opening(name) => self.open(name),
+            MarkKind::Closing(name) => self.close(name),
+            MarkKind::Alone(name) => self.stand_alone(name),
+            MarkKind::Misc => None,
+            MarkKind::Data => self.pass_data(),
+        }
+    }
+
+    // What is wrong with an end here.
+    pub(crate) fn cut(&self) -> Option<Cause>
+        ensures { MatchOption result (self.now ≡ After) (λ c. IsCut self.now c) }
+    {
+        if self.has_ended {
+            return None;
+        }
+        if self.names.len() == 0 {
+            return Some(Cause::NoRoot);
+        }
+        Some(Cause::NoEnd)
+    }
+
+    // What is wrong with octets here that begin with no mark.
+    pub(crate) fn unread(&self, octets: &[u8]) -> Cause
+        ensures { result ≡ unread self.now octets.now }
+    {
+        if self.has_ended {
+            return Cause::NoMark;
+        }
+        if self.names.len() != 0 {
+            return Cause::NoMark;
+        }
+        if octets.starts_with(b"<!DOCTYPE") {
+            return Cause::DocumentType;
+        }
+        Cause::NoMark
+    }
+}
