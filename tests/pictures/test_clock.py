@@ -15,6 +15,7 @@ from test_repairs import REFUSED
 from exifnorm_pictures.extract import exiftool, programs
 from exifnorm_pictures.judge import repairs
 from exifnorm_pictures.model import budgets
+from exifnorm_pictures.model.found import UNREAD_NOTES, UNREAD_TRAILER
 from exifnorm_pictures.xmp import by_rdflib
 
 
@@ -139,17 +140,33 @@ def test_an_exiftool_without_end_at_what_is_read_here(called, folder, monkeypatc
 
 @pytest.mark.parametrize("end", ("silent", "long"))
 def test_an_exiftool_without_end_at_maker_notes(end, called, folder, monkeypatch):
-    """The picture is one at which a program failed, which the next run asks again, and the MakerNote of the next one is read. `compare` knows
-    nothing of it."""
+    """The picture's own fields are known, and its MakerNote is a part that was not read, which the next run asks for again; that of the next
+    picture is read. `compare` knows nothing of it."""
     asked(folder, monkeypatch, WITHOUT_END[end], a_jpg=noted(more=[COMMENT]), b_jpg=noted())
-    assert called("index", "p", "--catalogue", "c", "--quiet", "--jobs", "1", "--limit", "1", "--maker-notes")[0] == 2
+    index = ["index", "p", "--catalogue", "c", "--quiet", "--jobs", "1", "--limit", "1", "--maker-notes"]
+    assert called(*index)[:2] == (0, "2 accepted\n")
+    query = "SELECT problem, exif != '', readings IS NOT NULL, pictures.not_read != '' FROM pictures LEFT JOIN maker_notes ON picture = id ORDER BY path"
     with sqlite3.connect("c") as base:
-        query = "SELECT problem, exif != '', readings IS NOT NULL FROM pictures LEFT JOIN maker_notes ON picture = id ORDER BY path"
-        assert list(base.execute(query)) == [("ToolFailed", None, 0), (None, 1, 1)]
+        assert list(base.execute(query)) == [(None, 1, 0, 1), (None, 1, 1, 0)]
     for name, more in (("a", [COMMENT]), ("b", [])):
         (folder / f"{name}.jpg").write_bytes(noted(moved=64, more=more))
         status, printed, messages = called("compare", f"p/{name}.jpg", f"{name}.jpg", "--limit", "1")
         assert status in (1, 2) and "internal" not in printed + messages, printed
+    (folder / "bin" / "exiftool").write_text(FAKE % ("", "pass"))
+    assert called(*index)[1] == "1 accepted, 1 unchanged\n"
+    with sqlite3.connect("c") as base:
+        assert list(base.execute(query)) == [(None, 1, 1, 0)] * 2
+
+
+def test_all_calls_about_a_picture_have_the_time_of_one(called, folder, monkeypatch):
+    """ExifTool is asked for a trailer and for a MakerNote."""
+    asked(folder, monkeypatch, WITHOUT_END["silent"], a_jpg=noted(more=[COMMENT]) + TRAILERS[0][TRAILERS[0].rindex(b"AXS!") :])
+    waited, read_until = [], programs.read_until
+    monkeypatch.setattr(exiftool.programs, "read_until", lambda *of: (waited.append(of[2]), read_until(*of))[1])
+    called("index", "p", "--catalogue", "c", "--quiet", "--jobs", "1", "--limit", "1", "--maker-notes")
+    with sqlite3.connect("c") as base:
+        parts = [it for it, in base.execute("SELECT what FROM not_read")]
+    assert len(waited) > 1 and sum(waited) < 1.5 and {UNREAD_NOTES, UNREAD_TRAILER} <= set(parts), (waited, parts)
 
 
 STAGES = ("shown", "free", "written", "rebuilt", "exiv2")

@@ -23,7 +23,7 @@ from ..model.found import EXIF, EXIFTOOL, EXIV2, IPTC, UNREAD_TRAILER, XMP, Bloc
 from ..model.problems import Problem
 from . import programs, raw_files
 from .formats.streams import Stream, digest_of, size_of
-from .programs import Failed
+from .programs import Failed, TooSlow
 
 _WORDS_LENGTH = 1000  # characters that are kept of a type or an error
 _WORDS = ("-EXIF:Exif", "-IPTC:IPTC", "-XMP:XMP", "-FileType#", "-MIMEType#", "-Error#")
@@ -46,7 +46,7 @@ class Process:
 
     def __init__(self, room: str, seconds: float) -> None:
         """Starts ExifTool in the folder `room`. Links with plain names in it replace names that ExifTool could misread. It may take so many
-        seconds for a file."""
+        seconds for a call."""
         self.room, self.seconds = room, seconds
         self.number = 0
         self.process = programs.start(programs.exiftool("-stay_open", "True", "-@", "-"), room, stdin=subprocess.PIPE)
@@ -126,9 +126,14 @@ def ask(session: Session, path: bytes, words: Sequence[str]) -> Dict[str, str]:
 def ask_several(session: Session, paths: Sequence[bytes], words: Sequence[str], options: Sequence[str] = _OPTIONS) -> List[Dict[str, str]]:
     """ExifTool's tags of some files, which are asked for in one call."""
     try:
-        return _process(session).ask(paths, words, options)
-    except BaseException:
+        with session.clock(b"\0".join(paths)) as seconds:
+            process = _process(session)
+            process.seconds = seconds
+            return process.ask(paths, words, options)
+    except BaseException as error:
         session.close_tool()
+        if isinstance(error, TooSlow):
+            raise TooSlow(f"exiftool took longer than {session.seconds:g} seconds") from None
         raise
 
 
@@ -201,7 +206,11 @@ def _add_by_exiv2(session: Session, blocks: Blocks, path: bytes) -> None:
     os.mkdir(folder)
     link = os.path.join(folder, f"picture.{blocks.type.lower()}")
     os.symlink(os.path.abspath(path), os.fsencode(link))
-    programs.run([programs.needed("exiv2"), "-q", "-ee", "-l", folder, link], session.seconds, folder)
+    try:
+        with session.clock(path) as seconds:
+            programs.run([programs.needed("exiv2"), "-q", "-ee", "-l", folder, link], seconds, folder)
+    except TooSlow:
+        raise TooSlow(f"exiv2 took longer than {session.seconds:g} seconds") from None
     file = os.path.join(folder, "picture.exv")
     block = _exif_of_exiv2(file) if os.path.isfile(file) else b""
     if block:

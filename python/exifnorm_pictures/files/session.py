@@ -8,9 +8,13 @@ from __future__ import annotations
 
 import contextlib
 import os
-from typing import Optional, Protocol
+import time
+from typing import Iterator, Optional, Protocol
 
 from ..model.budgets import PROGRAM_SECONDS
+
+
+_LEAST = 0.001  # seconds of a clock that a call has if the earlier ones took all: a program that answers nothing then was too slow
 
 
 class Closes(Protocol):
@@ -32,6 +36,18 @@ class Session:
         self.tool: Optional[Closes] = None  # ExifTool's process, which `exiftool` starts at the first call
         self._room, self._rooms = room, contextlib.ExitStack()
         self._folder: Optional[str] = None
+        self._asked, self._taken = b"", 0.0  # the file that programs were last asked about, and the seconds that they took for it
+
+    @contextlib.contextmanager
+    def clock(self, file: bytes) -> Iterator[float]:
+        """The seconds that a program may still take for a file: all calls about one file have those of one call."""
+        if file != self._asked:
+            self._asked, self._taken = file, 0.0
+        began = time.monotonic()
+        try:
+            yield max(self.seconds - self._taken, _LEAST)
+        finally:
+            self._taken += time.monotonic() - began
 
     @property
     def room(self) -> str:

@@ -21,6 +21,7 @@ REST = "the rest of a damaged file"  # how a part begins that has such a file fr
 BROKEN = "broken: "  # how the reason begins for which a damaged file was left to ExifTool
 CUT = "the file ends "  # how a fault begins that is the end of a file, after which bytes are missing
 _WITHOUT_IPTC = frozenset(("WEBP", "Extended WEBP", "HEIC", "HEIF", "AVIF", "CR3", "JXL"))  # formats, by the words of readers and ExifTool
+UNREAD_NOTES = "what ExifTool reads of the MakerNote, at which it failed"  # a part that the next run asks for again
 UNREAD_TRAILER = "blocks of the trailer, for which ExifTool is needed"  # a part that is read once ExifTool is there
 
 _ORDINALS = ("first", "second", "third", "fourth", "fifth", "sixth", "seventh", "eighth", "ninth")

@@ -13,7 +13,7 @@ from ..extract.formats.streams import digest_of_file
 from ..files.session import Session
 from ..judge import judge
 from ..model.budgets import WHOLE_FILE, TooMuch
-from ..model.found import Blocks
+from ..model.found import UNREAD_NOTES, Blocks
 from ..model.problems import NO_BYTES, Problem
 from ..model.records import RACY, BlockRecord, PictureRecord, Stamp
 from ..model.texts import reason
@@ -46,7 +46,7 @@ def _look(file: FoundFile, how: How, session: Session, packs: bool) -> PictureRe
         whole_file = file_digest(file.path, blocks, how.whole)
         if file.sidecars:
             whole_file = sidecars.with_sidecars(whole_file, file.path, file.sidecars)
-        reading = _maker_notes(session, file.path, judged) if how.maker_notes else None
+        reading = _maker_notes(session, file.path, blocks, judged) if how.maker_notes else None
         pixels = _pixels(file.path, blocks) if how.pixels else (None, "", "", None)
     except LibraryMissing:  # an OSError too, but not of this file
         raise
@@ -63,7 +63,10 @@ def _look(file: FoundFile, how: How, session: Session, packs: bool) -> PictureRe
     coded, beside, damage, whole = pixels
     notes = None if reading is None else _packed(reading)
     more = {"notes": notes, "coded_picture": coded, "beside": beside, "damage": damage, "sha256": whole, "sidecars": marks}
-    return PictureRecord.found(file.path, file.root, _unless_changed(file, began), blocks, judged, file=whole_file, **more)
+    stamp = _unless_changed(file, began)
+    if stamp and any(it.what == UNREAD_NOTES for it in blocks.not_read):
+        stamp = stamp._replace(changed=RACY)  # the next run asks again
+    return PictureRecord.found(file.path, file.root, stamp, blocks, judged, file=whole_file, **more)
 
 
 def _read(file: FoundFile, how: How, session: Session, packs: bool) -> Tuple[Blocks, List[BlockRecord]]:
@@ -81,13 +84,18 @@ def _read(file: FoundFile, how: How, session: Session, packs: bool) -> Tuple[Blo
         return Blocks(problem=Problem.TOO_SLOW, detail=str(error)), []
 
 
-def _maker_notes(session: Session, path: bytes, judged: Sequence[BlockRecord]) -> "Optional[NotesReading]":
-    """What ExifTool reads of the MakerNotes of a picture that has one."""
-    if all(block.note is None for block in judged):
+def _maker_notes(session: Session, path: bytes, blocks: Blocks, judged: Sequence[BlockRecord]) -> "Optional[NotesReading]":
+    """What ExifTool reads of the MakerNotes of a picture that has one. If it fails at them, they are a part that was not read."""
+    with_note = [block.octets for block in judged if block.note is not None]
+    if not with_note:
         return None
     from ..judge import maker_notes
 
-    return maker_notes.readings_of(session, [path])[0]
+    try:
+        return maker_notes.readings_of(session, [path])[0]
+    except programs.Failed:
+        blocks.leave(UNREAD_NOTES, "".join(with_note).encode("ascii"))
+        return None
 
 
 def _packed(reading: "NotesReading") -> bytes:
