@@ -34,6 +34,7 @@ PROGRAMS = {
     "chromium": "chromium",
     "parallel": "parallel",
     "sqlite3": "sqlite3",
+    "hashdeep": "hashdeep",
     "perl": "perl",
 }
 MODULES = {"piexif": "python3-piexif", "distributed": "python3-distributed", "PIL": "python3-pil", "rdflib": "python3-rdflib"}

@@ -9,7 +9,7 @@ import subprocess
 import sys
 
 import pytest
-from made_files import A, B, app1, jpeg
+from made_files import A, B, app1, jpeg, title
 from made_more_files import gif
 from studio import SMALL_JPEG, Studio, needs, put, tool
 
@@ -175,6 +175,88 @@ def test_evidence(archive, called):
     assert subprocess.run(["sha256sum", "--quiet", "-c", "e"], capture_output=True).returncode == 1
     status, printed, messages = called("verify", "--catalogue", "c", "--evidence", "e")
     assert (status, printed) == (4, "") and "e isn't written: it is there already" in messages
+
+
+NAMES = ["a,b.jpg", "q\"uo'te.jpg", " blank .jpg", "50%0A.jpg", "back\\slash.jpg", "b\u00fcro.jpg", "-n.jpg", "# x.jpg", "sub/a.jpg"]
+
+
+def named(archive, called, *more):
+    """An archive with odd names, each with other bytes, and its catalogue."""
+    put(archive, {name: PICTURE + name.encode("utf-8", "surrogateescape") for name in [*NAMES, *more]})
+    called("index", "p", "--catalogue", "c", "--pixels", "--quiet")
+
+
+@needs("hashdeep")
+def test_evidence_for_hashdeep(archive, called):
+    """hashdeep knows each file of it, also one whose name is no UTF-8, and each that has changed since."""
+    named(archive, called, "\udcff.jpg")
+    assert called("verify", "--catalogue", "c", "--evidence", "e", "--form", "hashdeep")[0] == 0
+    audit = ["hashdeep", "-r", "-a", "-v", "-k", "e", str(archive)]
+    result = subprocess.run(audit, capture_output=True, text=True)
+    assert result.returncode == 0 and f"Files matched: {len(NAMES) + 5}\n" in result.stdout, result
+    (archive / "sub" / "a.jpg").write_bytes(b"x")
+    assert "Known files not found: 1" in subprocess.run(audit, capture_output=True, text=True).stdout
+    (archive / "line\nend.jpg").write_bytes(PICTURE)
+    called("index", "p", "--catalogue", "c", "--quiet")
+    status, printed, messages = called("verify", "--catalogue", "c", "--evidence", "f", "--form", "hashdeep")
+    assert (status, printed) == (4, "") and "line ends" in messages and not os.path.exists("f")
+
+
+def test_evidence_as_a_manifest_of_a_bag(archive, called):
+    """As RFC 8493 has it: names below data/ with slashes, in which line ends and % alone are encoded. verify --bag reads it, too."""
+    os.mkdir("bag")
+    archive.rename("bag/data")
+    put(archive.parent / "bag/data", {name: PICTURE + name.encode() for name in [*NAMES, "line\nend\r.jpg"]})
+    called("index", "bag/data", "--catalogue", "d", "--pixels", "--quiet")
+    assert called("verify", "--catalogue", "d", "--evidence", "bag/manifest-sha256.txt", "--form", "bagit")[0] == 0
+    found = {}
+    for line in (archive.parent / "bag/manifest-sha256.txt").read_bytes().removesuffix(b"\n").split(b"\n"):
+        digest, _, name = line.partition(b"  ")
+        found[os.path.join(b"bag", name.replace(b"%0A", b"\n").replace(b"%0D", b"\r").replace(b"%25", b"%"))] = digest.decode()
+    files = [os.path.join(top, name) for top, _, names in os.walk(b"bag/data") for name in names]
+    assert found == {name: hashlib.sha256(open(name, "rb").read()).hexdigest() for name in files}
+    assert called("verify", "--bag", "bag")[0] == 0
+    (archive.parent / "bag/data/sub/a.jpg").write_bytes(b"x")
+    assert called("verify", "--bag", "bag")[0] == 1
+    status, printed, messages = called("verify", "--catalogue", "d", "--evidence", "e", "--form", "bagit")
+    assert (status, printed) == (4, "") and "beside the manifest" in messages and not os.path.exists("e")
+
+
+SIDECAR, EDITED = title("Vase"), title("Bowl")
+# What happens to the sidecar of a.jpg, its state, and the status
+HAPPENS_BESIDE = {
+    "nothing": (lambda it: None, None, 0),
+    "touched": (lambda it: os.utime(it), None, 0),
+    "edited": (lambda it: written(it, EDITED), ("captioned", None), 0),
+    "rotted": (lambda it: written(it, SIDECAR.replace(b"Vase", b"Vasd"), True), ("DAMAGED", SAME_TIME), 1),
+    "cut": (lambda it: written(it, SIDECAR[:-20]), ("cut off", "its XMP can't be read"), 1),
+    "gone": (lambda it: it.unlink(), ("missing", None), 1),
+    "moved": (lambda it: it.rename(it.parent / "other.xmp"), ("moved", None), 0),
+}
+
+
+@pytest.mark.parametrize("name", HAPPENS_BESIDE)
+def test_what_happens_to_a_sidecar(name, folder, called, verified):
+    """It is a file of its own, also if two pictures have it, and its picture is as it was."""
+    happens, state, status = HAPPENS_BESIDE[name]
+    put(folder / "p", {"a.jpg": PICTURE, "a.png": b"", "a.xmp": SIDECAR, "b.jpg": CAPTIONED, "b.jpg.xmp": title("b")})
+    for path in (folder / "p").iterdir():
+        aged(path)
+    called("index", "p", "--catalogue", "c", "--pixels", "--sidecars", "--quiet")
+    happens(folder / "p" / "a.xmp")
+    found, states, (summary,) = verified("--evidence", "e")
+    assert (found, states) == (status, {"a.xmp": state} if state else {})
+    assert (summary["new"], summary["files"]) == (0, 5 - (name == "gone"))
+    assert subprocess.run(["sha256sum", "--quiet", "-c", "e"]).returncode == 0
+
+
+def test_a_picture_with_a_sidecar_that_was_written_again(folder, called, verified):
+    """Its own metadata count."""
+    put(folder / "p", {"a.jpg": PICTURE, "a.xmp": SIDECAR, "b.jpg": PICTURE, "b.xmp": SIDECAR})
+    called("index", "p", "--catalogue", "c", "--pixels", "--sidecars", "--quiet")
+    (folder / "p/a.jpg").write_bytes(jpeg(app1(A + b"\0\0")))
+    (folder / "p/b.jpg").write_bytes(CAPTIONED)
+    assert verified()[:2] == (0, {"a.jpg": ("written again", None), "b.jpg": ("captioned", None)})
 
 
 def test_a_picture_that_was_damaged_before(archive, called):

@@ -332,7 +332,9 @@ def _verify_arguments(parser: argparse.ArgumentParser) -> None:
     parser.add_argument("--catalogue", type=_name, metavar="FILE", help="a catalogue of index --pixels, which stays as it is")
     words = "in place of a catalogue, verify the files of a bag (BagIt) by its manifest-sha256.txt"
     parser.add_argument("--bag", type=_name, metavar="BAG", help=words)
-    parser.add_argument("--evidence", type=_name, metavar="FILE", help="write SHA-256 of each file to a new file, for sha256sum -c")
+    parser.add_argument("--evidence", type=_name, metavar="FILE", help="write SHA-256 of each file to a new file")
+    words = "how it is written: for sha256sum -c (the default), for hashdeep -a -k, or as the manifest of a bag"
+    parser.add_argument("--form", choices=("sha256sum", "hashdeep", "bagit"), help=words)
     states = ("damaged", "missing", "other", "captioned", "moved", "unknown")
     words = (
         f"list all files of this state, in place of the first ones of each: {', '.join(states)}. Those that were damaged before are damaged"

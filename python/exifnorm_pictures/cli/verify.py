@@ -8,7 +8,7 @@ import os
 import sys
 from collections import Counter
 from datetime import datetime, timezone
-from typing import BinaryIO, Dict, Iterator, List, Optional, Sequence, Type
+from typing import BinaryIO, Callable, Dict, Iterable, Iterator, List, Optional, Sequence, Tuple, Type
 
 from ..catalogue import bags
 from ..catalogue.store import Catalogue, NoCatalogue
@@ -46,6 +46,8 @@ def run(arguments: argparse.Namespace) -> int:
     """Compares the files that are there with a catalogue."""
     if (arguments.bag is None) == (arguments.catalogue is None):
         refuse("verify", "give --catalogue FILE or --bag BAG")
+    if arguments.form and not arguments.evidence:
+        refuse("verify", "--form is how --evidence FILE is written, which isn't given")
     if arguments.evidence and os.path.lexists(arguments.evidence):
         raise atomic.NotReplaced(atomic.not_written(escaped(arguments.evidence), "it is there already"))
     counts: "Counter[State]" = Counter()
@@ -76,7 +78,7 @@ def run(arguments: argparse.Namespace) -> int:
         if new:
             print_line(f"{new:>11,} that the {'manifest' if arguments.bag else 'catalogue'} doesn't know")
         if arguments.evidence:
-            print_line(f"{escaped(arguments.evidence)}: SHA-256 of {files:,} files, for sha256sum -c")
+            print_line(f"{escaped(arguments.evidence)}: SHA-256 of {files:,} files, {_READERS[_form(arguments)]}")
     if any(it.is_good is None for it in counts):
         return UNKNOWN
     is_more = bool(arguments.bag and new)  # a bag has no other files than its manifest
@@ -123,8 +125,9 @@ class Reading:
         catalogue = Catalogue(name, make=True)
         try:
             closed: List[str] = []
-            sidecars, debug = self._before.has_sidecars(), arguments.session.debug
-            how = How(arguments.jobs, False, False, True, sidecars, arguments.limit, room, debug, closed_folder)
+            debug = arguments.session.debug
+            # sidecars are files like all others here, each with its own digest
+            how = How(arguments.jobs, False, False, True, False, arguments.limit, room, debug, closed_folder)
             options = IndexOptions(self._folders, quiet=arguments.quiet or not sys.stderr.isatty(), how=how, print_line=closed.append)
             options.look = looker(self._before)
             self.earlier = index(options, catalogue)["unchanged"]
@@ -212,18 +215,58 @@ def _size(octets: int) -> str:
 
 
 def _write_evidence(arguments: argparse.Namespace, now: Catalogue) -> None:
-    """Writes the digest of each file, in the form of sha256sum."""
-    time = datetime.now(timezone.utc).strftime("%Y-%m-%d %H:%M:%S")
+    """Writes the digest of each file, in the form that is asked for."""
+    lines = _FORMS[_form(arguments)]
 
     def write(file: BinaryIO) -> None:
-        file.write(f"# exifnorm-pictures verify, {time} UTC. To check again: sha256sum --quiet -c FILE\n".encode("ascii"))
-        for path, digest in now.rows("SELECT path, sha256 FROM pictures WHERE sha256 != '' ORDER BY path"):
-            file.write(line_of_sums(path, digest))
+        rows = now.rows("SELECT path, sha256, size FROM pictures WHERE sha256 != '' ORDER BY path")
+        file.writelines(lines(rows, os.path.dirname(os.path.abspath(os.fsencode(arguments.evidence)))))
 
     try:
         atomic.replace(os.fsencode(arguments.evidence), write, lambda _: False)
     except atomic.NotReplaced as error:
         raise atomic.NotReplaced(atomic.not_written(escaped(arguments.evidence), error)) from None
+
+
+def _form(arguments: argparse.Namespace) -> str:
+    return arguments.form or "sha256sum"
+
+
+_Files = Iterable[Tuple[bytes, str, int]]  # each with its SHA-256 and its bytes
+
+
+def _sums(files: _Files, _folder: bytes) -> Iterator[bytes]:
+    time = datetime.now(timezone.utc).strftime("%Y-%m-%d %H:%M:%S")
+    yield f"# exifnorm-pictures verify, {time} UTC. To check again: sha256sum --quiet -c FILE\n".encode("ascii")
+    for path, digest, _ in files:
+        yield line_of_sums(path, digest)
+
+
+def _hashdeep(files: _Files, _folder: bytes) -> Iterator[bytes]:
+    """The form of hashdeep, in which a name is all to the end of the line. Raises `NotReplaced`."""
+    yield b"%%%% HASHDEEP-1.0\n%%%% size,sha256,filename\n## exifnorm-pictures verify\n## To check again: hashdeep -r -a -k FILE FOLDER\n##\n"
+    for path, digest, size in files:
+        if b"\n" in path or b"\r" in path:
+            raise atomic.NotReplaced(f"the form of hashdeep has no line ends in names, and {shown_path(path)} has one")
+        yield b"%d,%s,%s\n" % (size, digest.encode("ascii"), path)
+
+
+def _bag(files: _Files, folder: bytes) -> Iterator[bytes]:
+    """The manifest of a bag (RFC 8493, 2.1.3), of the files of its payload. Raises `NotReplaced`."""
+    for path, digest, _ in files:
+        name = os.path.relpath(path, folder)
+        if not name.startswith(bags.PAYLOAD):
+            raise atomic.NotReplaced(f"a bag has its files in the folder data beside the manifest, and {shown_path(path)} isn't there")
+        try:
+            name.decode("utf-8")
+        except UnicodeDecodeError:
+            raise atomic.NotReplaced(f"a manifest is in UTF-8, and the name {shown_path(path)} isn't") from None
+        encoded = name.replace(b"%", b"%25").replace(b"\n", b"%0A").replace(b"\r", b"%0D")
+        yield digest.encode("ascii") + b"  " + encoded + b"\n"
+
+
+_FORMS: Dict[str, Callable[[_Files, bytes], Iterator[bytes]]] = {"sha256sum": _sums, "hashdeep": _hashdeep, "bagit": _bag}
+_READERS = {"sha256sum": "for sha256sum -c", "hashdeep": "for hashdeep -a -k", "bagit": "as the manifest of a bag"}
 
 
 def line_of_sums(path: bytes, digest: str) -> bytes:

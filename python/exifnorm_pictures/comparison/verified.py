@@ -1,12 +1,17 @@
-"""Files read again, against a catalogue of `index --pixels`: whether the file, its picture or its metadata have changed."""
+"""Files read again, against a catalogue of `index --pixels`: whether the file, its picture or its metadata have changed.
+
+An XMP sidecar, which is a block of its picture in the catalogue, is a file here, with the digest of that block.
+"""
 
 from __future__ import annotations
 
-from typing import Iterator, NamedTuple, Optional, Sequence, Tuple
+import os
+from typing import Iterator, List, NamedTuple, Optional, Sequence, Tuple
 
 from ..catalogue.store import PICTURE_COLUMNS, Catalogue
+from ..model.columns import Damaged
 from ..model.problems import NOT_THERE, TEXTS
-from ..model.records import PictureRecord, picture_of_row
+from ..model.records import BlockRecord, PictureRecord, Stamp, has, picture_of_row
 from ..model.results import Result
 from ..model.verdicts import result_of, verdicts
 from ..model.words import Word
@@ -75,15 +80,77 @@ def verified(before: Catalogue, now: Catalogue, folders: Sequence[bytes]) -> Ite
     """Each file of a catalogue below some folders, in the order of their names, with its state in a catalogue that was made just now."""
     with now.guarded():
         now.base.execute("CREATE INDEX pictures_by_sha256 ON pictures (sha256)")
+        now.base.execute(f"CREATE TABLE {_SIDECARS} (path BLOB PRIMARY KEY, is_done INTEGER NOT NULL) WITHOUT ROWID")
+    for of_picture in before.rows("SELECT path, sidecars FROM pictures WHERE sidecars != ''", (), _sidecars_of_row):
+        with now.guarded():
+            now.base.executemany(f"INSERT OR IGNORE INTO {_SIDECARS} VALUES (?, 0)", ((path,) for path, _ in of_picture))
     tops = tuple(it.rstrip(b"/") + b"/" for it in folders)
     for picture in before.pictures():
         if picture.problem in NOT_THERE or not (picture.path.startswith(tops) or picture.path in folders):
             continue
+        if picture.sidecars:
+            blocks = before.blocks_of(picture)
+            with before.guarded():
+                sidecars = list(_sidecars(picture, blocks))
+            for sidecar in sidecars:
+                yield from _of_sidecar(before, now, sidecar)
+            picture = _without_sidecars(picture, blocks)
         there = _at(now, picture.path)
         if there is None or there.problem in NOT_THERE:
             yield _gone(before, now, picture)
         else:
             yield Verified(picture.path, *state_of(picture, there), damage=there.damage)
+
+
+_SIDECARS = "temp.sidecars"  # those that belong to pictures of the catalogue
+_FILE = "file "  # before the name of a sidecar, as the position of its block
+
+
+def _sidecars(picture: PictureRecord, blocks: Sequence[BlockRecord]) -> Iterator[PictureRecord]:
+    """The sidecars of a picture as files of their own, each with the digest that the catalogue has of it. Raises `Damaged`."""
+    digests = {block.source: block.octets for block in blocks if block.source.startswith(_FILE)}
+    for path, stamp in _marked(picture.path, picture.sidecars):
+        digest = digests.get(_FILE + os.path.basename(path).decode("utf-8", "backslashreplace"))
+        yield PictureRecord.of(path, picture.root, stamp, sha256=digest)
+
+
+def _sidecars_of_row(row: Tuple[bytes, str]) -> List[Tuple[bytes, Stamp]]:
+    has(bytes, row[0])
+    has(str, row[1])
+    return list(_marked(*row))
+
+
+def _marked(picture: bytes, marks: str) -> Iterator[Tuple[bytes, Stamp]]:
+    """The sidecars of a picture with their marks, as a catalogue has them. Raises `Damaged`."""
+    for line in marks.split("\n"):
+        name, *numbers = line.split(" ")
+        try:
+            file, stamp = bytes.fromhex(name), Stamp(*map(int, numbers))
+        except (ValueError, TypeError):
+            raise Damaged("the marks of a sidecar can't be read") from None
+        yield os.path.join(os.path.dirname(picture), file), stamp
+
+
+def _without_sidecars(picture: PictureRecord, blocks: Sequence[BlockRecord]) -> PictureRecord:
+    """A picture whose XMP is what its own file has."""
+    own = PictureRecord.of(picture.path, picture.root, blocks=[block for block in blocks if not block.source.startswith(_FILE)])
+    return picture._replace(xmp=own.xmp, xmp_octets=own.xmp_octets)
+
+
+def _of_sidecar(before: Catalogue, now: Catalogue, sidecar: PictureRecord) -> Iterator[Verified]:
+    """The state of a sidecar, the first time that a picture has it."""
+    with now.guarded():
+        first = now.base.execute(f"UPDATE {_SIDECARS} SET is_done = 1 WHERE path = ? AND is_done = 0", (sidecar.path,)).rowcount
+    if not first:
+        return
+    there = _at(now, sidecar.path)
+    if there is None or there.problem in NOT_THERE:
+        yield _gone(before, now, sidecar)
+        return
+    state, note = state_of(sidecar, there)
+    if state == State.OTHER_FILE:  # whose metadata were edited, if they can be read
+        state, note = (State.CUT, "its XMP can't be read") if there.xmp is None else (State.CAPTIONED, "")
+    yield Verified(sidecar.path, state, note, damage=there.damage)
 
 
 def _at(catalogue: Catalogue, path: bytes) -> Optional[PictureRecord]:
@@ -99,7 +166,7 @@ def _gone(before: Catalogue, now: Catalogue, picture: PictureRecord) -> Verified
         places = now.rows(f"SELECT path FROM pictures WHERE {column} = ? ORDER BY path", (digest,)) if digest else iter(())
         known = None
         for (path,) in places:
-            if not before.has(path):
+            if not _is_known(before, now, path):
                 return Verified(picture.path, State.MOVED, "captioned, too" if column == "coded_picture" else "", path)
             known = known or path
         if known:
@@ -109,4 +176,10 @@ def _gone(before: Catalogue, now: Catalogue, picture: PictureRecord) -> Verified
 
 def new_files(before: Catalogue, now: Catalogue) -> int:
     """How many files the catalogue doesn't know."""
-    return sum(not before.has(path) for (path,) in now.rows("SELECT path FROM pictures"))
+    return sum(not _is_known(before, now, path) for (path,) in now.rows("SELECT path FROM pictures"))
+
+
+def _is_known(before: Catalogue, now: Catalogue, path: bytes) -> bool:
+    """Whether a catalogue has a file: as a picture, or as a sidecar of one."""
+    is_sidecar = next(now.rows(f"SELECT 1 FROM {_SIDECARS} WHERE path = ?", (path,)), None)
+    return is_sidecar is not None or before.has(path)
