@@ -234,7 +234,7 @@ class Picture:
     @property
     def damage(self) -> str:
         """Where the file is cut off, as "the file ends inside the segment at 2000": what is missing may have metadata. Empty if that wasn't seen
-        while it was read; `compare` also finds a file that ends inside its picture."""
+        while it was read; `compare` also finds other damage of its picture."""
         return self._reading.damage
 
     @property

@@ -225,7 +225,11 @@ def test_the_whole_file_is_kept(folder, called):
         assert {it.sha256 for it in plain.pictures()} == {None}
         found = {os.path.basename(it.path)[:-4].decode(): it for it in made.pictures()}
     assert {name: it.sha256 for name, it in found.items()} == {name: hashlib.sha256(octets).hexdigest() for name, octets in files.items()}
-    assert {name: it.damage for name, it in found.items()} == {"whole": "", "cut": "the file ends inside its picture", "text": ""}
+    assert {name: it.damage for name, it in found.items()} == {
+        "whole": "",
+        "cut": "the file ends before the end mark of its picture",
+        "text": "",
+    }
 
 
 def test_idat_in_other_pieces():

@@ -1,18 +1,41 @@
 """Files that are cut off: no answer takes what may be behind the cut for removed, added, missing or the same, and each names the cut. Files of
-all formats are cut before, in and after each of their blocks, and compared with the whole ones in both directions."""
+all formats are cut before, in and after each of their blocks and in their pictures, and compared with the whole ones in both directions."""
 
+import contextlib
 import csv
 import io
 import json
 
 import exifnorm_pictures as pictures
 import pytest
-from made_blocks import ASCII, UNDEFINED, segment
-from made_boxes import XMP_UUID, PICTURE, Item, box, cr3, heif, item_exif, jp2, jxl, mime
-from made_files import A, K, L, SIX, T, app1, app1_xmp, chunk, jpeg, page, png, png_xmp, profile, raf, resource, tiff, webp, with_record
+from made_blocks import ASCII, LONG, UNDEFINED, segment
+from made_boxes import SMALL_J2C, XMP_UUID, PICTURE, Item, box, cr3, heif, item_exif, jp2, jxl, mime
+from made_files import (
+    A,
+    B,
+    K,
+    L,
+    SIX,
+    T,
+    app1,
+    app1_xmp,
+    chunk,
+    jpeg,
+    mpf,
+    page,
+    png,
+    png_xmp,
+    profile,
+    raf,
+    resource,
+    tiff,
+    webp,
+    with_record,
+)
 from made_more_files import application, gif, gif_xmp, psd
-from made_raw import inner
+from made_raw import LENGTH, STRIP, SUB_IFDS, inner
 from studio import needs
+from test_bigtiff import big
 
 from exifnorm_pictures.model.results import Result
 
@@ -20,6 +43,13 @@ IPTC_UUID = bytes.fromhex("33c7a4d2b81d4723a0baf1a3e097ad38")
 COMMENT = segment(0xFE, b"a comment of some length")
 TWICE = "c.jpg"  # which has two blocks of a kind, of which a cut can leave the first one
 PIXELS = box(b"jxlc", b"\xff\x0a" + bytes(20))
+
+
+def before_pixels(make):
+    """A file that ends with its pixels, whose offset `make` takes."""
+    return make(len(make(0))) + b"\x55" * 60
+
+
 PAGE = page((0x013B, ASCII, b"Anna\0"), (0x83BB, UNDEFINED, K), (0x02BC, 1, T))
 # Whole files by their names, and the bytes of each block that their format can have: a cut before the last of them loses the block
 FILES = {
@@ -43,6 +73,20 @@ FILES = {
         {"exif": A, "iptc": K, "xmp": T},
     ),
     "a.raf": (raf(inner(b"Anna"), pixels=b"\x77" * 50), {"exif": b"Anna\0", "xmp": b"<?xpacket end='w'?>"}),
+    "b.tif": (before_pixels(lambda at: tiff(page((0x02BC, 1, T), (STRIP, LONG, at), (LENGTH, LONG, 60)))), {"xmp": T}),
+    "a.dng": (
+        before_pixels(
+            lambda at: tiff(page((0xC612, 1, b"\1\4\0\0"), (0x02BC, 1, T), (SUB_IFDS, LONG, page((STRIP, LONG, at), (LENGTH, LONG, 60)))))
+        ),
+        {"xmp": T},
+    ),
+    "big.tif": (before_pixels(lambda at: big([(0x02BC, 1, T), (STRIP, LONG, at), (LENGTH, LONG, 60)])), {"xmp": T}),
+    "b.psd": (psd(resource(0x0424, T), compression=1, rows=[b"\2abc"] * 9), {"xmp": T}),
+    "a.avif": (heif(Item(b"Exif", item_exif(A), describes=(2,)), PICTURE._replace(kind=b"av01"), primary=2, brand=b"avif"), {"exif": A}),
+    "c.jxl": (jxl(box(b"Exif", bytes(4) + A), box(b"jxlp", bytes(24)), box(b"jxlp", b"\x80\0\0\1", bytes(20)), pixels=b""), {"exif": A}),
+    "b.jp2": (jp2(box(b"uuid", XMP_UUID, T), pixels=b"\0\0\0\0jp2c" + SMALL_J2C), {"xmp": T}),
+    "a.j2c": (SMALL_J2C, {}),
+    "a.mpo": (mpf(app1(A), jpeg(app1(B))), {"exif": app1(A)}),
 }
 HEADERS = {"b.jxl": 8}  # bytes of a box's header after a whole picture: a cut in one leaves a whole file and a trailer of some bytes
 
@@ -60,6 +104,8 @@ def cuts(name):
 def looks_whole(name, place):
     """Whether what is left is a whole picture, after which nothing is known to be missing."""
     octets, at = FILES[name][0], 0
+    if name == "a.mpo" and 0 <= place - octets.index(jpeg(app1(B))) <= 3:
+        return True
     while name in HEADERS and at < len(octets):
         if at > 50 and at <= place < at + HEADERS[name]:
             return True
@@ -95,7 +141,9 @@ def archives(session_folder):
         (top / "before" / case).write_bytes(octets)
         (top / "after" / case).write_bytes(octets[:place])
     for side in ("before", "after"):
-        main._run(["index", str(top / side), "--catalogue", str(top / f"{side}.catalogue"), "--quiet"])
+        with contextlib.redirect_stdout(io.StringIO()) as printed:
+            main._run(["index", str(top / side), "--catalogue", str(top / f"{side}.catalogue")])
+        (top / f"{side}.txt").write_text(printed.getvalue())
     return top
 
 
@@ -121,8 +169,8 @@ def check(checks, case, found, side):
         checks.equal(f"{case}: {kind}", kinds[kind] in OPEN, True)
     gone = [it["name"] for it in found["fields"] if it[side] is None]
     checks.equal(f"{case}: fields that are said to be missing", gone, [])
-    if kinds and lost(name, place):
-        checks.equal(f"{case}: the cut is named once in {found['note']}", found["note"].count("the file ends "), 1)
+    checks.equal(f"{case}: the cut is named once in {found['note']}", found["note"].count("the file ends "), 1)
+    checks.equal(f"{case}: damage", [word for word, fault in found["damage"].items() if (fault or "").startswith("the file ends ")], [side])
 
 
 @needs("exiftool", "exiv2")
@@ -148,7 +196,7 @@ def test_changed(asked, checks, side):
 def test_compare(archives, checks):
     """Two pictures by Python's call: nobody knows whether they are the same, and what is missing is no difference."""
     for number, (case, (name, place)) in enumerate(CASES.items()):
-        if not name.endswith(".jpg") and number % 8:  # for each of the others ExifTool starts three times
+        if not name.endswith(".jpg") and number % 16:  # for each of the others ExifTool starts three times
             continue
         sides = [archives / side / case for side in ("before", "after")]
         try:
@@ -206,3 +254,75 @@ def test_same(asked, folder, called):
     called("index", str(folder), "--catalogue", "cut.catalogue", "--quiet")
     status, text, _ = called("same", "--catalogue", "cut.catalogue")
     assert status == 0 and "Exif is the same" in text and "IPTC and XMP are not known" in text and "no IPTC" not in text
+
+
+def test_index_list_and_report(archives, asked, checks, folder):
+    """Each names each cut, and counts them all."""
+    texts = (archives / "after.txt").read_text()
+    listed, in_list = asked("list", "after.catalogue", "--json")[1], asked("list", "after.catalogue")[1]
+    objects = {it["path"].rpartition("/")[2]: it["damage"] for it in map(json.loads, listed) if "path" in it}
+    (folder / "rules").write_text("every picture needs credit\n")
+    broken = [json.loads(it) for it in asked("check", str(folder / "rules"), "after.catalogue", "--json")[1]]
+    in_check = asked("check", str(folder / "rules"), "after.catalogue")[1]
+    report = [json.loads(it) for it in asked("report", "after.catalogue", "--json", "--no-look", "--html", str(folder / "page.html"))[1]]
+    page = (folder / "page.html").read_text()
+    for case in CASES:
+        checks.equal(f"{case}: index", sum(it.count("the file ends ") for it in texts.splitlines() if f"/{case}: " in it), 1)
+        checks.equal(f"{case}: list", (objects[case] or "")[:14], "the file ends ")
+        checks.equal(f"{case}: list, text", [it.count("the file ends ") for it in in_list if f"/{case}" in it], [1])
+        checks.equal(
+            f"{case}: check", [it["damage"] for it in broken if it.get("path", "").endswith(f"/{case}")] in ([], [objects[case]]), True
+        )
+        checks.equal(f"{case}: check, text", {it.count("the file ends ") for it in in_check if f"/{case}: " in it} <= {1}, True)
+        named = [it["damaged"] for it in report if "damaged" in it and it["path"].endswith(f"/{case}")]
+        checks.equal(f"{case}: report", named, [objects[case]])
+    assert len(in_check) > 5 and f"{len(CASES):,} cut off or damaged: " in texts and f"<b>{len(CASES)}</b> cut off or damaged" in page
+    assert f", {len(CASES)} of them cut off or damaged" in in_list[-1] and page.count("the file ends ") >= len(CASES)
+
+
+LAST = {name: octets[:-1] for name, (octets, _) in FILES.items() if not looks_whole(name, len(octets) - 1)}
+
+
+SOME = {name: LAST[name] for name in ("a.jpg", "a.mpo", "a.png", "a.psd", "a.cr3", "a.j2c", "b.tif", "a.tif")}
+
+
+@needs("exiftool", "exiv2")
+def test_commands_about_a_file(folder, called, checks):
+    """Files without their last byte: each command that is about files says what is wrong with each of them."""
+    for name, octets in SOME.items():
+        (folder / name).write_bytes(octets)
+    for command in ("explain", "show", "captions", "conflicts"):
+        status, printed, _ = called(command, *SOME)
+        texts = printed.split("\n== ") if command != "conflicts" else printed.splitlines()
+        rows = list(csv.DictReader(io.StringIO(called(command, *SOME, "--csv")[1]))) if command != "explain" else []
+        found = [json.loads(it) for it in called(command, *SOME, "--json")[1].splitlines()]
+        damages = {it["path"]: it["damage"] for it in found if "damage" in it}
+        assert status == 2
+        for name in SOME:
+            checks.equal(f"{command} {name}", any(name in it.splitlines()[0] and "the file ends " in it for it in texts), True)
+            checks.equal(f"{command} {name}, an object", (damages[name] or "").startswith("the file ends "), True)
+            named = [name for row in rows if row["picture"] == name and "the file ends " in "".join(filter(None, row.values()))]
+            checks.equal(f"{command} {name}, a table", named, [name] * bool(rows))
+    (folder / "copies").mkdir()
+    (folder / "names").write_text("\n".join(SOME) + "\n")
+    status, printed, _ = called("mend", "--files-from", "names", "copies")
+    assert status == 2
+    for name in SOME:
+        checks.equal(f"mend {name}", sum("the file ends " in it for it in printed.splitlines() if it.startswith(f"{name}: ")), 1)
+
+
+@needs("exiftool", "exiv2")
+def test_nights(folder, called):
+    """A file that loses its last byte is damaged in the morning, and so it is by `verify`."""
+    (folder / "p").mkdir()
+    for name in LAST:
+        (folder / "p" / name).write_bytes(FILES[name][0])
+    called("nightly", "p", "--catalogue", "c", "--pixels")
+    for name, octets in LAST.items():
+        (folder / "p" / name).write_bytes(octets)
+    status, printed, _ = called("verify", "p", "--catalogue", "c", "--json")
+    states = {it["path"].rpartition("/")[2]: it["state"] for it in map(json.loads, printed.splitlines()) if "path" in it}
+    assert status == 1 and states == dict.fromkeys(LAST, "cut off")
+    status, printed, _ = called("nightly", "p", "--catalogue", "c", "--json")
+    news = {it["news"]: it["count"] for it in map(json.loads, printed.splitlines()) if "news" in it}
+    assert status == 1 and news == {"damaged": len(LAST)}, news

@@ -132,7 +132,11 @@ def test_one_changed_byte(tmp_path):
 
 
 PAIRS = {
-    "in another order": (jxl(E, X), jxl(box(b"xml ", T_OTHERWISE), box(b"Exif", item_exif(turned(A))), pixels=box(b"jxlp", b"x")), SAME),
+    "in another order": (
+        jxl(E, X),
+        jxl(box(b"xml ", T_OTHERWISE), box(b"Exif", item_exif(turned(A))), pixels=box(b"jxlp", b"\x80\0\0\0x")),
+        SAME,
+    ),
     "beside a JPEG": (jxl(E, X), jpeg(app1(A), app1_xmp(T)), SAME),
     "bare": (BARE, jxl(), SAME),
     "other Exif": (jxl(E), jxl(box(b"Exif", item_exif(B))), DIFFERENT),

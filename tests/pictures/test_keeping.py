@@ -19,13 +19,13 @@ COMMENT = jpeg(app1(A), segment(0xFE, b"scanned by Anna"))
 PNG_A, PNG_B = png(chunk(b"eXIf", A)), png(chunk(b"eXIf", A), chunk(b"tEXt", b"Comment\0by Anna"))
 PNG_C, PNG_D = png(chunk(b"eXIf", A), chunk(b"iCCP", b"x\0\0abc")), png(chunk(b"eXIf", A), chunk(b"tIME", b"1234567"))
 NOT_KNOWN = "whether its picture is that of another one isn't known: index --pixels finds out"
-DAMAGED = "damaged: the file ends inside its picture"
+DAMAGED = "damaged: the file ends before the end mark of its picture"
 ALONE = "no other one has the same picture"
 BESIDE = "one with the same picture has another colour profile or comment"
 
 # Files by name, and whether each stays, without the digests of pictures and with them
 CASES = {
-    "a cut copy comes first": ({"copy": CUT, "vase": MASTER}, (NOT_KNOWN, NOT_KNOWN), (DAMAGED, ALONE)),
+    "a cut copy comes first": ({"copy": CUT, "vase": MASTER}, (DAMAGED, NOT_KNOWN), (DAMAGED, ALONE)),
     "a smaller copy": ({"a": SMALLER, "m": MASTER}, (NOT_KNOWN, NOT_KNOWN), (ALONE, ALONE)),
     "equal files": ({"a": MASTER, "b": MASTER}, (True, False), (True, False)),
     "equal files and a smaller one": ({"a": SMALLER, "b": MASTER, "c": MASTER}, (NOT_KNOWN, True, False), (ALONE, True, False)),

@@ -291,16 +291,17 @@ def test_since(folder, called, asked, monkeypatch):
 
 
 def test_damage(folder, called, asked):
-    """It is known of files whose pictures were read, by how they were made; nobody looks into a GIF, nor without --pixels."""
+    """It is known of files whose pictures were read, by how they were made, and of those that are cut off; nobody looks into a GIF."""
     texts = [("title", "A")]
     put(folder / "p", {"whole.jpg": picture(texts), "cut.jpg": picture(texts)[:-20], "other.gif": gif(), "d.txt": b"no picture"})
     called("index", "p", "--catalogue", "plain", "--quiet")
-    assert called("list", "plain", "--with", "damage")[:2] == (2, "0 of 3 pictures; 3 more may fit" + UNREAD)
+    status, printed, _ = called("list", "plain", "--with", "damage", "--columns", "damage")
+    assert (status, printed.splitlines()[-1] + "\n") == (2, "1 of 3 pictures, 1 of them cut off or damaged; 2 more may fit" + UNREAD)
     called("index", "p", "--catalogue", "c", "--pixels", "--quiet")
     found, status, last = asked("--with", "damage")
     assert (found, status, last["not_known"]) == (["cut.jpg"], 2, 1)
     assert asked("--without", "damage")[:2] == (["whole.jpg"], 2)
-    assert asked("--where", "title = A and not damage has inside")[0] == ["whole.jpg"]
+    assert asked("--where", "title = A and not damage has 'end mark'")[0] == ["whole.jpg"]
     status, printed, _ = called("list", "p", "--with", "damage", "-0")
     assert (status, printed) == (2, f"{folder}/p/cut.jpg\0")
 

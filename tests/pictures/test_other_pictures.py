@@ -17,9 +17,9 @@ CASES = {
     "captioned": (MASTER, EDITED, "different", "different", "the same", 1, 1),
     "replaced": (MASTER, REPLACED, "same", "other picture, the same metadata", "other", 0, 1),
     "replaced and captioned": (MASTER, BOTH, "different", "different", "other", 1, 1),
-    "cut": (MASTER, CUT, "same", "damaged", "damaged", 0, 2),
-    "mended": (CUT, MASTER, "same", "damaged before", "damaged before", 0, 2),
-    "cut and captioned": (MASTER, EDITED[:-20], "different", "damaged and different", "damaged", 1, 1),
+    "cut": (MASTER, CUT, "damaged", "damaged", "damaged", 2, 2),
+    "mended": (CUT, MASTER, "damaged before", "damaged before", "damaged before", 2, 2),
+    "cut and captioned": (MASTER, EDITED[:-20], "damaged and different", "damaged and different", "damaged", 1, 1),
     "cut before too": (CUT, CUT, "same", "same", "damaged before and after", 0, 0),
     "another format": (gif(), gif() + b"", "same", "same", "the same", 0, 0),
 }
@@ -30,13 +30,19 @@ def test_changed(name, folder, called):
     before, after, without, result, coded, *statuses = CASES[name]
     put(folder / "a", {"x.jpg": before})
     put(folder / "b", {"x.jpg": after})
-    for words, expected, picture, status in (([], without, "not compared", statuses[0]), (["--pixels"], result, coded, statuses[1])):
+    is_damaged = coded.startswith("damaged")  # which is known without --pixels, too
+    for words, expected, picture, status in (
+        ([], without, coded if is_damaged else "not compared", statuses[0]),
+        (["--pixels"], result, coded, statuses[1]),
+    ):
         found, printed, _ = called("changed", "a", "b", "--all", "--json", "--no-exiftool", *words)
         (it, summary) = map(json.loads, printed.splitlines())
         assert (found, it["result"], it["coded_picture"]) == (status, expected, picture), it["note"]
         assert summary["coded_pictures"] == {picture: 1}
         text = called("changed", "a", "b", "--no-exiftool", *words)[1]
-        assert ("Only metadata was compared: --pixels" in text) == (not words) and (f"1 {coded}." in text) == bool(words), text
+        assert ("Only metadata was compared: --pixels" in text) == (not words and not is_damaged) and (f"1 {coded}." in text) == bool(
+            words or is_damaged
+        ), text
         assert ("none changed" in text) == (status == 0)
     found, printed, _ = called("compare", "a/x.jpg", "b/x.jpg", "--json", "--no-exiftool")
     it = json.loads(printed)
@@ -54,7 +60,11 @@ def test_what_the_report_says(folder, called):
         called("report", "--catalogue", after, "--since", before, "--html", f"{after}.html")
     plain, page = ((folder / it).read_text(encoding="utf-8") for it in ("b.html", "d.html"))
     assert "Only metadata was compared: index --pixels" in plain and "<b>0</b> changed since" in plain
-    assert "<b>1</b> changed since" in page and "1 the same, 1 other, 1 damaged" in page and "the file ends inside its picture" in page
+    assert (
+        "<b>1</b> changed since" in page
+        and "1 the same, 1 other, 1 damaged" in page
+        and all("ends before the end mark" in it for it in (plain, page))
+    )
 
 
 def test_only_some_fields(folder, called):
@@ -71,7 +81,7 @@ def test_words_for_two_pictures(folder, called):
         {"a.jpg": MASTER, "b.jpg": REPLACED, "c.jpg": CUT, "d.gif": gif(), "e.gif": gif(b"other"), "f.jpg": SMALL_JPEG, "g.jpg": OTHER},
     )
     assert called("compare", "a.jpg", "b.jpg")[1].startswith("The same metadata, and another picture.")
-    assert "c.jpg is damaged: the file ends inside its picture." in called("compare", "a.jpg", "c.jpg")[1]
+    assert "c.jpg is damaged: the file ends before the end mark of its picture." in called("compare", "a.jpg", "c.jpg")[1]
     assert called("compare", "c.jpg", "a.jpg")[1].count("damaged") == 2
     status, printed, _ = called("compare", "f.jpg", "g.jpg")  # neither has metadata
     assert status == 1 and "another picture" in printed

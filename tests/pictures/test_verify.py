@@ -64,7 +64,7 @@ HAPPENS = {
     "written again": (lambda it: written(it, jpeg(app1(A + b"\0\0"))), ("written again", None), 0),
     "replaced": (lambda it: written(it, OTHER), ("other picture", None), 1),
     "rotted": (lambda it: written(it, OTHER, True), ("DAMAGED", SAME_TIME), 1),
-    "cut": (lambda it: written(it, PICTURE[:-20]), ("cut off", "the file ends inside its picture"), 1),
+    "cut": (lambda it: written(it, PICTURE[:-20]), ("cut off", "the file ends before the end mark of its picture"), 1),
     "empty": (lambda it: written(it, b""), ("other file", None), 1),
     "gone": (lambda it: it.unlink(), ("missing", None), 1),
     "moved": (lambda it: it.rename(it.parent / "z.jpg"), ("moved", None), 0),

@@ -17,7 +17,7 @@ from ..fields.listing import LONGEST_TEXT
 from ..fields.questions import All, Any, Condition, Not, Question, With, fields_in, labels_of
 from ..model.columns import Damaged
 from ..model.problems import NOT_THERE, Problem
-from ..model.records import has
+from ..model.records import has, has_short
 from .kept_texts import Report, make_ready, say_nothing
 from .store import HEAD, NOT_WHOLE, Catalogue
 
@@ -167,10 +167,12 @@ class Fitting(NamedTuple):
 
     id: int
     path: bytes
+    damage: str  # where its file is cut off or damaged; empty: nowhere, or not known
 
 
-def _fitting(row: Tuple[int, bytes]) -> Fitting:
+def _fitting(row: Tuple[int, bytes, str]) -> Fitting:
     has(bytes, row[1])
+    has_short(str, row[2])
     return Fitting(*row)
 
 
@@ -249,7 +251,7 @@ class Answer:
 
     def pictures(self) -> Iterator[Fitting]:
         """The pictures that fit, by path."""
-        query = f"SELECT p.id, p.path FROM pictures p WHERE {self._sure.sql} ORDER BY p.path"
+        query = f"SELECT p.id, p.path, p.damage FROM pictures p WHERE {self._sure.sql} ORDER BY p.path"
         yield from self._catalogue.rows(query, self._sure.values, _fitting)
 
     def may_have(self, number: int, label: str) -> bool:

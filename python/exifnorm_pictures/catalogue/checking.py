@@ -7,7 +7,7 @@ import unicodedata
 from typing import Iterator, List, NamedTuple, Optional, Sequence, Tuple
 
 from ..fields.rules import AFTER, BEFORE, LENGTH, LIKE, NEEDS, NEVER, VALUES, Rule
-from ..model.records import has
+from ..model.records import has, has_short
 from .asking import IN_SCOPE, has_text, unread
 from .kept_texts import Report, make_ready, say_nothing
 from .store import Catalogue, root_of_row
@@ -23,6 +23,7 @@ class Broken(NamedTuple):
     number: int  # of the rule
     label: str
     text: Optional[str]  # the one that the rule doesn't allow; None: there is none, and it needs one
+    damage: str = ""  # where the file is cut off or damaged
 
 
 class Checked:
@@ -83,7 +84,8 @@ class Checked:
     def broken(self, by_picture: bool = False) -> Iterator[Broken]:
         """What breaks a rule, by rules or by pictures."""
         order = "path, number, rowid" if by_picture else "number, path, rowid"
-        yield from self._catalogue.rows(f"SELECT path, number, label, text FROM temp.broken ORDER BY {order}", (), _broken)
+        of_file = "(SELECT damage FROM pictures p WHERE p.path = b.path)"
+        yield from self._catalogue.rows(f"SELECT path, number, label, text, {of_file} FROM temp.broken b ORDER BY {order}", (), _broken)
 
     def rules_broken(self) -> int:
         """How many rules are broken."""
@@ -128,6 +130,7 @@ def _below(path: bytes, root: bytes) -> str:
     return os.fsdecode(path[len(root) :].lstrip(b"/") if path.startswith(root.rstrip(b"/") + b"/") else os.path.basename(path))
 
 
-def _broken(row: Tuple[bytes, int, str, Optional[str]]) -> Broken:
+def _broken(row: Tuple[bytes, int, str, Optional[str], str]) -> Broken:
     has(bytes, row[0])
+    has_short(str, row[4])
     return Broken(*row)

@@ -16,7 +16,7 @@ from .each_block import status_of_reading
 from .exit_codes import SUCCESS
 from .labelled import is_of_many, members, not_read, origins, pictures, refused, together
 from .names import is_list
-from .not_read import OF_DAMAGED, no_block, unread
+from .not_read import OF_DAMAGED, no_block, picture_cut, unread
 from .objects import print_object
 from .output import print_line, table_of
 
@@ -49,7 +49,7 @@ def _row(reading: Reading) -> List[Cell]:
     known = conflicts(reading.texts)
     texts = [best([one for one in reading.texts if one.label == word], known) for word in LABEL_WORDS]
     problem = [f"{reading.problem}: {reading.detail}"] if reading.problem else []
-    rest = "; ".join([*problem, *refused(reading), *unread(reading, not_read(reading))])
+    rest = "; ".join([*problem, *refused(reading), *unread(reading, not_read(reading)), *picture_cut(reading)])
     return [reading.name, *texts, "; ".join(own_texts(reading.texts)), "; ".join(one.label for one in known if one.is_real), rest]
 
 
@@ -72,6 +72,7 @@ def _lines(reading: Reading) -> Iterator[str]:
         yield "no title, caption, name, keyword or rights" + OF_DAMAGED * bool(damage(reading.not_read))
     if not_read(reading):
         yield f"not wholly read: {', '.join(unread(reading, not_read(reading)))}"
+    yield from picture_cut(reading)
 
 
 def _padded(word: str) -> str:

@@ -5,7 +5,7 @@ from __future__ import annotations
 import argparse
 import os
 from itertools import groupby
-from typing import TYPE_CHECKING, Dict, List
+from typing import TYPE_CHECKING, Dict, List, Tuple
 
 from ..catalogue.checking import Broken, Checked
 from ..fields.rules import MOST_WORDS, Rule, WrongRules, rules_of
@@ -32,7 +32,7 @@ def run(arguments: argparse.Namespace) -> int:
     rules = rules_of_file(arguments.rules)
     with catalogue_for_questions(source, arguments) as catalogue, catalogue.reading():
         checked = Checked(catalogue, rules, Preparing(arguments).report)
-        table = table_of(arguments, ["picture", "line", "rule", "label", "text"])
+        table = table_of(arguments, ["picture", "line", "rule", "label", "text", "damage"])
         if table:
             _print_table(arguments, table, checked)
         elif arguments.json:
@@ -74,33 +74,45 @@ def _words_of(name: str) -> List[str]:
     return [line for line in lines if line and not line.startswith("#")]
 
 
+def _file_of(broken: Broken) -> Tuple[bytes, str]:
+    """The path of a picture, and where its file is cut off or damaged, for people."""
+    return broken.path, f"   (damaged: {broken.damage})" if broken.damage else ""
+
+
 def _what(broken: Broken) -> str:
     return f"no {broken.label}" if broken.text is None else f'{broken.label} "{escaped(broken.text)}"'
 
 
 def _print_lines(arguments: argparse.Namespace, checked: Checked) -> None:
     if arguments.by_picture:
-        for path, of_picture in groupby(checked.broken(True), lambda broken: broken.path):
-            print_line(shown_path(path))
+        for (path, damage), of_picture in groupby(checked.broken(True), _file_of):
+            print_line(shown_path(path) + damage)
             for broken in of_picture:
                 rule = checked.rules[broken.number]
                 print_line(f"  {_what(broken)}   <- line {rule.line}: {rule.text}")
         return
     for number, of_rule in groupby(checked.broken(), lambda broken: broken.number):
         print_line(f"line {checked.rules[number].line}: {checked.rules[number].text}")
-        for path, of_picture in groupby(of_rule, lambda broken: broken.path):
-            print_line(f"  {shown_path(path)}: {', '.join(map(_what, of_picture))}")
+        for (path, damage), of_picture in groupby(of_rule, _file_of):
+            print_line(f"  {shown_path(path)}: {', '.join(map(_what, of_picture))}{damage}")
 
 
 def _print_table(arguments: argparse.Namespace, table: Table, checked: Checked) -> None:
     for broken in checked.broken(arguments.by_picture):
         rule = checked.rules[broken.number]
-        table.row(broken.path, rule.line, rule.text, broken.label, broken.text)
+        table.row(broken.path, rule.line, rule.text, broken.label, broken.text, broken.damage)
 
 
 def _members(checked: Checked, broken: Broken) -> Members:
     rule = checked.rules[broken.number]
-    return {**path_members(broken.path), "line": rule.line, "rule": rule.text, "label": broken.label, "text": broken.text}
+    return {
+        **path_members(broken.path),
+        "line": rule.line,
+        "rule": rule.text,
+        "label": broken.label,
+        "text": broken.text,
+        "damage": broken.damage or None,
+    }
 
 
 def _print_end(arguments: argparse.Namespace, checked: Checked) -> None:

@@ -17,7 +17,7 @@ from .captions import text_members
 from .exit_codes import DIFFERENCE, SUCCESS, UNKNOWN
 from .labelled import members, origins, pictures, refused, together
 from .objects import print_object
-from .not_read import unread
+from .not_read import picture_cut, unread
 from .output import print_line, table_of
 
 if TYPE_CHECKING:
@@ -52,7 +52,7 @@ def run(arguments: argparse.Namespace) -> int:
         if table:
             _print_rows(table, reading, [one for one in counted if one.is_real or arguments.all])
         elif arguments.json:
-            if counted or reading.is_damaged or arguments.files_from:  # a program may wait for the answer to its name
+            if counted or reading.is_damaged or reading.damage or arguments.files_from:  # a program may wait for the answer to its name
                 print_object("conflicts", "picture", _members(reading, counted))
         else:
             _print(reading, [one for one in counted if one.is_real or arguments.all])
@@ -93,7 +93,7 @@ def _print_rows(table: Table, reading: Reading, conflicts: Sequence[Conflict]) -
         table.row(reading.name, conflict.label, conflict.kind, conflict.detail, *_texts(conflict))
     if reading.problem:
         table.row(reading.name, None, "not read", f"{reading.problem}: {reading.detail}", *(None for _ in STANDARDS))
-    for what in (*refused(reading), *([_unread(reading)] if damage(reading.not_read) else [])):
+    for what in (*refused(reading), *([_unread(reading)] if damage(reading.not_read) else []), *picture_cut(reading)):
         table.row(reading.name, None, "not read", what, *(None for _ in STANDARDS))
 
 
@@ -152,6 +152,8 @@ def _print(reading: Reading, conflicts: Sequence[Conflict]) -> None:
         print_line(f"{shown_path(reading.name)}: {reading.problem}: {reading.detail}")
     if damage(reading.not_read):
         print_line(f"{shown_path(reading.name)}: not wholly read: {_unread(reading)}")
+    for what in picture_cut(reading):
+        print_line(f"{shown_path(reading.name)}: {what}")
 
 
 def _summary(counts: _Counts, every: bool) -> Iterator[str]:

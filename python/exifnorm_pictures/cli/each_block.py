@@ -13,16 +13,16 @@ from ..model.records import BlockRecord
 from ..model.texts import escaped, shown_path
 from .exit_codes import SUCCESS, UNKNOWN
 from .names import each_name, is_list
-from .not_read import no_block, unread
+from .not_read import no_block, picture_cut, unread
 from .output import print_line
 
 
 Describe = Callable[[bytes, FoundBlock, BlockRecord], List[str]]  # of a picture by its name
 
 
-def status_of_reading(reading: Reading) -> int:
-    """The status of a command that prints the blocks or texts of a picture."""
-    return UNKNOWN if reading.is_damaged else SUCCESS
+def status_of_reading(reading: Reading, is_about_file: bool = False) -> int:
+    """The status of a command that prints the blocks or texts of a picture, or what is wrong with its file."""
+    return UNKNOWN if reading.is_damaged or (is_about_file and reading.damage) else SUCCESS
 
 
 def each_picture(arguments: argparse.Namespace) -> Iterator[Reading]:
@@ -33,25 +33,21 @@ def each_picture(arguments: argparse.Namespace) -> Iterator[Reading]:
     )
 
 
-def _nothing(_: Reading) -> List[str]:
-    return []
-
-
 def each_block(
     arguments: argparse.Namespace,
     describer: Callable[[], Describe],
     refused_too: bool = False,
-    of_rest: Callable[[Reading], List[str]] = _nothing,
+    of_rest: Callable[[Reading], List[str]] = picture_cut,
 ) -> int:
-    """Prints something about each block of each picture, for which `describer` is called once, and what `of_rest` says of one that was not
-    wholly read. Returns the greatest status."""
+    """Prints something about each block of each picture, for which `describer` is called once, and what `of_rest` says of one that is damaged. Returns the greatest status."""
     worst = SUCCESS
     has_heads = is_list(arguments, arguments.pictures)
     for reading in each_picture(arguments):
-        worst = max(worst, status_of_reading(reading))
+        worst = max(worst, status_of_reading(reading, refused_too))
         _print(arguments, reading, [f"== {shown_path(reading.name)}"] if has_heads else [], describer(), refused_too)
+        _print_lines(of_rest(reading))
         if reading.not_read and not reading.problem:
-            _print_lines([*of_rest(reading), f"not wholly read: {', '.join(unread(reading, reading.not_read))}"])
+            _print_lines([f"not wholly read: {', '.join(unread(reading, reading.not_read))}"])
     return worst
 
 

@@ -85,11 +85,11 @@ def _print_objects(arguments: argparse.Namespace, tried: Try) -> int:
     """An object for each block, and one for a picture that wasn't read wholly or has no block."""
     worst = SUCCESS
     for reading in each_picture(arguments):
-        worst = max(worst, status_of_reading(reading))
+        worst = max(worst, status_of_reading(reading, True))
         for block in reading.blocks:
             mended = None if block.is_accepted else tried(reading.name)
             print_object("explain", "block", {**path_members(reading.name), **_block_members(reading.found(block), block, mended)})
-        if reading.problem or reading.not_read or not reading.blocks:
+        if reading.problem or reading.not_read or reading.damage or not reading.blocks:
             print_object("explain", "picture", _picture_members(reading))
     return worst
 

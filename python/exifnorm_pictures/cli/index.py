@@ -70,13 +70,14 @@ def run(arguments: argparse.Namespace) -> int:
             options.look = cluster.looker(arguments.scheduler, arguments.elsewhere, names)
         counts = index(options, catalogue)
         parts = [] if arguments.quiet or arguments.json else _parts(catalogue)
+        damaged = _damaged(catalogue) if arguments.json else 0
         steps = [] if arguments.quiet or arguments.json else list(_next_steps(catalogue, arguments.catalogue, excluded.known))
     if excluded.count:
         counts["excluded"] = excluded.count
     for pattern in excluded.unused():
         signals.say(f"exifnorm-pictures: note: --exclude {pattern} fits no file and no folder")
     if arguments.json:
-        objects.print_object("index", "summary", {"counts": dict(counts)})
+        objects.print_object("index", "summary", {"counts": dict(counts), "damaged": damaged})
     else:
         for line in [*parts, _counted(counts), *steps]:
             print_line(line)
@@ -117,10 +118,18 @@ def _next_steps(catalogue: Catalogue, name: str, excluded: int) -> Iterator[str]
     refused = next(catalogue.rows("SELECT count(*) FROM pictures WHERE problem IS NULL AND (exif IS NULL OR iptc IS NULL OR xmp IS NULL)"))[
         0
     ]
+    damaged = _damaged(catalogue)
+    if damaged:
+        yield f"{damaged:,} cut off or damaged: exifnorm-pictures report --catalogue {word} --html report.html"
     if refused:
         yield f"{refused:,} refused or unreadable: exifnorm-pictures report --catalogue {word} --html report.html"
     if excluded:
         yield f"{excluded:,} excluded, and in the catalogue from an earlier run: exifnorm-pictures forget FOLDER --catalogue {word}"
+
+
+def _damaged(catalogue: Catalogue) -> int:
+    """How many files are cut off or damaged, as far as that was seen."""
+    return int(next(catalogue.rows("SELECT count(*) FROM pictures WHERE damage != ''"))[0])
 
 
 def _parts(catalogue: Catalogue) -> List[str]:

@@ -12,7 +12,7 @@ from ..fields.block_fields import with_fields
 from ..files import opening
 from ..judge.reading import Reading
 from ..model import steps
-from ..model.found import Blocks, NotRead
+from ..model.found import Blocks, NotRead, cut
 from ..model.problems import NOT_THERE, Problem
 from ..model.texts import Members
 from ..model.sides import REACHED
@@ -64,7 +64,8 @@ def _in_catalogue(name: bytes) -> Iterator[Reading]:
             parts = catalogue.not_read_of(picture) + [
                 NotRead(f"the {word}, which is too long for the catalogue", "") for word in sorted(texts.missing)
             ]
-            read = Blocks(problem=picture.problem, detail=picture.detail, type=picture.type, not_read=parts)
+            fault = "" if cut(part.what for part in parts) else picture.damage
+            read = Blocks(problem=picture.problem, detail=picture.detail, type=picture.type, not_read=parts, damage=fault)
             yield Reading(picture.path, read, [block for block, _ in blocks], texts.texts)
 
 

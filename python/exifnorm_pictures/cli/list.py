@@ -103,27 +103,29 @@ def _since(text: str) -> str:
 
 def _print_pictures(arguments: argparse.Namespace, answer: Answer, columns: Sequence[str]) -> None:
     table = table_of(arguments, ["picture", *listed_texts.heads(columns)])
-    listed = 0
+    listed, damaged = 0, 0
     if arguments.geojson:
         print('{"type": "FeatureCollection", "features": [')
     for picture in answer.pictures():
         listed += 1
+        damaged += bool(picture.damage)
         texts = answer.texts_of(picture.id, columns) if columns else []
         if table:
             table.row(picture.path, *listed_texts.cells(columns, texts))
         elif arguments.json:
             captions = {label: list(of_label) for label, of_label in zip(columns, texts)}
-            print_object("list", "picture", {**path_members(picture.path), "texts": captions})
+            print_object("list", "picture", {**path_members(picture.path), "texts": captions, "damage": picture.damage or None})
         elif arguments.geojson:
             print("," * (listed > 1) + json.dumps(_feature(picture, columns, texts, answer)))
         elif arguments.null:
             sys.stdout.buffer.write(picture.path + b"\0")
         else:
-            for line in [shown_path(picture.path), *listed_texts.lines(columns, texts, "  ")]:
+            fault = f"   (damaged: {picture.damage})" if picture.damage and DAMAGE not in columns else ""
+            for line in [shown_path(picture.path) + fault, *listed_texts.lines(columns, texts, "  ")]:
                 print_line(line)
     if arguments.geojson:
         print("]}")
-    _print_end(arguments, answer, listed)
+    _print_end(arguments, answer, listed, damaged)
 
 
 def _feature(picture: Fitting, columns: Sequence[str], texts: Sequence[Tuple[str, ...]], answer: Answer) -> Members:
@@ -134,18 +136,18 @@ def _feature(picture: Fitting, columns: Sequence[str], texts: Sequence[Tuple[str
     return {"type": "Feature", "geometry": geometry, "properties": properties}
 
 
-def _print_end(arguments: argparse.Namespace, answer: Answer, listed: int) -> None:
-    """How many pictures were listed, and of how many that isn't known."""
+def _print_end(arguments: argparse.Namespace, answer: Answer, listed: int, damaged: int) -> None:
+    """How many pictures were listed, how many of them are damaged, and of how many more it isn't known whether they fit."""
     if arguments.json:
-        numbers: Members = {"pictures": answer.count(), "listed": listed, "not_known": answer.not_known()}
+        numbers: Members = {"pictures": answer.count(), "listed": listed, "not_known": answer.not_known(), "damaged": damaged}
         print_object("list", "summary", numbers)
         return
-    end = f"{listed:,} of {_pictures(answer.count())}{_of_unknown(answer)}"
+    end = f"{listed:,} of {_pictures(answer.count())}" + f", {damaged:,} of them cut off or damaged" * bool(damaged) + _of_unknown(answer)
     if not (arguments.csv or arguments.null or arguments.geojson):
         print_line(end)
         if arguments.since and listed:
             print_line(_WHAT_CHANGED)
-    elif answer.not_known():
+    elif answer.not_known() or damaged:
         signals.say(f"exifnorm-pictures: note: {end}")
 
 

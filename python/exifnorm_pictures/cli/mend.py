@@ -12,7 +12,6 @@ from ..extract import programs
 from ..files import atomic
 from ..model import steps
 from ..model.budgets import TooMuch
-from ..model.found import cut
 from ..model.problems import Problem
 from ..model.texts import Members, shown_path
 from ..refusals import mend
@@ -71,7 +70,7 @@ def _mend_one(arguments: argparse.Namespace, picture: bytes, out: bytes) -> Tupl
     if not mended.is_written:
         return UNKNOWN, "not mended"
     result = "plain" if mended.remedy == mend.Remedy.COPY else "lossy" if mended.lost else "lossless"
-    return UNKNOWN if mended.damage else DIFFERENCE if mended.lost else SUCCESS, result
+    return UNKNOWN if mended.damage or mended.cut_off else DIFFERENCE if mended.lost else SUCCESS, result
 
 
 def _pairs(arguments: argparse.Namespace) -> Iterator[Tuple[bytes, bytes]]:
@@ -116,11 +115,11 @@ def _mended_lines(picture: bytes, mended: mend.Mended) -> List[str]:
         return [f"{name}: {mended.problem}"]
     before = "; ".join(f"{name} {line}" for name, line in mended.before.items())
     lines = [f"{name}: damaged, which mend can't mend: {it}" for it in mended.damage]
-    if fault := cut(mended.damage):
-        lines = [f"{name}: cut off, which mend can't mend: {fault}", f"  Remedy: {REMEDY}"]
+    if mended.cut_off:
+        lines = [f"{name}: cut off, which mend can't mend: {mended.cut_off}", f"  Remedy: {REMEDY}"]
     lines.append(
         f"{name}: {before + ': ' if before else ''}{mended.remedy.text}"
-        + " of what is there" * (mended.remedy == mend.Remedy.COPY and bool(mended.damage))
+        + " of what is there" * (mended.remedy == mend.Remedy.COPY and bool(mended.damage or mended.cut_off))
         + (f": {steps.words(mended.repairs)}" if mended.repairs else "")
     )
     if mended.remedy not in (mend.Remedy.NONE, mend.Remedy.COPY):
@@ -145,5 +144,5 @@ def _mended_members(picture: bytes, result: Optional[mend.Mended], problem: str 
         problem, _, detail = mended.problem.partition(": ")
     known: Members = {"step": mended.remedy, "before": mended.before, "lost": mended.lost, "gained": mended.gained}
     repaired = [it._asdict() for it in mended.repairs]
-    rest = {"not_read": mended.damage, "damage": cut(mended.damage) or None}
+    rest = {"not_read": mended.damage, "damage": mended.cut_off or None}
     return {**picture_object(picture, problem, detail), **known, "repairs": repaired, **rest, "written": mended.is_written}

@@ -9,7 +9,7 @@ import sys
 from datetime import datetime, timezone
 from typing import TYPE_CHECKING, List, Optional, Sequence
 
-from ..model.found import damage
+from ..model.found import cut, damage
 from ..model.problems import Problem
 from ..model.records import BlockRecord, PictureRecord
 from ..model.steps import loses, words
@@ -56,14 +56,17 @@ DAMAGED = {"File is empty": "the file is empty", "Entire file is binary zeros": 
 def record_lines(picture: PictureRecord) -> List[str]:
     """Lines for a picture with a problem: the problem, the refusal of a block, or what is left of a damaged file. None if the
     problem was there at the last run, which the counts say."""
-    if picture.is_known or (picture.problem is None and not picture.unread and all(one.is_accepted for one in picture.blocks)):
+    if picture.is_known or not (picture.problem or picture.unread or picture.damage or any(not one.is_accepted for one in picture.blocks)):
         return []
     name = shown_path(picture.path)
     lines = []
     if picture.problem and picture.problem != Problem.NO_PICTURE:
         lines.append(f"{name}: {picture.problem}: {picture.detail}")
     lines += [f"{name}: {one.name}: {refused_line(one)}" for one in picture.blocks if not one.is_accepted]
-    lines += [f"{name}: not wholly read: {what}" for what in damage(one.what for one in picture.unread)]
+    parts = [one.what for one in picture.unread]
+    if not picture.problem:
+        lines += [f"{name}: not wholly read: {what}" for what in damage(parts)]
+        lines += [f"{name}: damaged: {picture.damage}"] * bool(picture.damage and not cut(parts))
     if picture.problem == Problem.NO_PICTURE and picture.detail in DAMAGED:
         lines.append(f"{name}: NoPicture: {DAMAGED[picture.detail]}")
     return lines

@@ -24,15 +24,17 @@ _STATUSES = """Statuses:
        nightly: there is news; relocate: a file isn't there, or has another size
        or time; mend: the copy differs in a printed value)
   2    it can't be decided wholly (changed, compare, history, show, captions,
-       conflicts, explain: a block is refused or unreadable, a file is damaged,
-       or a picture wasn't read; changed, compare, history: or a part of one
-       wasn't; changed, compare, history, same: the same only after a repair,
-       or but for a MakerNote; same: or they may be so; list: pictures that
-       weren't wholly read may fit; check: or may break a rule; index: a picture
-       that should be readable isn't, or a program failed at it, and not so at
-       the last run; nightly: what could be decided last night can't be, or a
-       folder isn't there; verify: a file can't be read, or has no digest; mend:
-       no remedy worked, the file is damaged, or the picture wasn't read)
+       conflicts, explain: a block is refused or unreadable, or may be missing
+       in a damaged file, or a picture wasn't read; explain: or a file is
+       damaged behind its metadata; changed, compare, history: so too, or a
+       part wasn't read; changed, compare, history, same: the same only after a
+       repair, or but for a MakerNote; same: or they may be so; list: pictures
+       that weren't wholly read may fit; check: or may break a rule; index: a
+       picture that should be readable isn't, or a program failed at it, and
+       not so at the last run; nightly: what could be decided last night can't
+       be, or a folder isn't there; verify: a file can't be read, or has no
+       digest; mend: no remedy worked, the file is damaged, or the picture
+       wasn't read)
   3    bad arguments; index, nightly: no name leads to a folder or a file
   4    the command itself failed: the catalogue, a stream, an output file, the
        disk or the memory

@@ -12,7 +12,7 @@ from ..catalogue.store import Catalogue
 from ..comparison.group import Group, Link
 from ..comparison.group_sentence import sentence_of
 from ..comparison.groups import CodedPictures, Groups, coded_pictures, left_out, whole_files
-from ..comparison.keeping import KEEP_ALL, NOT_KNOWN, Keep, keeping
+from ..comparison.keeping import KEEP_ALL, NOT_KNOWN, Keep, damaged, keeping
 from ..comparison.readings import of_unknown
 from ..fields.choosing import Choice
 from ..fields.folding import folded
@@ -249,7 +249,7 @@ def _print_lines(group: Group, number: int, keeps: Keeps, texts: _Texts) -> None
     for picture in group.members:
         reason, others = group.reasons.get(picture.id, ""), group.others.get(picture.id, 0)
         more = f", and {others:,} that {'are' if others > 1 else 'is'} in a group with it above" if others else ""
-        notes = [reason] * (len(reasons) > 1) + [about.get(picture.id, Keep()).note]
+        notes = [reason] * (len(reasons) > 1) + [about.get(picture.id, _without_advice(picture)).note]
         print_line(f"  {shown_path(picture.path)}" + (f"   ({text})" if (text := "; ".join(filter(None, notes))) else "") + more)
         for line in listed_texts.lines(texts.labels, texts.of(picture), "      "):
             print_line(line)
@@ -275,7 +275,7 @@ def _print_rows(table: Table, number: int, group: Group, keeps: Keeps, texts: _T
     """A row for each picture, and one without a word on keeping for each file that doesn't count."""
     about = (number, group.count, sentence_of(group), group.basis)
     for picture in group.members:
-        keep = keeps.get(picture.id, Keep())
+        keep = keeps.get(picture.id, _without_advice(picture))
         cells = listed_texts.cells(texts.labels, texts.of(picture))
         table.row(*about, picture.path, None if keep.keep is None else int(keep.keep), _note(group, picture, keep), *cells)
     for path, note in _not_counted(group):
@@ -288,6 +288,11 @@ def _add_notes(table: Table, groups: Groups, choice: Choice) -> None:
         table.row(*(None,) * 6, note)
     for note in [of_unknown(groups.unknown)] * bool(groups.unknown) + [_of_absent(groups.absent)] * bool(groups.absent):
         signals.say(f"exifnorm-pictures: note: {note}")
+
+
+def _without_advice(picture: PictureRecord) -> Keep:
+    """What is said of a picture of which nothing is said about keeping."""
+    return Keep(why=damaged(picture.damage)) if picture.damage else Keep()
 
 
 def _note(group: Group, picture: PictureRecord, keep: Keep) -> str:
@@ -332,7 +337,10 @@ def _print_group(number: int, group: Group, keeps: Keeps, texts: _Texts) -> None
     print(line_of("same", "group", known)[:-1], end=', "pictures": [')
     for at, picture in enumerate(group.members):
         more: Members = {"texts": {label: list(one) for label, one in zip(texts.labels, texts.of(picture))}} if texts.labels else {}
-        print(", " * (at > 0) + json.dumps({**_picture_members(group, picture, keeps.get(picture.id, Keep())), **more}), end="")
+        print(
+            ", " * (at > 0) + json.dumps({**_picture_members(group, picture, keeps.get(picture.id, _without_advice(picture))), **more}),
+            end="",
+        )
     print("]}")
 
 

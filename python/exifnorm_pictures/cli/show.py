@@ -18,7 +18,7 @@ from ..model.texts import Members, escaped
 from .columns import width
 from .each_block import each_block, each_picture, status_of_reading
 from .exit_codes import SUCCESS
-from .not_read import damage_members, no_block, unread
+from .not_read import damage_members, no_block, picture_cut, unread
 from .objects import block_object, picture_object, print_object
 from .output import table_of
 
@@ -137,6 +137,7 @@ def _notes(reading: Reading) -> Iterator[str]:
     elif not reading.read.found:
         yield no_block(reading)
     yield from (f"not read: {what}" for what in unread(reading, reading.not_read))
+    yield from picture_cut(reading)
 
 
 # --json

@@ -5,6 +5,7 @@ from __future__ import annotations
 from collections import Counter
 from typing import NamedTuple, Optional
 
+from ..model.found import CUT
 from ..model.records import PictureRecord
 from ..model.words import Word
 
@@ -58,7 +59,8 @@ def coded_result(picture: Optional[PictureRecord], other: Optional[PictureRecord
         both = dict.fromkeys([picture.damage, other.damage])
         return CodedResult(Coded.DAMAGED_BOTH, f"{Coded.DAMAGED_BOTH}: {', and then '.join(both)}")
     if other.damage:
-        is_known = bool(picture.coded_picture) or other.coded_picture is None  # of the file's head it is always known
+        # the end of a file is looked for at each look, and other damage only by --pixels
+        is_known = bool(picture.coded_picture) or other.coded_picture is None or other.damage.startswith(CUT)
         return CodedResult(Coded.DAMAGED, other.damage + ("" if is_known else ", and whether it was so before isn't known"))
     if picture.damage:
         return CodedResult(Coded.DAMAGED_BEFORE, f"{Coded.DAMAGED_BEFORE}: {picture.damage}")
@@ -73,7 +75,8 @@ def sentence_of_coded(counts: "Counter[Coded]", pixels: str = "index --pixels") 
     """What was compared of some pictures, in a sentence; nothing without any."""
     if not sum(counts.values()):
         return ""
-    if not counts[Coded.SAME] + counts[Coded.OTHER] and counts[Coded.UNKNOWN]:
+    if not counts[Coded.SAME] + counts[Coded.OTHER]:
         damaged = ", ".join(f"{count:,} {it}" for it, count in counts.items() if it != Coded.UNKNOWN and count)
-        return f"The files: {damaged}. " * bool(damaged) + f"Only metadata was compared: {pixels} compares the pictures, too."
+        only = f"Only metadata was compared: {pixels} compares the pictures, too." if counts[Coded.UNKNOWN] else ""
+        return " ".join(filter(None, [f"The files: {damaged}." if damaged else "", only]))
     return f"The coded pictures: {', '.join(f'{counts[it]:,} {it}' for it in Coded if counts[it])}."

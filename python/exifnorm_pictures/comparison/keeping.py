@@ -35,6 +35,15 @@ class Keep(NamedTuple):
         return self.why or (f"the same picture as {shown_path(self.same_as)}" if self.same_as is not None else "")
 
 
+def damaged(fault: str) -> str:
+    """Why a damaged picture doesn't stay.
+
+    >>> damaged("the file ends inside its picture")
+    'damaged: the file ends inside its picture'
+    """
+    return f"damaged: {fault}"
+
+
 def keeping(group: Group, reads: bool = True) -> Dict[int, Keep]:
     """What may be done with each picture of a group, by its number. The first of equal pictures by path stays: so of all groups that a picture
     is in, the one that stays is no later one, and a chain of groups ends at a picture that stays. `reads` reads files with equal sizes."""
@@ -58,7 +67,7 @@ def _keep(
     picture: PictureRecord, keys: Dict[int, _Key], equal: Dict[_Key, List[PictureRecord]], damages: Dict[int, str], has_unknown: bool
 ) -> Keep:
     if picture.id in damages:
-        return Keep(why=f"damaged: {damages[picture.id]}")
+        return Keep(why=damaged(damages[picture.id]))
     if picture.id not in keys:
         return Keep(why=NOT_KNOWN)
     same = equal[keys[picture.id]]

@@ -138,7 +138,7 @@ def _scans(stream: Stream, coded: "hashlib.blake2b", at: int, budget: Budget) ->
             budget.check_time()
         marker = markers.following()
         if marker == 0:
-            raise Broken("the file ends inside its picture")
+            raise Broken(jpeg.NO_END_MARK)
         if marker == EOI:
             _add(stream, coded, start, markers.at)
             return

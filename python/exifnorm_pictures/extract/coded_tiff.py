@@ -11,7 +11,7 @@ import hashlib
 from typing import Dict, Iterator, List, Optional, Sequence, Tuple
 
 from ..model.budgets import STRIPS, Budget
-from ..model.found import Broken
+from ..model.found import IN_PICTURE, Broken
 from ..model.tiff_types import IFD, LONG, LONG8, SHORT
 from .formats import tiff
 from .formats.streams import pieces
@@ -117,7 +117,7 @@ def _strips(directories: Directories, page: Directory, entries: Entries, coded: 
             _check_lengths(directories, entries, lengths)
         for start, length in zip(starts, lengths):
             if start + length > directories.size:
-                raise Broken("a strip isn't in the file")
+                raise Broken(IN_PICTURE)
             yield start, start + length
 
 

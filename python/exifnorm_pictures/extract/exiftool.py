@@ -170,7 +170,7 @@ def by_others(session: Session, path: bytes, stream: Stream, whole: bool, why: s
         _add_by_exiv2(session, blocks, path)
     size = size_of(stream)
     digest = digest_of(stream, 0, size) if whole or size <= WHOLE_FILE else ""
-    what = f"what ExifTool does not extract from a {blocks.type} file" + (f" ({why})" if why else "")
+    what = " ".join(f"what ExifTool does not extract from a {blocks.type} file".split()) + (f" ({why})" if why else "")
     blocks.not_read.append(NotRead(what, digest))
     return blocks
 

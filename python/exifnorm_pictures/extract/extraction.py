@@ -12,7 +12,7 @@ from exifnorm import LibraryMissing
 from ..files import opening, signals
 from ..files.session import Session
 from ..model.budgets import Budget, TooMuch
-from ..model.found import BROKEN, Blocks, Broken, LeftToOthers
+from ..model.found import BROKEN, CUT, Blocks, Broken, LeftToOthers
 from ..model.problems import Problem
 from ..model.texts import described
 from .exiftool import add_trailers, by_others
@@ -58,10 +58,19 @@ def blocks_in(file: Parts, path: bytes, whole: bool = False, session: Optional[S
         except LeftToOthers as why:
             return by_others(session, file.as_file(path), file, whole, str(why))
         except Broken as why:
-            return by_others(session, file.as_file(path), file, True, f"{BROKEN}{why}")
+            return _of_broken(by_others(session, file.as_file(path), file, True, f"{BROKEN}{why}"), str(why))
         if blocks.has_more:
             add_trailers(session, blocks, file.as_file(path))
         return blocks
+
+
+def _of_broken(blocks: Blocks, why: str) -> Blocks:
+    """What other programs read of a file that is broken here. One that is cut off is so too if they read nothing of it: its first bytes are
+    those of a picture, so it was one."""
+    if blocks.problem and why.startswith(CUT):
+        blocks.problem = Problem.TOOL_FAILED if blocks.problem == Problem.NO_PICTURE else blocks.problem
+        blocks.damage, blocks.detail = why, f"{blocks.detail}; {why}"
+    return blocks
 
 
 def failed_here(error: Exception, session: Optional[Session]) -> Blocks:

@@ -51,7 +51,7 @@ class Reading:
     @property
     def damage(self) -> str:
         """Where the file is cut off; empty if it isn't."""
-        return cut(self.not_read)
+        return cut(self.not_read) or self.read.damage
 
     @property
     def not_known(self) -> List[str]:
@@ -60,7 +60,7 @@ class Reading:
 
     @property
     def is_damaged(self) -> bool:
-        """Whether the status of a command says that not everything is known."""
+        """Whether the status of a command says that not everything is known of the metadata."""
         return bool(self.problem or damage(self.not_read)) or any(not it.is_accepted for it in self.blocks)
 
     @property

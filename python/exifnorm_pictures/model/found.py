@@ -20,6 +20,7 @@ PROGRAMS = {EXIFTOOL: "ExifTool", EXIV2: "exiv2"}
 REST = "the rest of a damaged file"  # how a part begins that has such a file from its fault on
 BROKEN = "broken: "  # how the reason begins for which a damaged file was left to ExifTool
 CUT = "the file ends "  # how a fault begins that is the end of a file, after which bytes are missing
+IN_PICTURE = f"{CUT}inside its picture"  # the same of one behind all metadata
 _WITHOUT_IPTC = frozenset(("WEBP", "Extended WEBP", "HEIC", "HEIF", "AVIF", "CR3", "JXL"))  # formats, by the words of readers and ExifTool
 UNREAD_NOTES = "what ExifTool reads of the MakerNote, at which it failed"  # a part that the next run asks for again
 UNREAD_TRAILER = "blocks of the trailer, for which ExifTool is needed"  # a part that is read once ExifTool is there
@@ -149,6 +150,7 @@ class Blocks:
     type: str = ""  # the format's name: JPEG, PNG, WEBP, TIFF, or ExifTool's name for it
     problem: Optional[str] = None
     detail: str = ""
+    damage: str = ""  # where the file is cut off, if all of its metadata stands before that
     counts: Dict[str, int] = field(default_factory=dict, repr=False)  # of blocks by name
     has_more: bool = False  # whether ExifTool may find blocks in a part that was not read
     budget: Budget = field(default_factory=Budget, repr=False, compare=False)

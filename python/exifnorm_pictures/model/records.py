@@ -194,6 +194,7 @@ class PictureRecord(NamedTuple):
     ) -> "PictureRecord":
         """A picture by its blocks, as they were found and judged."""
         about = (blocks.type, blocks.extractor, blocks.problem, blocks.detail)
+        others["damage"] = blocks.damage or others.get("damage", "")
         return cls.of(path, root, stamp, *about, judged, blocks.not_read, **others)
 
     @property

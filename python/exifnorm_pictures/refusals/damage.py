@@ -12,6 +12,10 @@ REMEDY = "another copy of the file, as from a backup. What is missing can't be m
 
 def lines(reading: Reading) -> List[str]:
     """What may be missing, and the remedy; nothing for a whole file."""
+    if reading.problem and reading.damage:
+        return [f"The file is cut off: {reading.damage}.", f"  Remedy: {REMEDY}"]
+    if reading.read.damage:
+        return [f"The file is cut off behind its metadata: {reading.damage}.", f"  Remedy: {REMEDY}"]
     if not damage(reading.not_read):
         return []
     kinds = " and ".join(NAMES[kind] for kind in reading.not_known) or "further blocks"
@@ -21,4 +25,4 @@ def lines(reading: Reading) -> List[str]:
 
 def remedy(reading: Reading) -> Optional[str]:
     """The remedy; none for a whole file."""
-    return REMEDY if damage(reading.not_read) else None
+    return REMEDY if reading.damage or damage(reading.not_read) else None

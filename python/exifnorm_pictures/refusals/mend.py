@@ -15,7 +15,7 @@ from ..files import atomic, copying, opening
 from ..files.session import Session
 from ..judge.judge import judge_all
 from ..model.budgets import MENDED_BYTES, TooMuch
-from ..model.found import EXIF, REST, Blocks, damage
+from ..model.found import EXIF, REST, Blocks, cut, damage
 from ..model.steps import Step, loses
 from ..model.texts import reason, shown_path
 from ..model.words import Word
@@ -69,6 +69,7 @@ class Mended:
     problem: str = ""
     repairs: Tuple[Step, ...] = ()  # what was repaired
     damage: List[str] = field(default_factory=list)  # what is left of a damaged file, and was not read
+    cut_off: str = ""  # where the file is cut off, in its metadata or behind them
     is_written: bool = False  # whether there is a copy
 
 
@@ -107,10 +108,11 @@ def attempt(session: Session, picture: bytes, room: str) -> Tuple[Mended, Option
     `NeedsExifTool`, `programs.Failed` and `TooMuch`."""
     taken = blocks_of_file(picture, session=session)
     if taken.problem:
-        return Mended(Remedy.NONE, {}, problem=f"{taken.problem}: {taken.detail}"), None
+        return Mended(Remedy.NONE, {}, problem=f"{taken.problem}: {taken.detail}", cut_off=taken.damage), None
     before, left = _refusals(taken), damage(it.what for it in taken.not_read)
+    end = cut(left) or taken.damage
     if not before:
-        return Mended(Remedy.COPY, {}, damage=left), picture
+        return Mended(Remedy.COPY, {}, damage=left, cut_off=end), picture
     if os.stat(picture).st_size > MENDED_BYTES:
         raise TooMuch(f"more than {MENDED_BYTES:,} bytes of a picture to mend")
     repair = _repaired(session, picture, taken, room)
@@ -121,10 +123,10 @@ def attempt(session: Session, picture: bytes, room: str) -> Tuple[Mended, Option
     else:
         raise NeedsExifTool(taken.type, repair)
     if best is None:
-        return Mended(Remedy.NONE, before, damage=left), None
+        return Mended(Remedy.NONE, before, damage=left, cut_off=end), None
     remedy, file, lost, gained = best
     repairs = repair.steps if remedy == Remedy.REPAIR and repair else ()
-    return Mended(remedy, before, lost, gained, "", repairs, left), os.fsencode(file)
+    return Mended(remedy, before, lost, gained, "", repairs, left, end), os.fsencode(file)
 
 
 def _make_folders(out: bytes, folder: bytes) -> None:

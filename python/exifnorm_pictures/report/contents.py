@@ -142,6 +142,8 @@ def members(about: About) -> Iterator[Members]:
             "refusal": block.refusal,
         }
     for picture in catalogue.pictures(about.table()):
+        if picture.damage:
+            yield {"damaged": picture.damage, **path_members(picture.path)}
         if picture.problem:
             yield {"problem": picture.problem, **path_members(picture.path), "detail": picture.detail}
         elif picture.not_read != "":

@@ -17,7 +17,7 @@ from ..comparison.group_sentence import sentence_of
 from ..comparison.keeping import KEEP_ALL
 from ..comparison.readings import Unknown
 from ..fields.rules import Rule
-from ..model.found import each_kind
+from ..model.found import cut, each_kind
 from ..model.problems import NOT_THERE, Problem
 from ..model.records import has, has_short, picture_of_row
 from .contents import About, Refused, chosen, refused
@@ -38,6 +38,7 @@ class Counts:
     unknown: Unknown = field(default_factory=Counter)  # pictures that may be in a group by their MakerNotes, by why nobody knows
     contradictions: Contradictions = field(default_factory=Contradictions)
     unread: int = 0
+    damaged: int = 0  # cut off, or with a damaged picture
     parts: "List[Tuple[str, int]]" = field(default_factory=list)  # the most frequent unread parts, and the number of pictures with each
     maker_notes: int = 0  # pictures with a MakerNote
 
@@ -56,6 +57,7 @@ def counts_of(about: About) -> Counts:
     query = f"SELECT what, count(DISTINCT picture) {source} GROUP BY what ORDER BY 2 DESC, what LIMIT {MOST_PARTS}"
     counts.parts = list(about.catalogue.rows(query, (), _counted_word))
     counts.unread = _number(about, f"SELECT count(*) FROM pictures WHERE not_read IS NOT '' AND {chosen(about)}")
+    counts.damaged = _number(about, f"SELECT count(*) FROM pictures WHERE damage != ''{_and_chosen(about)}")
     noted = f"FROM blocks JOIN pictures ON pictures.id = picture WHERE note IS NOT NULL AND {chosen(about)}"
     counts.maker_notes = _number(about, f"SELECT count(DISTINCT picture) {noted}")
     return counts
@@ -162,18 +164,19 @@ def _quoted(path: bytes) -> str:
 
 
 class Unread(NamedTuple):
-    """A picture that wasn't wholly read."""
+    """A picture that is damaged or wasn't wholly read."""
 
     path: bytes
     parts: List[str]
 
 
 def unread(about: About) -> Iterator[Entry]:
-    """The pictures that weren't wholly read, with the parts."""
+    """The pictures that are damaged or weren't wholly read, with the parts."""
     catalogue = about.catalogue
-    query = f"SELECT {PICTURE_COLUMNS} FROM pictures WHERE not_read IS NOT '' AND {chosen(about)} ORDER BY path"
+    query = f"SELECT {PICTURE_COLUMNS} FROM pictures WHERE (not_read IS NOT '' OR damage != '') AND {chosen(about)} ORDER BY path"
     for picture in catalogue.rows(query, (), picture_of_row):
         parts = each_kind(part.what for part in catalogue.not_read_of(picture))
+        parts += [f"damaged: {picture.damage}"] * bool(picture.damage and not cut(parts))
         yield Entry(Unread(picture.path, parts), (picture.path,), len(parts), True, sum(map(len, parts)))
 
 

@@ -2,7 +2,7 @@
 
 from __future__ import annotations
 
-from ...model.found import Blocks, Broken
+from ...model.found import CUT, Blocks, Broken
 from ...model.problems import Problem
 from . import tiff
 from .streams import Stream
@@ -17,4 +17,5 @@ def read(stream: Stream, whole: bool = False) -> Blocks:
     try:
         return tiff.read_pages(Directories(stream, BIG), whole)
     except Broken as why:
-        return Blocks(type=tiff.BIG, problem=Problem.BIG_TIFF, detail=f"{Problem.BIG_TIFF.text}: {why}")
+        fault = str(why) if str(why).startswith(CUT) else ""
+        return Blocks(type=tiff.BIG, problem=Problem.BIG_TIFF, detail=f"{Problem.BIG_TIFF.text}: {why}", damage=fault)

@@ -10,8 +10,8 @@ import re
 from typing import Callable, Iterator, List, NamedTuple, Set
 
 from ...model.budgets import BOXES, BOX_BYTES, budget_of
-from ...model.found import CUT, REST, XMP, Blocks, Broken, NotRead
-from .streams import Stream, digest_of_rest, leave, leave_rest, read_at, size_of
+from ...model.found import CUT, REST, XMP, Blocks, Broken, NotRead, damage
+from .streams import Stream, digest_of, digest_of_rest, leave, leave_rest, read_at, size_of
 
 _LONGEST_HEAD = 32
 XMP_UUID = bytes.fromhex("be7acfcb97a942e89c71999491e3afac")  # XMP part 3, 1.1.4
@@ -44,7 +44,7 @@ def boxes(stream: Stream, start: int, end: int, is_file: bool = False) -> Iterat
     while at < end:
         budget.spend(BOXES)
         if end - at < 8:
-            raise Broken(f"no box at {at}")
+            raise Broken(f"{CUT}inside the box at {at}" if is_file else f"no box at {at}")
         head = read_at(stream, at, min(_LONGEST_HEAD, end - at))
         length, kind, begin = int.from_bytes(head[:4], "big"), head[4:8], 8
         if length == 1:
@@ -55,7 +55,7 @@ def boxes(stream: Stream, start: int, end: int, is_file: bool = False) -> Iterat
         begin += 16 if kind == b"uuid" else 0
         if not begin <= length <= end - at:
             is_cut = is_file and length > end - at and kind.strip().isalnum()
-            raise Broken(f"the file ends inside the box at {at}" if is_cut else f"the box at {at} has a wrong length")
+            raise Broken(f"{CUT}inside the box at {at}" if is_cut else f"the box at {at} has a wrong length")
         yield Box(at, kind, at + begin, at + length, uuid)
         at += length
 
@@ -78,6 +78,13 @@ def boxes_of_file(blocks: Blocks, stream: Stream, is_whole: Callable[[Set[bytes]
     return every
 
 
+def leave_cut(blocks: Blocks, stream: Stream, why: str) -> None:
+    """Names the end of a file that is cut off between two boxes, unless one in a box is named. Raises `TooMuch`."""
+    size = size_of(stream)
+    if not damage(part.what for part in blocks.not_read):
+        blocks.name(NotRead(f"{REST} ({CUT}{why})", digest_of(stream, size, size)))
+
+
 _PIXELS = frozenset((b"mdat", b"jxlc", b"jxlp", b"jp2c"))
 # Boxes of which a part at the end of a file is no trailer
 _OFTEN_LAST = _PIXELS | frozenset((b"uuid", b"xml ", b"Exif", b"brob", b"meta", b"moov"))
@@ -85,7 +92,7 @@ _OFTEN_LAST = _PIXELS | frozenset((b"uuid", b"xml ", b"Exif", b"brob", b"meta", 
 
 def _leave_rest(blocks: Blocks, stream: Stream, at: int, why: str) -> None:
     """Names what follows the last whole box. Raises `TooMuch`."""
-    if why.startswith(CUT) and read_at(stream, at + 4, 4) in _OFTEN_LAST:
+    if why.startswith(CUT) and size_of(stream) - at >= 8 and read_at(stream, at + 4, 4) in _OFTEN_LAST:
         blocks.name(NotRead(f"{REST} ({why})", digest_of_rest(stream, at, size_of(stream)) or ""))
     else:
         leave_rest(blocks, stream, at)

@@ -11,7 +11,7 @@ from typing import Dict, List, Optional, Tuple
 from ...model.budgets import EXTENTS, budget_of
 from ...model.found import EXIF, Blocks, Broken, LeftToOthers, NotRead
 from . import canon
-from .boxes import XMP_UUID, Box, Fields, add_xmp, boxes, boxes_of_file, content
+from .boxes import XMP_UUID, Box, Fields, add_xmp, boxes, boxes_of_file, content, leave_cut
 from .canon_block import one_block
 from .streams import Stream, digest_of_parts, is_blank, leave, size_of
 
@@ -35,8 +35,9 @@ def is_cr3(head: bytes) -> bool:
 def read(stream: Stream, whole: bool = False) -> Blocks:
     """The blocks of a CR3. Raises `Broken`, and `LeftToOthers` for a film."""
     blocks = Blocks(type="CR3", budget=budget_of(stream))
-    movies = 0
+    movies = pixels = 0
     for box in boxes_of_file(blocks, stream, lambda kinds: b"moov" in kinds):
+        pixels += box.kind == b"mdat"
         if box.kind == b"moov":
             movies += 1
             _movie(blocks, stream, box)
@@ -46,6 +47,8 @@ def read(stream: Stream, whole: bool = False) -> Blocks:
             leave(blocks, box.name, stream, box.start, box.end)
     if movies > 1:
         raise Broken("the file has two moov boxes")
+    if not pixels:
+        leave_cut(blocks, stream, "before its picture")
     return blocks
 
 

@@ -9,7 +9,7 @@ from __future__ import annotations
 from typing import Dict, List, Optional, Set, Tuple
 
 from ...model.budgets import BOX_BYTES, budget_of
-from ...model.found import EXIF, XMP, Blocks, Broken, NotRead
+from ...model.found import EXIF, IN_PICTURE, XMP, Blocks, Broken, NotRead
 from . import canon, item_exif
 from .boxes import XMP_UUID, Box, add_xmp, boxes, boxes_of_file
 from .heif_items import PICTURES, READERS, Item, Items
@@ -83,6 +83,8 @@ class _Reader:
             elif box.kind not in _WITHOUT_IN_META:
                 self._leave(f"{box.name} in meta", box)
         self.items.check()
+        if self.items.end() > size_of(self.stream):
+            self.blocks.damage = IN_PICTURE
         names = self.items.pictures()
         for item in self.items.items:
             if item.kind not in PICTURES:

@@ -159,6 +159,11 @@ class Items:
         if self.primary is not None and all(it.number != self.primary for it in self.items):
             raise Broken("the main picture is no item")
 
+    def end(self) -> int:
+        """Where the last byte ends that an item has in the file."""
+        places = (it for it in self.places.values() if it.method == 0 and not it.is_elsewhere and it.has_lengths)
+        return max((start + length for place in places for start, length in place.extents), default=0)
+
     def pictures(self) -> Dict[int, str]:
         """The names of the pictures that are neither the main one nor parts of others, by their numbers."""
         names = {}

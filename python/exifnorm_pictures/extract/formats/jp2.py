@@ -8,15 +8,16 @@ from __future__ import annotations
 
 from typing import Set
 
-from ...model.budgets import budget_of
-from ...model.found import EXIF, IPTC, Blocks, Broken, NotRead
+from ...model.budgets import CHUNKS, budget_of
+from ...model.found import EXIF, IN_PICTURE, IPTC, Blocks, Broken, NotRead
 from . import photoshop, tiff
 from .boxes import XMP_UUID, Box, add_xml, add_xmp, boxes, boxes_of_file, content
-from .streams import Stream, leave, read_at
+from .streams import Stream, leave, read_at, size_of
 from .window import Window
 
 START = b"\0\0\0\x0cjP  \r\n\x87\n"
 BARE = b"\xff\x4f\xff\x51"
+_TILE_PART, _END_MARK = b"\xff\x90", b"\xff\xd9"
 _SIX = b"Exif\0\0"
 _KINDS = {
     b"JpgTiffExif->JP2": EXIF,
@@ -47,10 +48,32 @@ def read(stream: Stream, whole: bool = False) -> Blocks:
     """The blocks of a JPEG 2000. Raises `Broken`."""
     is_bare = read_at(stream, 0, len(BARE)) == BARE
     blocks = Blocks(type="J2C" if is_bare else "JP2", budget=budget_of(stream))
+    size = size_of(stream)
+    start = 0 if is_bare else size  # of the codestream, if only its end mark tells where it ends
     for box in () if is_bare else boxes_of_file(blocks, stream, _is_whole):
         if box.at:  # the first one is the signature
             _take(blocks, stream, box, 1)
+        if box.kind == b"jp2c" and not any(read_at(stream, box.at, 4)):
+            start = box.start
+    if start < size and _is_cut(stream, start, size):
+        blocks.damage = IN_PICTURE
     return blocks
+
+
+def _is_cut(stream: Stream, at: int, end: int) -> bool:
+    """Whether a codestream that begins at an offset has no end mark. What follows the mark is no part of it."""
+    if read_at(stream, end - 2, 2) == _END_MARK:
+        return False
+    at += 2
+    while at + 12 <= end:
+        budget_of(stream).spend(CHUNKS)
+        head = read_at(stream, at, 12)
+        if head[:2] == _END_MARK:
+            return False
+        if head[:2] == _TILE_PART and not any(head[6:10]):  # the last one, up to the end mark
+            return True
+        at += int.from_bytes(head[6:10], "big") if head[:2] == _TILE_PART else 2 + int.from_bytes(head[2:4], "big")
+    return at + 2 > end or read_at(stream, at, 2) != _END_MARK
 
 
 def _is_whole(kinds: Set[bytes]) -> bool:

@@ -11,7 +11,7 @@ import re
 from typing import List, Set, Tuple
 
 from ...model.budgets import Budget, budget_of
-from ...model.found import EXIF, REST, XMP, Blocks, Broken, NotRead, length_of
+from ...model.found import CUT, EXIF, REST, XMP, Blocks, Broken, NotRead, length_of
 from . import mpf, photoshop
 from .extended_xmp import HEAD as EXTENDED, Pieces
 from .jpeg_segments import (
@@ -34,6 +34,7 @@ from .streams import Stream, digest_of, digest_of_rest, read_at, size_of
 from .trailers import known_trailer
 
 START = b"\xff\xd8\xff"
+NO_END_MARK = f"{CUT}before the end mark of its picture"  # which a decoder may still read wholly
 _SIX = b"Exif\0\0"
 _XMP = b"http://ns.adobe.com/xap/1.0/\0"
 # Some writers put up to four bytes before the word, or write it in another way; ExifTool reads these as well.
@@ -163,7 +164,10 @@ def _further(stream: Stream, head: _Head, end: int) -> List[int]:
     for at, data in head.indexes:
         try:
             places = mpf.further_pictures(data, at)
-            for place in places:
+            for number, place in enumerate(places, 2):
+                if place.start + place.length > end > place.start + 3 and read_at(stream, place.start, 3) == START:
+                    rest = f"{REST} ({CUT}inside MPF picture {number})"
+                    head.blocks.name(NotRead(rest, digest_of(stream, place.start, end)))
                 if place.start < head.end or place.start + place.length > end or read_at(stream, place.start, 3) != START:
                     raise Broken(f"no picture at {place.start}")
             starts.update(it.start for it in places)
@@ -187,6 +191,8 @@ def _read_after(stream: Stream, head: _Head, end: int, whole: bool) -> None:
     if rest.has_mark and rest.end >= end:
         return
     trailer = known_trailer(stream, end)
+    if not rest.has_mark and trailer is None and end == size_of(stream):
+        head.blocks.damage = NO_END_MARK
     start = rest.end if rest.has_mark or trailer is None else max(head.end, end - WINDOW)
     digest = digest_of_rest(stream, start, end) if start < end else None
     if digest is None:

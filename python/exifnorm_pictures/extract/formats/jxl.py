@@ -7,17 +7,18 @@ bytes.
 
 from __future__ import annotations
 
-from typing import Set
+from typing import Optional, Set
 
 from ...model.budgets import budget_of
 from ...model.found import COMPRESSED, EXIF, XMP, Blocks, Broken
 from . import item_exif
-from .boxes import XMP_UUID, Box, add_xml, add_xmp, boxes_of_file, content
+from .boxes import XMP_UUID, Box, add_xml, add_xmp, boxes_of_file, content, leave_cut
 from .streams import Stream, leave, read_at
 
 START = b"\0\0\0\x0cJXL \r\n\x87\n"
 BARE = b"\xff\x0a"
 _BRAND = b"jxl "
+_IS_LAST = b"\x80"  # the bit of a piece's number that only the last piece has
 _WITHOUT = frozenset(b"jxlc jxlp jxll jxli free skip".split())
 _IN_BROB = {b"Exif": EXIF, b"xml ": XMP}
 
@@ -27,12 +28,16 @@ def read(stream: Stream, whole: bool = False) -> Blocks:
     blocks = Blocks(type="JXL", budget=budget_of(stream))
     if read_at(stream, 0, len(BARE)) == BARE:
         return blocks
+    piece: Optional[Box] = None  # the last one
     for box in boxes_of_file(blocks, stream, _is_whole):
+        piece = box if box.kind == b"jxlp" else piece
         if box.kind == b"ftyp":
             if read_at(stream, box.start, min(4, box.end - box.start)) != _BRAND:
                 raise Broken("the JPEG XL has the brand of another format")
         elif box.at and box.kind not in _WITHOUT:  # the first one is the signature
             _take(blocks, stream, box)
+    if piece and read_at(stream, piece.start, min(1, piece.end - piece.start)) < _IS_LAST:
+        leave_cut(blocks, stream, "before the last piece of its picture")
     return blocks
 
 

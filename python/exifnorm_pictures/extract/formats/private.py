@@ -12,7 +12,7 @@ from typing import Callable, List, Optional, Tuple
 from exifnorm import LIMIT
 
 from ...model.budgets import DIRECTORIES
-from ...model.found import EXIF, Blocks, Broken, NotRead
+from ...model.found import EXIF, IN_PICTURE, Blocks, Broken, NotRead
 from ...model.tiff_types import HEADS, IFD, LONG
 from .embedded import add_jpeg
 from .streams import digest_of_rest, read_at
@@ -70,6 +70,8 @@ class Private:
         elif entry.tag == _PANASONIC_PIXELS:
             if not is_pointer(entry):
                 raise Broken(f"the entry {entry.tag:04x} of {of} has no offset")
+            if self.directories.number(entry.last) >= self.directories.size:
+                self.blocks.damage = IN_PICTURE
             self._reaches(self.directories.size, self.directories.size)  # they have no length, and no trailer is known
         return True
 

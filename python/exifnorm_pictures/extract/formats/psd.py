@@ -10,7 +10,7 @@ import struct
 from typing import Callable, Dict, NamedTuple, Optional
 
 from ...model.budgets import RESOURCES, RESOURCE_BYTES, STRIPS, budget_of
-from ...model.found import Blocks, Broken, NotRead, length_of
+from ...model.found import IN_PICTURE, Blocks, Broken, NotRead, length_of
 from . import photoshop
 from .streams import Stream, digest_of_rest, leave, pieces, read_at, size_of
 from .trailers import known_trailer
@@ -44,7 +44,11 @@ def read(stream: Stream, whole: bool = False) -> Blocks:
     _add_resources(blocks, stream, start, at)
     start, at = at + wide, _end(stream, at, wide, size, "layers")
     leave(blocks, "Photoshop's layers", stream, start, at)
-    _leave_trailer(blocks, stream, _end_of_picture(header, stream, at, size), size)
+    end = _end_of_picture(header, stream, at)
+    if end is not None and end > size:
+        end = None
+        blocks.damage = "" if known_trailer(stream, size) else IN_PICTURE
+    _leave_trailer(blocks, stream, end, size)
     return blocks
 
 
@@ -82,20 +86,18 @@ def _sum(data: bytes, wide: int, code: str) -> int:
 _LENGTHS: Dict[int, Callable[[bytes], int]] = {2: lambda it: _sum(it, 2, "H"), 4: lambda it: _sum(it, 4, "I")}
 
 
-def _end_of_picture(header: _Header, stream: Stream, at: int, size: int) -> Optional[int]:
-    """The end of the merged picture, which is the last part of a file; None if it isn't known."""
+def _end_of_picture(header: _Header, stream: Stream, at: int) -> Optional[int]:
+    """Where the merged picture ends, which is the last part of a whole file; None if it isn't known."""
     compression = int.from_bytes(read_at(stream, at, 2), "big")
     rows = header.channels * header.height
     start = at + 2
     if compression == _RAW:
-        end = start + rows * ((header.width * header.depth + 7) // 8)
+        return start + rows * ((header.width * header.depth + 7) // 8)
     elif compression == _PACKED and rows <= STRIPS:
         wide = 4 if header.version == _BIG else 2
         table = start + rows * wide  # of the lengths of the rows, which follow it
-        end = table + sum(map(_LENGTHS[wide], pieces(stream, start, table)))
-    else:
-        return None
-    return end if end <= size else None
+        return table + sum(map(_LENGTHS[wide], pieces(stream, start, table)))
+    return None
 
 
 def _leave_trailer(blocks: Blocks, stream: Stream, start: Optional[int], end: int) -> None:

@@ -14,7 +14,7 @@ from typing import Deque, Dict, Iterator, List, NamedTuple, Optional, Set, Tuple
 from exifnorm import LIMIT
 
 from ...model.budgets import DIRECTORIES, STRIPS
-from ...model.found import CUT, EXIF, IPTC, REST, XMP, Blocks, Broken, NotRead, length_of
+from ...model.found import CUT, EXIF, IN_PICTURE, IPTC, REST, XMP, Blocks, Broken, NotRead, length_of
 from ...model.tiff_types import HEADS, IFD, LONG
 from ..structure import counted, placed
 from . import photoshop
@@ -161,7 +161,10 @@ class Reader:
                 continue
             starts, sizes = (self.directories.numbers(entry) for entry in pair)
             self._covered += [(start, start + size) for start, size in zip(starts, sizes)]
-            self._reaches(max((start + size for start, size in zip(starts, sizes)), default=0))
+            end = max((start + size for start, size in zip(starts, sizes)), default=0)
+            self._reaches(end)
+            if end > self.directories.size and not self._private.is_panasonic:  # whose strips are elsewhere
+                self.blocks.damage = IN_PICTURE
 
     def take(self, page: _Page) -> None:
         """Adds the blocks of a page."""
