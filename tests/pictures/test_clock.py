@@ -2,52 +2,137 @@
 
 import itertools
 import json
+import shutil
 import sqlite3
 import time
 
 import pytest
-from made_blocks import ASCII, entry, segment, table, with_exif
-from made_files import app1, app1_xmp, exif, jpeg, xmp
+from growing import FORMATS, IN_EACH_FORMAT, OTHERS
+from made_blocks import segment, with_exif
+from made_files import app1, exif, jpeg
 from studio import SMALL_JPEG
 from test_maker_notes import noted
 from test_repairs import REFUSED
 
+import exifnorm_pictures
+from exifnorm_pictures.cli.parser import parsers
 from exifnorm_pictures.extract import exiftool, programs
-from exifnorm_pictures.judge import repairs
 from exifnorm_pictures.model import budgets
 from exifnorm_pictures.model.found import UNREAD_NOTES, UNREAD_TRAILER
-from exifnorm_pictures.xmp import by_rdflib
+from exifnorm_pictures.report import thumbnails
 
 
-def many_values(count):
-    """A refused block of so many values that share their bytes."""
-    entries = sorted(entry(0x9300 + number, ASCII, 8, 8) for number in range(count))
-    return b"MM\0*" + (8 + 8).to_bytes(4, "big") + b"shared!\0" + table([*entries, entries[-1]])
-
-
-TYPED = '<dc:a><x:T xmlns:x="urn:x#">{}</x:T></dc:a>'  # a typed node, which is rare in XMP
-ENDLESS = {
-    "repairs": (repairs, "repaired", with_exif(SMALL_JPEG, many_values(3000))),
-    "rdflib": (by_rdflib, "statements", jpeg(app1_xmp(xmp(TYPED.format("<x:p>x</x:p>" * 2000))))),
+# What reads a picture, and work for it. The readers of formats need the blocks alone, the others their meaning.
+OF_FORMATS = {
+    name: (ending, make, "parts" if name not in ("JPEG", "RAF", "NAME.xmp") else "packets") for name, (ending, make) in FORMATS.items()
+}
+OF_MEANING = ("lines of a rare text", "neighbouring values", "unsorted entries")
+# What each command is given that reads pictures. P and Q are folders with the picture a and another one, c a catalogue of P
+READS = {
+    "index": "index P --catalogue new --quiet --jobs 1 --pixels --sidecars",
+    "verify": "verify --catalogue c --quiet --jobs 1",
+    "changed": "changed Q P --each --quiet --jobs 1 --no-exiftool",
+    "compare": "compare Q/{0} P/{0} --no-exiftool",
+    "list": "list P --with title --quiet --jobs 1",
+    "check": "check rules P --quiet --jobs 1",
+    "nightly": "nightly P --catalogue c --rules rules --jobs 1",
+    "show": "show P/{}",
+    "captions": "captions P",
+    "conflicts": "conflicts P --all",
+    "explain": "explain P/{}",
+    "report": "report c --html page",
+    "mend": "mend P/{} copy",
+}
+OTHERS_READ = {
+    "merge": "merge c --catalogue other",
+    "forget": "forget P/{} --catalogue c",
+    "relocate": "relocate c P Q",
+    "same": "same --catalogue c",
+    "history": "history P/{} c c",
+    "export": "export c tables --quiet",
 }
 
 
-@pytest.mark.parametrize("name", ENDLESS)
-def test_what_never_ends(name, called, folder, monkeypatch):
-    """Each look at the clock is 20 milliseconds later than the last one, so that it ends what looks often, on any machine."""
-    module, call, octets = ENDLESS[name]
-    (folder / "p").mkdir()
-    (folder / "p" / "a.jpg").write_bytes(octets)
-    (folder / "p" / "b.jpg").write_bytes(jpeg(app1(exif(b"Abc"))))
-    real, calls, ticks = getattr(module, call), [], itertools.count()
-    monkeypatch.setattr(module, call, lambda *of: (calls.append(1), real(*of))[1])
-    monkeypatch.setattr(budgets.time, "thread_time", lambda: next(ticks) / 50)
-    called("index", "p", "--catalogue", "c", "--quiet", "--jobs", "1")
-    assert calls, "the picture is read by something else"
-    with sqlite3.connect("c") as base:
-        query = "SELECT coalesce(problem, cause), exif FROM pictures LEFT JOIN blocks ON id = picture ORDER BY path"
-        (first, _), (second, digest) = base.execute(query)
-    assert first == "TooMuch" and second is None and digest, (first, second)
+def works():
+    for name, (ending, make, growth) in OF_FORMATS.items():
+        growth = IN_EACH_FORMAT[growth]
+        if name != "NAME.xmp":  # whose only packet is parsed at once
+            yield name, ending, lambda make=make, growth=growth: make(growth.make(growth.short, b"qa").parts)
+    for name in OF_MEANING:
+        ending, growth = OTHERS[name]
+        yield name, ending, lambda growth=growth: growth.make(growth.short, b"qa").octets
+
+
+def test_all_commands_are_tried():
+    assert {*READS, *OTHERS_READ} == set(parsers()[1])
+
+
+@pytest.fixture
+def ended(folder, monkeypatch):
+    """The budgets whose clock has ended a picture. Each look at a clock is a second later than the last one, so that it ends what looks often, on
+    any machine. The other programs aren't there."""
+    seconds, check_time, budgets_ended = itertools.count(), budgets.Budget.check_time, []
+
+    def check(budget):
+        try:
+            check_time(budget)
+        except budgets.TooLong:
+            budgets_ended.append(budget)
+            raise
+
+    monkeypatch.setenv("PATH", "/nowhere")
+    monkeypatch.setattr(thumbnails.Shrinker, "small", lambda *_: b"")
+    monkeypatch.setattr(budgets.time, "thread_time", lambda: next(seconds))
+    monkeypatch.setattr(budgets.Budget, "check_time", check)
+    return budgets_ended
+
+
+@pytest.fixture
+def try_each(called, folder, ended):
+    """Runs commands on a folder in which a file without an end has replaced another one: of each how often the clock ended something, and the
+    status."""
+
+    def call(file, octets, commands):
+        for side in ("P", "Q"):
+            (folder / side).mkdir()
+            (folder / side / file).write_bytes(jpeg(app1(exif(b"abc"))))
+            (folder / side / "b.jpg").write_bytes(jpeg(app1(exif(b"Abc"))))
+        (folder / "rules").write_text("every picture needs title\n")
+        assert called("index", "P", "--catalogue", "kept", "--quiet", "--pixels")[0] == 0
+        (folder / "P" / file).write_bytes(octets)
+        for command, words in commands.items():
+            ended.clear()
+            shutil.copy("kept", "c")
+            status, out, messages = called(*words.format(file).split())
+            assert status in (0, 1, 2) and "internal" not in out + messages, (command, status, out[-500:], messages)
+            yield command, len(ended), status
+        with sqlite3.connect("new") as base:
+            assert base.execute("SELECT exif != '' FROM pictures WHERE CAST(path AS TEXT) LIKE '%b.jpg'").fetchall() == [(1,)]
+
+    return call
+
+
+@pytest.mark.parametrize("work, ending, make", works(), ids=lambda it: it if isinstance(it, str) else "")
+def test_what_never_ends(work, ending, make, try_each, folder):
+    """In each command the clock ends what reads a picture, which costs no other picture anything. Commands that read no picture never look."""
+    for command, times, status in try_each(f"a.{ending}", make(), {**READS, **OTHERS_READ}):
+        if command in OTHERS_READ or command == "report" and work in OF_MEANING:
+            assert not times, command
+        else:
+            assert 1 <= times <= 3 and (status or command == "report"), (command, times, status)
+    for source in (folder / "P" / f"a.{ending}", open(folder / "P" / f"a.{ending}", "rb")):
+        with pytest.raises(exifnorm_pictures.NotReadable, match="more than 5 seconds"):
+            exifnorm_pictures.read(source)
+
+
+def test_pixels_that_never_end(try_each):
+    """The metadata of a picture with many markers in its scan are known."""
+    picture = jpeg(app1(exif(b"abc")))[:-2] + b"\xff\xc0\0\2" * 30_000 + b"x" * 70_000 + b"\xff\xd9"
+    of_pixels = {"changed": READS["changed"] + " --pixels", **{it: READS[it] for it in ("index", "verify", "compare", "nightly")}}
+    for command, times, _ in try_each("a.jpg", picture, of_pixels):
+        assert times, command
+    with sqlite3.connect("new") as base:
+        assert base.execute("SELECT DISTINCT problem, exif != '' FROM pictures").fetchall() == [(None, 1)]
 
 
 # An ExifTool that has no end at a file with this mark, in each of its calls or at one stage of `mend`. It reads requests as ExifTool does,
