@@ -5,6 +5,7 @@ import json
 import os
 import re
 import shutil
+import sqlite3
 import subprocess
 import sys
 
@@ -409,3 +410,17 @@ def test_what_is_no_bag(manifest, folder, called):
         (folder / "bag/manifest-sha256.txt").write_bytes(manifest.replace(b"%s", b"0" * 64))
     status, printed, messages = called("verify", "--bag", "bag")
     assert (status, printed) == (3, "") and "manifest-sha256.txt" in messages
+
+
+def test_a_hole_of_terabytes(archive, called, verified):
+    """A file of a few kB isn't hashed for an hour: it has no digest, and is never the same file as another."""
+    os.truncate(archive / "a.jpg", 2 << 40)
+    (archive / "e.jpg").write_bytes(PICTURE)
+    os.truncate(archive / "e.jpg", 2 << 40)
+    states = verified()[1]
+    assert states["a.jpg"][0] == "can't be read" and "b.jpg" not in states
+    assert called("index", "p", "--catalogue", "new", "--pixels", "--quiet")[0] == 0
+    with sqlite3.connect("new") as base:
+        assert base.execute("SELECT count(*) FROM pictures WHERE sha256 = ''").fetchall() == [(2,)]
+    assert "identical" not in called("compare", "p/a.jpg", "p/e.jpg")[1]
+    assert '"keep": false' not in called("same", "--catalogue", "new", "--json")[1]

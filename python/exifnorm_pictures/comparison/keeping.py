@@ -101,7 +101,8 @@ def _keys(members: Sequence[PictureRecord], reads: bool) -> Dict[int, _Key]:
             from ..extract.formats.streams import digest_of_file  # which is seldom needed
 
             with contextlib.suppress(OSError):
-                keys[picture.id] = ("file", digest_of_file(picture.path, 1 << 62))
+                if digest := digest_of_file(picture.path, 1 << 62):
+                    keys[picture.id] = ("file", digest)
     return keys
 
 

@@ -2,6 +2,7 @@
 
 from __future__ import annotations
 
+import contextlib
 import errno
 import os
 from typing import Iterator, Tuple
@@ -32,6 +33,22 @@ def put(target: int, piece: bytes, at: int) -> int:
     while written < len(piece):
         written += os.pwrite(target, piece[written:], at + written)
     return written
+
+
+def is_hollow(number: int, size: int, most: int) -> bool:
+    """Whether the holes of an open file have more bytes than `most` together."""
+    if size <= most:
+        return False
+    holes, at = 0, 0
+    with contextlib.suppress(OSError):  # which a file that becomes shorter causes, too
+        for first, last in _data(number, 0, size):
+            holes += first - at
+            at = last
+            if holes > most:
+                break
+        else:
+            holes += size - at
+    return holes > most
 
 
 def _data(number: int, start: int, end: int) -> Iterator[Tuple[int, int]]:

@@ -73,6 +73,7 @@ KEPT_BYTES = (
     4 << 20
 )  # of the fields of a picture in a catalogue, all blocks together, as JSON and as packed: those of two take 130 MB; need 8.6 kB
 WHOLE_FILE = 16 << 20  # bytes of a file of which no block was read, for a digest of all of it; with --whole any number
+HOLES = 1 << 30  # bytes of the holes of a file of which a digest is made: with a terabyte of them a file of 4 kB would take an hour; need 0
 MENDED_BYTES = 1 << 30  # of a picture with a refused block that `mend` copies for each remedy, which may write its holes; need 100 MB
 OUTPUT = 64 << 20  # bytes that another program may write about a picture
 

@@ -11,6 +11,8 @@ from typing import Deque, Iterable, Iterator, List, Optional, Tuple
 
 from ..catalogue.store import PICTURE_COLUMNS, Catalogue
 from ..files import opening
+from ..files.copying import is_hollow
+from ..model.budgets import HOLES
 from ..model.problems import NOT_THERE
 from ..model.records import PictureRecord, picture_of_row
 from .batches import How, Result
@@ -70,10 +72,13 @@ def _hashed(work: Iterator[FoundFile], threads: int) -> Iterator[Tuple[FoundFile
 
 
 def digest(path: bytes, is_stopped: Optional[threading.Event] = None) -> str:
-    """SHA-256 of a file; empty if it can't be read, or if nobody needs it any more."""
+    """SHA-256 of a file; empty if it can't be read, is mostly holes, or if nobody needs it any more."""
     whole = hashlib.sha256()
     try:
-        with open(opening.opened(path)[0], "rb", buffering=0) as file:
+        number, size = opening.opened(path)
+        with open(number, "rb", buffering=0) as file:
+            if is_hollow(number, size, HOLES):
+                return ""
             space = memoryview(bytearray(CHUNK))
             while length := file.readinto(space):
                 whole.update(space[:length])

@@ -8,7 +8,8 @@ import os
 from typing import Iterable, Iterator, Optional, Protocol, Tuple
 
 from ...files import opening
-from ...model.budgets import BYTES_READ, Budget, budget_of
+from ...files.copying import is_hollow
+from ...model.budgets import BYTES_READ, HOLES, Budget, budget_of
 from ...model.found import Blocks, Broken, NotRead, length_of
 
 CHUNK = 1 << 18
@@ -138,10 +139,10 @@ def is_blank(stream: Stream, start: int, end: int) -> bool:
 
 
 def digest_of_file(path: bytes, most: int) -> str:
-    """SHA-256 of a whole file; empty if it has more bytes than `most`."""
+    """SHA-256 of a whole file; empty if it has more bytes than `most`, or more holes than `HOLES`."""
     with opening.reading(path) as file:
         size = os.fstat(file.fileno()).st_size
-        return digest_of(file, 0, size) if size <= most else ""
+        return digest_of(file, 0, size) if size <= most and not is_hollow(file.fileno(), size, HOLES) else ""
 
 
 def digest_of_rest(stream: Stream, start: int, end: int) -> Optional[str]:
