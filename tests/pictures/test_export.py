@@ -1,5 +1,7 @@
 """`export`: the tables of a catalogue, read by SQLite, against what ExifTool reads of the same files."""
 
+import csv
+import io
 import json
 import os
 import re
@@ -51,6 +53,30 @@ def asked(base, query, *values):
 
 
 # Against ExifTool
+
+
+@needs("exiftool")
+def test_positions_are_decimals(run, exported, folder):
+    """Each table has the position that ExifTool writes and reads as numbers, from Exif and from XMP, on all sides of the earth."""
+    places = {"a": (51.5, -0.12), "b": (-33.856784, 151.215297), "c": (0, 0), "d": (-77.85, -166.666667), "e": (90, 180)}
+    put(folder, {f"p/{name}.jpg": SMALL_JPEG for name in (*places, "none")})
+    for at, (name, (north, east)) in enumerate(places.items()):
+        group = ("EXIF", "XMP-exif")[at % 2]
+        words = [f"-{group}:GPSLatitude={north}", f"-{group}:GPSLongitude={east}"]
+        words += [f"-GPSLatitudeRef={'NS'[north < 0]}", f"-GPSLongitudeRef={'EW'[east < 0]}"] if group == "EXIF" else []
+        tool(folder, "exiftool", "-q", "-overwrite_original", *words, f"p/{name}.jpg")
+    rows = exported("p").execute("SELECT path, latitude, longitude FROM pictures")
+    tables = {"export": {os.path.basename(path)[:-4]: (north, east) for path, north, east in rows}}
+    for words in ("captions p", "captions c", "list c --columns position"):
+        rows = csv.DictReader(io.StringIO(run(*words.split(), "--csv")))
+        tables[words] = {
+            os.path.basename(row["picture"])[:-4]: tuple(float(it) if it else None for it in (row["latitude"], row["longitude"]))
+            for row in rows
+        }
+    for words, found in tables.items():
+        assert found.pop("none") == (None, None) and found.keys() == places.keys(), words
+        for name, place in places.items():
+            assert found[name] == pytest.approx(place, abs=1e-6), (words, name)
 
 
 @needs("exiftool")

@@ -26,11 +26,12 @@ class KeptText(NamedTuple):
 
 
 def kept_text(label: str, text: str) -> KeptText:
-    """A text as a catalogue keeps it.
+    """A text as a catalogue keeps it. NUL, at which many functions of SQLite end a text, is as an export has it.
 
     >>> kept_text("creator", "Otto  Wei\u00df")
     KeptText(label='creator', text='Otto  Weiß', head='otto weiss', folded=None)
     """
+    text = text.replace("\0", "\\x00")
     compared = folded(text)
     is_derived = len(compared) < HEAD or (text.isascii() and compared == text.lower())
     return KeptText(label, text, compared[:HEAD], None if is_derived else compared)

@@ -30,7 +30,7 @@ _WIDTH = max(map(len, LABEL_WORDS)) + 1
 def run(arguments: argparse.Namespace) -> int:
     """Lists captions of Exif, IPTC and XMP."""
     worst = SUCCESS
-    table = table_of(arguments, ["picture", *LABEL_WORDS, "camera's text", "contradicts itself", "not read"])
+    table = table_of(arguments, ["picture", *LABEL_WORDS, "latitude", "longitude", "camera's text", "contradicts itself", "not read"])
     has_heads = is_list(arguments, arguments.pictures) or any(is_of_many(os.fsencode(name)) for name in arguments.pictures[:1])
     for reading in pictures(arguments):
         worst = max(worst, status_of_reading(reading))
@@ -50,7 +50,8 @@ def _row(reading: Reading) -> List[Cell]:
     texts = [best([one for one in reading.texts if one.label == word], known) for word in LABEL_WORDS]
     problem = [f"{reading.problem}: {reading.detail}"] if reading.problem else []
     rest = "; ".join([*problem, *refused(reading), *unread(reading, not_read(reading)), *picture_cut(reading)])
-    return [reading.name, *texts, "; ".join(own_texts(reading.texts)), "; ".join(one.label for one in known if one.is_real), rest]
+    place: List[Cell] = [None, None] if reading.place is None else [round(degrees, 6) for degrees in reading.place]
+    return [reading.name, *texts, *place, "; ".join(own_texts(reading.texts)), "; ".join(one.label for one in known if one.is_real), rest]
 
 
 def _lines(reading: Reading) -> Iterator[str]:

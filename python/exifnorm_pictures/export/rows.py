@@ -13,6 +13,7 @@ from ..comparison.group_sentence import sentence_of
 from ..comparison.groups import Groups
 from ..comparison.keeping import Keep, keeping
 from ..fields.labels import LabelText
+from ..fields.places import position_of
 from ..fields.field import Field
 from ..fields.block_fields import with_fields
 from ..fields.typed import typed
@@ -49,9 +50,10 @@ class Export:
             self.tables.add("groups", ((*about, it.id, *_keep_row(keeps.get(it.id, Keep()))) for it in group.members))
 
     def _picture(self, picture: PictureRecord) -> None:
-        self.tables.add("pictures", [_picture_row(picture)])
         with self.catalogue.guarded():
             blocks = with_fields(self.catalogue.blocks_of(picture))
+        place = position_of(field for _, fields in blocks for field in fields)
+        self.tables.add("pictures", [(*_picture_row(picture), *(place or (None, None)))])
         self.maker_notes += any(block.note is not None for block, _ in blocks)
         for number, (block, fields) in enumerate(blocks):
             self.tables.add("blocks", [_block_row(picture, number, block)])

@@ -37,7 +37,9 @@ CREATE TABLE pictures (
     xmp TEXT,
     coded_picture TEXT,
     sha256 TEXT,
-    damage TEXT
+    damage TEXT,
+    latitude REAL,
+    longitude REAL
 );
 CREATE TABLE blocks (
     picture INTEGER NOT NULL REFERENCES pictures(id),

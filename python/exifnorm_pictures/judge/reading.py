@@ -14,6 +14,7 @@ from .judge import judge_all
 
 if TYPE_CHECKING:
     from ..fields.labels import LabelText
+    from ..fields.places import Place
 
 
 @dataclass
@@ -78,6 +79,13 @@ class Reading:
             camera = next(filter(any, cameras), ("", ""))
             self._texts = with_own(sorted(texts, key=lambda it: STANDARDS.index(it.standard)), *camera)
         return self._texts
+
+    @property
+    def place(self) -> "Optional[Place]":
+        """Where it was taken, by the fields of GPS."""
+        from ..fields.places import position_of  # which few commands need
+
+        return position_of(one for block in self.blocks for one in fields_of(block))
 
     def found(self, block: BlockRecord) -> FoundBlock:
         """A block as it was found."""
