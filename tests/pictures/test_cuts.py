@@ -326,3 +326,33 @@ def test_nights(folder, called):
     status, printed, _ = called("nightly", "p", "--catalogue", "c", "--json")
     news = {it["news"]: it["count"] for it in map(json.loads, printed.splitlines()) if "news" in it}
     assert status == 1 and news == {"damaged": len(LAST)}, news
+
+
+@needs("exiftool", "exiv2")
+@pytest.mark.parametrize("words", ["--only=IPTC", "--only=keywords", "--only=XMP", "--only=IFD0:Make", "--only=Exif"])
+def test_only_what_may_be_behind_the_cut(asked, checks, words):
+    """What is asked for may be behind the cut: then it is neither kept nor changed, whichever file is cut."""
+    kind = {"keywords": "iptc", "IFD0:Make": "exif"}.get(words[7:], words[7:].lower())
+    for catalogues in (("before.catalogue", "after.catalogue"), ("after.catalogue", "before.catalogue")):
+        status, lines = asked("changed", *catalogues, words, "--all", "--json", "--no-exiftool")
+        assert status == 2
+        for it in (one for one in map(json.loads, lines) if "path" in one):
+            result, is_lost = Result(it["result"]), kind in lost(*CASES[it["path"]])
+            checks.equal(f"{it['path']}: {result}", (result.has_changed is None or not is_lost, it["fields"]), (True, []))
+            checks.equal(f"{it['path']}: the cut is named in {it['note']}", it["note"].count("the file ends "), 1)
+
+
+@needs("exiftool", "exiv2")
+@pytest.mark.parametrize("rule", ["every picture needs keywords", "keywords never", 'keywords like "one"', "keywords at most 2 characters"])
+def test_rules(asked, checks, folder, rule):
+    """A keyword that may be behind a cut breaks no rule, and keeps none: such a picture is counted, and the status is 2."""
+    (folder / "rules").write_text(rule + "\n")
+    status, lines = asked("check", str(folder / "rules"), "after.catalogue", "--json")
+    *broken, summary = map(json.loads, lines)
+    for it in broken:
+        case = it["path"].rpartition("/")[2]
+        checks.equal(f"{rule}: {case}", it["text"] or ("iptc" not in lost(*CASES[case]) or None), it["text"] or True)
+    open_ones = [case for case, it in CASES.items() if "iptc" in lost(*it)]
+    assert status == 2 and summary["not_known"] >= len(open_ones) > 50
+    text = asked("check", str(folder / "rules"), "after.catalogue")[1]
+    assert f"{summary['not_known']:,} pictures were not wholly read, and may break more" in "\n".join(text)
