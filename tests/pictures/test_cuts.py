@@ -5,6 +5,7 @@ import contextlib
 import csv
 import io
 import json
+import re
 
 import exifnorm_pictures as pictures
 import pytest
@@ -277,6 +278,8 @@ def test_index_list_and_report(archives, asked, checks, folder):
         named = [it["damaged"] for it in report if "damaged" in it and it["path"].endswith(f"/{case}")]
         checks.equal(f"{case}: report", named, [objects[case]])
     assert len(in_check) > 5 and f"{len(CASES):,} cut off or damaged: " in texts and f"<b>{len(CASES)}</b> cut off or damaged" in page
+    without = re.search(r"([\d,]+) damaged, ", texts)[1]  # a block in what is left
+    assert f"<b>{without}</b> cut off, and without a block" in page
     assert f", {len(CASES)} of them cut off or damaged" in in_list[-1] and page.count("the file ends ") >= len(CASES)
 
 

@@ -110,7 +110,8 @@ class Book:
             yield Section("broken", "Broken rules", "picture", lists.breaking(rules))
         yield Section("same", "Pictures with the same metadata", "group", lists.same(about, counts))
         yield Section("refused", "Refused blocks and what helps", "block", lists.refusals(about, counts))
-        yield Section("unread", "Damaged, or not wholly read", "picture", lists.unread(about))
+        yield Section("damaged", "Cut off or damaged", "picture", lists.damaged(about))
+        yield Section("unread", "Not wholly read", "picture", lists.unread(about))
         yield Section("problems", "Files without an answer", "file", lists.problems(about))
         yield Section("folders", "All pictures", "picture", lists.folders(about))
 

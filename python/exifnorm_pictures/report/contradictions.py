@@ -26,6 +26,7 @@ class Checked(NamedTuple):
     path: bytes
     found: List[Conflict]
     is_whole: bool  # whether all of its texts were compared
+    has_two: bool = True  # standards, as far as its file goes
 
     @property
     def real(self) -> List[Conflict]:
@@ -46,7 +47,7 @@ class Contradictions:
     def add(self, checked: Checked) -> None:
         """Counts a picture."""
         real = checked.real
-        self.pictures += 1
+        self.pictures += checked.has_two
         self.real += bool(real)
         self.minor += bool(checked.found) and not real
         self.unread += not checked.is_whole
@@ -54,9 +55,11 @@ class Contradictions:
 
 
 def checked(catalogue: Catalogue, pictures: Iterator[PictureRecord]) -> Iterator[Checked]:
-    """The pictures with metadata in two standards at least."""
+    """The pictures with metadata in two standards at least, and those that may have them behind the end of a file that is cut off."""
     for picture in pictures:
         if picture.problem or sum(octets != "" for octets in picture.octets) < 2:
+            if picture.problem is None and _is_cut(picture):
+                yield Checked(picture.path, [], False, False)
             continue
         with catalogue.guarded():
             blocks = with_fields(catalogue.blocks_of(picture))
@@ -66,8 +69,13 @@ def checked(catalogue: Catalogue, pictures: Iterator[PictureRecord]) -> Iterator
 
 def _checked(picture: PictureRecord, blocks: List[BlockRecord], texts: PictureTexts) -> Checked:
     known = [one for one in conflicts(texts.texts) if not one.is_alike and one.label not in texts.missing]
-    is_whole = not texts.missing and all(one.is_accepted or one.repair for one in blocks)
+    is_whole = not (texts.missing or _is_cut(picture)) and all(one.is_accepted or one.repair for one in blocks)
     return Checked(picture.path, known, is_whole)
+
+
+def _is_cut(picture: PictureRecord) -> bool:
+    """Whether a file ends so that blocks may be missing."""
+    return bool(picture.damage) and picture.not_read != ""
 
 
 def texts_by_standard(conflict: Conflict) -> Dict[str, str]:

@@ -17,7 +17,7 @@ from ..comparison.group_sentence import sentence_of
 from ..comparison.keeping import KEEP_ALL
 from ..comparison.readings import Unknown
 from ..fields.rules import Rule
-from ..model.found import cut, each_kind
+from ..model.found import each_kind
 from ..model.problems import NOT_THERE, Problem
 from ..model.records import has, has_short, picture_of_row
 from .contents import About, Refused, chosen, refused
@@ -65,7 +65,7 @@ def counts_of(about: About) -> Counts:
 
 # The state of a picture, as `Picture.state` has it
 _STATE = """CASE WHEN ifnull(problem, '') != '' THEN problem WHEN exif IS NULL OR iptc IS NULL OR xmp IS NULL THEN 'refused'
-    WHEN exif != '' OR iptc != '' OR xmp != '' THEN 'accepted' ELSE 'no block' END"""
+    WHEN exif != '' OR iptc != '' OR xmp != '' THEN 'accepted' WHEN damage != '' AND not_read IS NOT '' THEN 'damaged' ELSE 'no block' END"""
 
 
 def _counted_word(row: Tuple[str, int]) -> Tuple[str, int]:
@@ -164,19 +164,25 @@ def _quoted(path: bytes) -> str:
 
 
 class Unread(NamedTuple):
-    """A picture that is damaged or wasn't wholly read."""
+    """A picture that is damaged or wasn't wholly read, and where."""
 
     path: bytes
     parts: List[str]
 
 
+def damaged(about: About) -> Iterator[Entry]:
+    """The pictures that are cut off or damaged."""
+    rows = about.catalogue.rows(f"SELECT path, damage FROM pictures WHERE damage != ''{_and_chosen(about)} ORDER BY path", (), _two_words)
+    for path, damage in rows:
+        yield Entry(Unread(path, [damage]), (path,), 1, True, len(damage))
+
+
 def unread(about: About) -> Iterator[Entry]:
-    """The pictures that are damaged or weren't wholly read, with the parts."""
+    """The pictures that weren't wholly read, with the parts."""
     catalogue = about.catalogue
-    query = f"SELECT {PICTURE_COLUMNS} FROM pictures WHERE (not_read IS NOT '' OR damage != '') AND {chosen(about)} ORDER BY path"
+    query = f"SELECT {PICTURE_COLUMNS} FROM pictures WHERE not_read IS NOT '' AND {chosen(about)} ORDER BY path"
     for picture in catalogue.rows(query, (), picture_of_row):
         parts = each_kind(part.what for part in catalogue.not_read_of(picture))
-        parts += [f"damaged: {picture.damage}"] * bool(picture.damage and not cut(parts))
         yield Entry(Unread(picture.path, parts), (picture.path,), len(parts), True, sum(map(len, parts)))
 
 
@@ -207,13 +213,13 @@ def folders(about: About) -> Iterator[Entry]:
         catalogue.base.create_function("folder_of", 1, os.path.dirname, deterministic=True)
     is_shown = f"ifnull(problem, '') NOT IN {(*NOT_THERE, str(Problem.NO_PICTURE))}{_and_chosen(about)}"
     query = f"SELECT path, {_STATE} FROM pictures WHERE {is_shown} ORDER BY folder_of(path), path"
-    rows = catalogue.rows(query, (), _picture_and_state)
+    rows = catalogue.rows(query, (), _two_words)
     for folder, of_folder in groupby(rows, lambda row: os.path.dirname(row[0])):
         for number, pictures in enumerate(chunks(of_folder, lambda row: row[0])):
             yield Entry(Folder(folder, pictures, not number), tuple(path for path, _ in pictures))
 
 
-def _picture_and_state(row: Tuple[bytes, str]) -> Tuple[bytes, str]:
+def _two_words(row: Tuple[bytes, str]) -> Tuple[bytes, str]:
     has_short(bytes, row[0])
     has_short(str, row[1])
     return row

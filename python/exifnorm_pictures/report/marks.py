@@ -11,6 +11,7 @@ WORDS = {
     "broken": "breaks a rule",
     "same": "same as another",
     "refused": "refused",
+    "damaged": "damaged",
     "unread": "not wholly read",
 }
 
