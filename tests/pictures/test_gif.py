@@ -51,9 +51,9 @@ LEFT = {
 WITHOUT = len(gif())
 BROKEN = {
     "the head": (gif()[:12], "the file ends inside the 13 bytes at 0"),
-    "the colours": (gif()[:15], "the file ends inside the 1 bytes at 19"),
+    "the colours": (gif()[:15], "the file ends without its end mark"),
     "an image": (gif()[:25], "the file ends inside the 9 bytes at 20"),
-    "no end": (gif()[:-1], f"the file ends inside the 1 bytes at {WITHOUT - 1}"),
+    "no end": (gif()[:-1], "the file ends without its end mark"),
     "an extension": (gif(X)[:40], "the file ends inside the 60 bytes at 34"),
     "no block": (gif(b"x"), "no block at 19"),
 }

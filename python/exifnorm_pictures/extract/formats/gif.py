@@ -28,6 +28,8 @@ def read(stream: Stream, whole: bool = False) -> Blocks:
     head = reader.take(13)
     reader.at += _colours(head[10])
     while True:
+        if reader.at >= reader.size:
+            raise Broken("the file ends without its end mark")
         at, kind = reader.at, reader.take(1)[0]
         if kind == _END:
             leave_rest(blocks, stream, reader.at)
