@@ -18,6 +18,7 @@ from made_files import app1, app1_xmp, exif, jpeg, title, xmp
 from studio import SMALL_JPEG, TOP, needs
 from test_captions import data_set, with_record, with_texts
 
+from exifnorm_pictures.cli import parser
 from exifnorm_pictures.fields.typed import typed
 
 SCHEMA = json.loads(Path(exifnorm_pictures.__path__[0], "output.schema.json").read_text(encoding="utf-8"))
@@ -291,3 +292,84 @@ def test_explanations_and_copies(objects, folder, tmp_path):
     *pictures, summary = objects("mend", "--files-from", str(folder / "list"), str(folder / "out"))
     assert {it["step"] for it in pictures} >= {"copy", "repair", "none"} and sum(summary["counts"].values()) == len(pictures)
     assert pictures[-1]["damage"] == last["damage"] and [it["problem"] for it in pictures if it["path"] == "nothing.jpg"] == ["NoFile"]
+
+
+# Every command
+
+EVERY = {  # what is run of each command that the parser has
+    "index": ["index after --catalogue c.catalogue --pixels", "index after nothing --catalogue c.catalogue"],
+    "merge": ["merge a.catalogue b.catalogue --catalogue all.catalogue"],
+    "forget": ["forget before --catalogue all.catalogue"],
+    "relocate": ["relocate before after --catalogue a.catalogue"],
+    "verify": ["verify --catalogue p.catalogue", "verify --catalogue p.catalogue --list damaged"],
+    "same": [
+        "same --catalogue p.catalogue",
+        "same --catalogue p.catalogue --kind pixels --columns title",
+        "same --catalogue p.catalogue --kind file",
+    ],
+    "changed": ["changed a.catalogue b.catalogue --all", "changed before after --pixels --only Exif", "changed before after --each"],
+    "history": ["history after/0.jpg a.catalogue b.catalogue"],
+    "compare": ["compare before/0.jpg after/0.jpg", "compare before/0.jpg nothing.jpg", "compare before/2.jpg after/2.jpg --ignore saves"],
+    "list": ["list p.catalogue", "list p.catalogue --without credit --columns title,position", "list after --count title"],
+    "check": ["check rules after", "check rules p.catalogue --by-picture"],
+    "nightly": ["nightly after --catalogue night.catalogue --rules rules"],
+    "show": ["show after/0.jpg after/cut.jpg nothing.jpg"],
+    "captions": ["captions after", "captions p.catalogue"],
+    "conflicts": ["conflicts after", "conflicts p.catalogue"],
+    "explain": ["explain after/broken.jpg after/cut.jpg"],
+    "report": ["report b.catalogue --since a.catalogue", "report p.catalogue --no-look"],
+    "export": ["export p.catalogue tables.sqlite"],
+    "mend": ["mend after/broken.jpg mended.jpg", "mend --catalogue b.catalogue out"],
+}
+
+
+@pytest.fixture(scope="module")
+def nights(session_folder):
+    """Folders before and after a day in which much happened, their catalogues, and rules that are broken."""
+    from exifnorm_pictures.cli import main
+
+    top = session_folder / "every"
+    twice = jpeg(
+        app1_xmp(xmp("<dc:title><rdf:Alt><rdf:li xml:lang='x-default'>one</rdf:li></rdf:Alt></dc:title>")), with_record(data_set(5, b"two"))
+    )
+    before = {"0.jpg": title("one"), "1.jpg": title("two"), "2.jpg": title("three"), "moved.jpg": title("four"), "gone.jpg": title("five")}
+    after = {**{name: title("one") for name in ("0.jpg", "1.jpg", "2.jpg")}, "sub/moved.jpg": title("four"), "twin.jpg": title("one")}
+    odd = {"broken.jpg": with_exif(SMALL_JPEG, BLOCKS["Overlap"]), "notes.txt": b"no picture", "cut.jpg": jpeg(app1(exif(b"abc")))[:-9]}
+    for side, files in (("before", before), ("after", after)):
+        for name, octets in {
+            **{name: jpeg(app1_xmp(it)) for name, it in files.items()},
+            **odd,
+            "twice.jpg": twice,
+            "tail.jpg": jpeg(behind=b"x"),
+        }.items():
+            (top / side / name).parent.mkdir(parents=True, exist_ok=True)
+            (top / side / name).write_bytes(octets)
+    (top / "rules").write_text("every picture needs credit\ntitle never in after/nowhere\n")
+    (top / "out").mkdir()
+    here = os.getcwd()
+    os.chdir(top)
+    try:
+        for words in ("before --catalogue a.catalogue", "after --catalogue b.catalogue", "after --catalogue p.catalogue --pixels"):
+            main._run(["index", *words.split(), "--quiet"])
+        main._run(["nightly", "after", "--catalogue", "night.catalogue"])
+    finally:
+        os.chdir(here)
+    (top / "after" / "1.jpg").write_bytes(jpeg(app1_xmp(title("later")))[:-9])  # which `verify` and `nightly` find
+    return top
+
+
+@needs("exiftool")
+@pytest.mark.parametrize("command", parser.parsers()[1])
+def test_each_line_of_each_command(command, nights, called, monkeypatch):
+    """A new command, record or key fails this until the schema has it, and what is run here shows each record of the schema."""
+    monkeypatch.chdir(nights)
+    records = set()
+    for words in EVERY[command]:
+        lines = called(*words.split(), "--json")[1].splitlines()
+        assert lines, words
+        for it in (json.loads(line, parse_constant=pytest.fail) for line in lines):
+            VALIDATOR.validate(it)
+            assert it["schema"].split("/")[1] == command
+            records.add(it["record"])
+    expected = {name.partition("-")[2] for name in SCHEMA["$defs"] if name.startswith(f"{command}-")}
+    assert records == expected - {"unknown"}, "MakerNotes that nobody can read need a file that is gone"

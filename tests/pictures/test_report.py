@@ -124,7 +124,7 @@ class Report(WithPictures):
         refused = " ".join(page.sections["refused"])
         self.assertEqual({it for it in range(300) if f"mended-z{it:03}.jpg" in refused}, set(range(300)))
         self.assertEqual(
-            sum(it.startswith('{"refused"') and '"Doubled"' in it for it in self.asked("report", "--catalogue", "c", "--json")), 300
+            sum('"record": "refusal"' in it and '"Doubled"' in it for it in self.asked("report", "--catalogue", "c", "--json")), 300
         )
 
     @needs("chromium")

@@ -171,7 +171,7 @@ def test_a_page_has_the_remedy_of_each_cause(asked, folder):
     asked("index", "p", "--catalogue", "c", "--quiet")
     asked("report", "--catalogue", "c", "--html", "page")
     page = (folder / "page").read_text()
-    found = {json.loads(it)["cause"] for it in asked("report", "--catalogue", "c", "--json") if '"refused"' in it[:12]}
+    found = {json.loads(it)["cause"] for it in asked("report", "--catalogue", "c", "--json") if '"record": "refusal"' in it}
     assert len(found) > 1 and page.count("<b>Remedy.</b>") == len(found)
 
 

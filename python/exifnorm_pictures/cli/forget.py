@@ -9,7 +9,8 @@ from ..catalogue.store import Catalogue
 from ..model.texts import path_members, shown_path
 from .exit_codes import SUCCESS
 from .names import named
-from .output import output
+from .objects import print_object
+from .output import print_line
 
 
 def run(arguments: argparse.Namespace) -> int:
@@ -21,5 +22,8 @@ def run(arguments: argparse.Namespace) -> int:
         for name in names:
             count = catalogue.forget(os.path.abspath(name))
             plural = "s" * (count != 1)
-            output(arguments, [f"{shown_path(name)}: {count} picture{plural} forgotten"], {**path_members(name), "forgotten": count})
+            if arguments.json:
+                print_object("forget", "folder", {**path_members(name), "forgotten": count})
+            else:
+                print_line(f"{shown_path(name)}: {count} picture{plural} forgotten")
     return SUCCESS

@@ -6,11 +6,15 @@ import argparse
 
 from ..catalogue.merge import merge
 from .exit_codes import SUCCESS
-from .output import output
+from .objects import print_object
+from .output import print_line
 
 
 def run(arguments: argparse.Namespace) -> int:
     """Joins catalogues."""
     count = merge(arguments.catalogue, arguments.catalogues)
-    output(arguments, [f"{count} pictures"], {"pictures": count})
+    if arguments.json:
+        print_object("merge", "summary", {"pictures": count})
+    else:
+        print_line(f"{count} pictures")
     return SUCCESS

@@ -2,7 +2,6 @@
 
 from __future__ import annotations
 
-import json
 import re
 import shutil
 import sys
@@ -13,7 +12,7 @@ from ..model.found import cut, damage
 from ..model.problems import Problem
 from ..model.records import BlockRecord, PictureRecord
 from ..model.steps import loses, words
-from ..model.texts import Members, safe, shown_path
+from ..model.texts import safe, shown_path
 from .columns import NARROWEST, folded
 
 if TYPE_CHECKING:
@@ -29,15 +28,6 @@ def print_line(text: str) -> None:
         print(*folded(line, shutil.get_terminal_size().columns), sep="\n")
     else:
         print(line)
-
-
-def output(arguments: argparse.Namespace, lines: Sequence[str], members: Members) -> None:
-    """Prints some lines, or with --json the object."""
-    if arguments.json:
-        print(json.dumps(members))
-    else:
-        for line in lines:
-            print_line(line)
 
 
 def table_of(arguments: argparse.Namespace, heads: Sequence[str]) -> Optional[Table]:

@@ -4,7 +4,6 @@ from __future__ import annotations
 
 import argparse
 import contextlib
-import json
 
 from ..catalogue.store import Catalogue
 from ..report import contents, links
@@ -13,6 +12,7 @@ from .check import rules_of_file
 from .choice import choice_of, listings_of, note_absent, refuse_unknown
 from .exit_codes import SUCCESS
 from .names import chosen_paths, say_unknown
+from .objects import print_object
 from .page_file import write_report
 from .parser import refuse
 
@@ -40,6 +40,6 @@ def run(arguments: argparse.Namespace) -> int:
             write_report(about, arguments.html, [one.name for one in sides])
         if arguments.json:
             for members in contents.members(about):
-                print(json.dumps(members))
+                print_object("report", contents.record_of(members), members)
         say_unknown(chosen or (), catalogue.has)
     return SUCCESS

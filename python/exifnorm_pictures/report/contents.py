@@ -102,6 +102,30 @@ def _count_fields(counts: "Counter[str]", names: Iterable[str]) -> int:
     return left
 
 
+# What an object is about, by a key that no other one has
+_RECORDS = {
+    "states": "summary",
+    "same": "group",
+    "maker_notes_unknown": "unknown",
+    "changed": "change",
+    "results": "changes",
+    "contradicts_itself": "contradiction",
+    "refused": "refusal",
+    "damaged": "damage",
+    "problem": "problem",
+    "not_read": "unread",
+}
+
+
+def record_of(members: Members) -> str:
+    """What an object is about.
+
+    >>> record_of({"refused": {"path": "a.jpg"}})
+    'refusal'
+    """
+    return next(record for key, record in _RECORDS.items() if key in members)
+
+
 def members(about: About) -> Iterator[Members]:
     """All that is known, as JSON objects."""
     catalogue = about.catalogue
