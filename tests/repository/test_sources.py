@@ -118,7 +118,7 @@ FOR_TESTS = ("px_calls", "px_devices", "px_picture_calls")  # crates
 # program's arguments, and the one of the files with known bytes, which the program never calls.
 GROWERS = {
     "crates/px_cli/src/main.rt: given",
-    "crates/px_cli/src/named.rt: make_beside",
+    "crates/px_runs/src/named.rt: make_beside",
     "crates/px_words/src/grammar.rt: bare",
     "crates/px_words/src/grammar.rt: joined",
     "crates/px_words/src/grammar.rt: of_one",
@@ -268,7 +268,7 @@ def test_each_export_with_memory_has_a_variant():
 
 def test_the_run_of_the_program_is_two_lines():
     """No contract describes clap's result, so the run does nothing else than to read its arguments and to do what they request."""
-    found = [body for _, it in crates() for path, name, _, _, body in it if (path, name) == ("crates/px_cli/src/run.rt", "run_words")]
+    found = [body for _, it in crates() for path, name, _, _, body in it if (path, name) == ("crates/px_runs/src/run.rt", "run_words")]
     assert [" ".join(it.split()) for it in found] == [RUN]
 
 

@@ -1,7 +1,8 @@
 //! Tests of the libraries' public calls that only a caller in Rattle can make: values built or appended by
-//! hand, plans, two files in memory at once, and flushes. They are in one crate because a crate with tests is
-//! proved twice, with and without them; so no other crate but px_picture_calls has tests, and these share a fake
-//! writer. Neither the program nor the C library uses this crate.
+//! hand, plans, two files in memory at once, flushes, and runs of the program over files of known bytes. They
+//! are in one crate because a crate with tests is proved twice, with and without them; so no other crate but
+//! px_picture_calls has tests, and these share a fake writer. Neither the program nor the C library uses this
+//! crate.
 #![tactic(auto)]
 
 #[cfg(test)]
@@ -18,5 +19,7 @@ mod iim_tests;
 mod jobs_tests;
 #[cfg(test)]
 mod layout_tests;
+#[cfg(test)]
+mod runs_tests;
 #[cfg(test)]
 mod tree_tests;

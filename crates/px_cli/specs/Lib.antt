@@ -1,6 +1,1 @@
-pub mod Programs
-pub mod Laws
-pub mod Logs
-pub mod Named
-pub mod lemmas
 pub mod calls

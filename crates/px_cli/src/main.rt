@@ -13,13 +13,10 @@
 #![tactic(auto)]
 
 mod files;
-mod laws;
-mod named;
-mod run;
 
 use crate::files::System;
-use crate::run::{NoWords, Streams, run_given};
 use px_bytes::{Memory, Watched};
+use px_runs::{NoWords, Streams, run_given};
 use px_words::Clap;
 use std::io::ErrorKind;
 use std::process::ExitCode;

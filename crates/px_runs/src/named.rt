@@ -1,10 +1,10 @@
 // Files whose bytes are known: what the laws of runs say of them has no premise that can't be met. The program has no
-// use for them.
+// use for them; tests run it over them.
 ghost use Rattle.std.specs.Prelude.{◌≡◌, ℕ, List, [], Option, Some, None, Result, Ok, IfOk, IfSome, option_map};
 ghost use Rattle.std.specs.Io.KnownBytes.{Appends};
-ghost use Rattle.px_cli.specs.Named.{HasFile};
+ghost use Rattle.px_runs.specs.Named.{HasFile};
 
-use crate::files::Opens;
+use crate::opens::Opens;
 use px_engine::Fault;
 use std::alloc::Global;
 
@@ -50,6 +50,16 @@ impl<'a> Named<'a> {
             written: None,
         }
     }
+
+    /// The bytes of the file that was made and closed last.
+    pub fn written(&self) -> Option<&[u8]>
+        ensures { option_map (λ x. x.now) result ≡ option_map (λ v. v.items) self.now.written }
+    {
+        match &self.written {
+            Some(bytes) => Some(bytes.as_slice()),
+            None => None,
+        }
+    }
 }
 
 // The bytes of the first file of that name.
@@ -65,7 +75,7 @@ fn bytes_of<'a>(files: &'a [NamedFile<'a>], name: &str) -> Option<&'a [u8]>
 }
 
 impl<'a> Opens for Named<'a> {
-    ghost use Rattle.px_cli.specs.Named.{IsOpened};
+    ghost use Rattle.px_runs.specs.Named.{IsOpened};
 
     type Reader = &'a [u8];
 
@@ -95,7 +105,7 @@ impl<'a> Opens for Named<'a> {
 }
 
 impl<'a> KnownFiles for Named<'a> {
-    ghost use Rattle.px_cli.specs.lemmas.NamedLaws.{one_file};
+    ghost use Rattle.px_runs.specs.lemmas.NamedLaws.{one_file};
     ghost use Rattle.std.proofs.Common.{◌∙◌, ◌++◌, ap};
 
     ghost has_file = { λ f name x. HasFile f.files.now name (Some x) };

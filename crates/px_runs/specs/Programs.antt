@@ -15,8 +15,8 @@ use Rattle.px_bytes.specs.Lacking.{Taken}
 use Rattle.px_jobs.specs.Lines.{TellsFault, TellsWords}
 use Rattle.px_jobs.specs.Endings.{Ends, EndsCompare, IsIdle}
 use Rattle.px_words.specs.Words.{out_is_file, AskedBy, LacksWords}
-use Rattle.px_cli.specs.declared.run.NoWords.{NoWords}
-use Rattle.px_cli.specs.declared.run.NoWords.TheVariants as no
+use Rattle.px_runs.specs.declared.run.NoWords.{NoWords}
+use Rattle.px_runs.specs.declared.run.NoWords.TheVariants as no
 
 -- the job of a command with one file
 abbrev pub job_of : One → Job

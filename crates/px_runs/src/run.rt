@@ -2,11 +2,11 @@
 ghost use Rattle.std.specs.Prelude.{◌≡◌, drop, map, IfErr, IfOk};
 ghost use Rattle.px_jobs.specs.declared.Job.TheVariants.{Normalise};
 ghost use Rattle.px_jobs.specs.Endings.{Ends, IsIdle};
-ghost use Rattle.px_cli.specs.Programs.{job_of, Answers, EndsBeside, EndsFile, EndsFiles, EndsForm, EndsJob, EndsOther, EndsPair};
-ghost use Rattle.px_cli.specs.Programs.{EndsWords, TellsClosed, TellsNoWords};
+ghost use Rattle.px_runs.specs.Programs.{job_of, Answers, EndsBeside, EndsFile, EndsFiles, EndsForm, EndsJob, EndsOther, EndsPair};
+ghost use Rattle.px_runs.specs.Programs.{EndsWords, TellsClosed, TellsNoWords};
 ghost use Rattle.px_bytes.specs.Devices.{CanFail, no_calls, over};
 
-use crate::files::Opens;
+use crate::opens::Opens;
 use px_bytes::{Memory, Sink, Source, Watched};
 use px_engine::{Fault, Side, VERSION};
 use px_jobs::{Job, run_compare_in, run_one_in, say_text, tell};

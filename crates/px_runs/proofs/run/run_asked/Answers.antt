@@ -1,5 +1,5 @@
 use Rattle.std.proofs.Common.{refl}
-use Rattle.px_cli.proofs.run.run_asked.Goals as goal
+use Rattle.px_runs.proofs.run.run_asked.Goals as goal
 
 -- the names of the two files are those of the request
 pub returns-in-Normalise : goal.returns-in-Normalise

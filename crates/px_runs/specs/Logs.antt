@@ -5,7 +5,7 @@ use Rattle.px_words.specs.declared.Words.{Words}
 use Rattle.px_words.specs.declared.Words.TheVariants as words
 use Rattle.px_bytes.specs.Devices.{Device}
 use Rattle.px_bytes.specs.Lacking.{Taken}
-use Rattle.px_cli.specs.Programs.{EndsWords}
+use Rattle.px_runs.specs.Programs.{EndsWords}
 
 -- a call to open a file, to create or empty one, or to close a writer that has taken these bytes
 pub data Call : Type 0 where

@@ -1,5 +1,5 @@
-use Rattle.px_cli.proofs.Headlines as headlines
-use Rattle.px_cli.proofs.laws.outputs_tell.Goals as goal
+use Rattle.px_runs.proofs.Headlines as headlines
+use Rattle.px_runs.proofs.laws.outputs_tell.Goals as goal
 
 pub returns : goal.returns
 returns g c = headlines.outputs_tell g.O.Reader.Read.remaining g.O.Writer.Write.contents g.O.Opens.opens g.O.Opens.makes g.O.Opens.closes

@@ -6,8 +6,8 @@ use Rattle.px_words.specs.declared.Words.{Words}
 use Rattle.px_words.specs.declared.Words.TheVariants as words
 use Rattle.px_bytes.specs.Devices.{Device}
 use Rattle.px_bytes.specs.Lacking.{Taken}
-use Rattle.px_cli.specs.Programs.{job_of, EndsBeside, EndsFile, EndsFiles, EndsForm, EndsOther, EndsWords}
-use Rattle.px_cli.specs.Logs.{Call, Open, Make, Close, IsLog, MayCall}
+use Rattle.px_runs.specs.Programs.{job_of, EndsBeside, EndsFile, EndsFiles, EndsForm, EndsOther, EndsWords}
+use Rattle.px_runs.specs.Logs.{Call, Open, Make, Close, IsLog, MayCall}
 
 -- a list of calls and one more
 more : (a b c : List Call) (calls : List Call) (x : Call) → b ≡ a ++ calls → c ≡ b ++ x ∷ [] → c ≡ a ++ (calls ++ x ∷ [])

@@ -1,5 +1,5 @@
-use Rattle.px_cli.proofs.Logged as logged
-use Rattle.px_cli.proofs.laws.only_calls.Goals as goal
+use Rattle.px_runs.proofs.Logged as logged
+use Rattle.px_runs.proofs.laws.only_calls.Goals as goal
 
 pub returns : goal.returns
 returns g c log logs asked files files_now taken taken_now status input out lines ended =

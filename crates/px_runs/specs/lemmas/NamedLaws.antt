@@ -1,7 +1,7 @@
 -- A name has at most one file.
 use Rattle.std.proofs.Common.{◌≡◌, ◌∙◌, ℕ, Option, List, [], ◌∷◌, sym, inl, inr}
-use Rattle.px_cli.specs.declared.named.NamedFile.{NamedFile}
-use Rattle.px_cli.specs.Named.{HasFile}
+use Rattle.px_runs.specs.declared.named.NamedFile.{NamedFile}
+use Rattle.px_runs.specs.Named.{HasFile}
 
 pub one_file : (fs : List NamedFile) (name : List ℕ) (x y : Option (List ℕ)) → HasFile fs name x → HasFile fs name y → x ≡ y
 one_file [] name x y h k = h ∙ sym k

@@ -1,8 +1,8 @@
 use Rattle.std.proofs.Common.{rules, ◌≡◌, ◌≢◌, ◌<◌, ◌+◌, ℕ, List, Option, Some, length, drop, get_or, slice_index_or, inl, inr, refl, []}
 use Rattle.std.proofs.lemmas.List.{drop_more}
-use Rattle.px_cli.specs.declared.named.NamedFile.{NamedFile}
-use Rattle.px_cli.specs.Named.{HasFile}
-use Rattle.px_cli.proofs.named.bytes_of.Goals as goal
+use Rattle.px_runs.specs.declared.named.NamedFile.{NamedFile}
+use Rattle.px_runs.specs.Named.{HasFile}
+use Rattle.px_runs.proofs.named.bytes_of.Goals as goal
 
 here : (fs : List NamedFile) (i : ℕ) (d : NamedFile) (name : List ℕ) → i < length fs → (get_or fs i d).name.now ≡ name
     → HasFile (drop i fs) name (Some (get_or fs i d).bytes.now)

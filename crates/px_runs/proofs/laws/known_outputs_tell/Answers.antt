@@ -1,4 +1,4 @@
-use Rattle.px_cli.proofs.laws.known_outputs_tell.Goals as goal
+use Rattle.px_runs.proofs.laws.known_outputs_tell.Goals as goal
 
 pub returns : goal.returns
 returns g c f h file out other_file other_out files files_now other_files other_files_now taken taken_now other_taken other_taken_now

@@ -2,7 +2,7 @@
 use Rattle.std.specs.Prelude.{◌≡◌, ◌≢◌, ◌⊎◌, ℕ, Option, Some, None, List, [], ◌∷◌, Result, Ok, Err}
 use Rattle.std.specs.Borrow.{Bor}
 use Rattle.px_engine.specs.declared.Fault.{Fault}
-use Rattle.px_cli.specs.declared.named.NamedFile.{NamedFile}
+use Rattle.px_runs.specs.declared.named.NamedFile.{NamedFile}
 
 -- the first file of that name has these bytes; None: no file has that name
 abbrev pub HasFile : List NamedFile → List ℕ → Option (List ℕ) → Type 0

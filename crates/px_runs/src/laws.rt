@@ -1,9 +1,9 @@
 // What follows for the files from the contract of a run. Each law is the contract of a function that does nothing.
-ghost use Rattle.px_cli.specs.Laws.{OutputsTell, KnownOutputsTell};
-ghost use Rattle.px_cli.specs.Logs.{OnlyCalls};
+ghost use Rattle.px_runs.specs.Laws.{OutputsTell, KnownOutputsTell};
+ghost use Rattle.px_runs.specs.Logs.{OnlyCalls};
 
-use crate::files::Opens;
 use crate::named::KnownFiles;
+use crate::opens::Opens;
 
 /// After two runs of `normalise FILE OUT` with status 0, what each `OUT` has received is equal exactly if the two
 /// files mean the same. It has the meaning of its file, and is its own normal form.

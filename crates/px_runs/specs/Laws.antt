@@ -5,7 +5,7 @@ use Rattle.px_engine.specs.declared.Fault.{Fault}
 use Rattle.px_engine.specs.Headline.{Headline}
 use Rattle.px_bytes.specs.Devices.{Device}
 use Rattle.px_bytes.specs.Lacking.{Taken}
-use Rattle.px_cli.specs.Programs.{EndsForm}
+use Rattle.px_runs.specs.Programs.{EndsForm}
 
 module _ {F R W : Type 0} (remaining : R → Option (List ℕ)) (contents : W → Option (List ℕ))
     (opens : F → List ℕ → Result R Fault → F → Type 0) (makes : F → List ℕ → R → Result (Option W) Fault → F → Type 0)

@@ -9,8 +9,8 @@ use Rattle.px_bytes.specs.Lacking.{Taken}
 use Rattle.px_jobs.specs.Lines.{Tells, TellsFault}
 use Rattle.px_jobs.specs.Laws.{FormsTell}
 use Rattle.px_jobs.specs.declared.Job.TheVariants as job
-use Rattle.px_cli.specs.Programs.{EndsBeside, EndsClosed, EndsForm, EndsJob, EndsMade, TellsClosed}
-use Rattle.px_cli.specs.Laws.{OutputsTell}
+use Rattle.px_runs.specs.Programs.{EndsBeside, EndsClosed, EndsForm, EndsJob, EndsMade, TellsClosed}
+use Rattle.px_runs.specs.Laws.{OutputsTell}
 
 -- status 0 is no other
 not_told : (n : ℕ) (line : List ℕ) (lines : Device) → 0 < n → Tells n line 0 lines → ⊥
