@@ -5,6 +5,7 @@ import json
 import os
 import re
 import shutil
+import signal
 from html import unescape
 from pathlib import Path
 from typing import Any, Callable, Dict, Iterator, List, Set
@@ -62,6 +63,8 @@ def test_every_picture_is_there_on_pages_of_at_most_200(archive: Path, called: C
     for name, text in texts.items():
         linked.setdefault(re.sub(r"-\d+\.html", "", name), set()).update(files_of(text.links))
         assert len(files_of(text.links)) <= 200, f"{name} has more pictures than a page should"
+        if name.startswith("folders-"):
+            assert len({os.path.dirname(it) for it in files_of(text.links)}) == 1, f"{name} has several folders"
     assert linked["folders"] == everything
     assert len(linked["changed"]) == 440 and len(linked["refused"]) == 205 and len(linked["same"]) >= 240
     values = "".join(page for name, page in pages.items() if name.startswith("changed-"))
@@ -172,6 +175,33 @@ def test_a_run_that_fails_leaves_the_earlier_report(small: Path, called: Called,
             patched.setattr(os, name, mock.Mock(side_effect=error))
             called("report", "c", "--html", "report/", "--title", "Two")
         assert tree(small) == before, (name, error)
+
+
+def test_what_a_killed_run_left_is_removed_by_the_next_one(small: Path, called: Called, monkeypatch: pytest.MonkeyPatch) -> None:
+    """And no folder of a run that lives, and none with files that no report has."""
+
+    def killed() -> None:
+        child = os.fork()
+        if not child:
+            monkeypatch.setattr(folders, "_put", lambda *_: os.kill(os.getpid(), signal.SIGKILL))
+            called("report", "c", "--html", "report/")
+            os._exit(0)
+        assert os.WTERMSIG(os.waitpid(child, 0)[1]) == signal.SIGKILL
+
+    def left() -> List[str]:
+        return sorted(it.name for it in small.iterdir() if it.name.startswith(".exifnorm-"))
+
+    killed()
+    assert len(left()) == 1
+    shutil.copytree(small / left()[0], small / ".exifnorm-abcd_123.part")
+    (small / ".exifnorm-abcd_123.part" / "mine.txt").write_text("mine")
+    with folders.replaced(os.fsencode(small / "other"), "exifnorm-report", ["c"]) as living:
+        living.write("index.html", b"<!DOCTYPE html>")
+        assert called("report", "c", "--html", "report/")[0] == 0
+        assert left() == sorted([".exifnorm-abcd_123.part", os.path.basename(os.fsdecode(living.path))])
+    killed()
+    assert called("report", "c", "--html", "report/")[0] == 0
+    assert left() == [".exifnorm-abcd_123.part"] and pages_of(small / "other").keys() == {"index.html"}
 
 
 def test_without_an_exchange_of_names(small: Path, called: Called, monkeypatch: pytest.MonkeyPatch) -> None:

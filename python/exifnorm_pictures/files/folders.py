@@ -1,6 +1,7 @@
 """Folders that are written in full or not at all: a new one takes the place of an earlier one at once, when all its files are on the disk.
 
-Until then it is beside it, under a name of its own, and only the user may enter it. A killed run leaves it there.
+Until then it is beside it, under a name of its own, and only the user may enter it. A killed run leaves it there, and the next one removes
+it: a process that lives has locked its folder.
 """
 
 from __future__ import annotations
@@ -8,7 +9,9 @@ from __future__ import annotations
 import contextlib
 import ctypes
 import errno
+import fcntl
 import os
+import re
 import shutil
 import stat
 import tempfile
@@ -20,6 +23,9 @@ from .atomic import NotReplaced
 
 _LONGEST = 64 << 20  # bytes of a list of names
 _HERE, _EXCHANGE = -100, 2  # AT_FDCWD and RENAME_EXCHANGE of Linux
+_PREFIX, _SUFFIX = b".exifnorm-", b".part"
+_NAME = re.compile(re.escape(_PREFIX) + rb"[a-z0-9_]{8}" + re.escape(_SUFFIX))  # as mkdtemp makes it
+_FILE = re.compile(r"[a-z]+(-\d+)?\.(html|js)")  # of a report
 
 
 class NewFolder:
@@ -50,7 +56,8 @@ def replaced(out: bytes, mark: str, sources: Sequence[str]) -> Iterator[NewFolde
     there = os.path.realpath(out)
     try:
         before = _rights_of_earlier(there, mark)
-        room = tempfile.mkdtemp(prefix=b".exifnorm-", suffix=b".part", dir=os.path.dirname(there))
+        _sweep(os.path.dirname(there), mark)
+        room, lock = _locked(os.path.dirname(there))
     except OSError as error:
         raise NotReplaced(reason(error)) from None
     try:
@@ -64,6 +71,41 @@ def replaced(out: bytes, mark: str, sources: Sequence[str]) -> Iterator[NewFolde
             raise NotReplaced(reason(error)) from None
     finally:
         shutil.rmtree(room, ignore_errors=True)  # of an earlier one, if all went well
+        os.close(lock)
+
+
+def _locked(beside: bytes) -> Tuple[bytes, int]:
+    """A new folder, and the number by which this process has locked it, as far as the file system can."""
+    while True:
+        room = tempfile.mkdtemp(prefix=_PREFIX, suffix=_SUFFIX, dir=beside)
+        lock = os.open(room, os.O_RDONLY | os.O_DIRECTORY | os.O_CLOEXEC)
+        with contextlib.suppress(OSError):
+            fcntl.flock(lock, fcntl.LOCK_EX)
+        if os.path.lexists(room):
+            return room, lock
+        os.close(lock)  # another run took it for one of a killed run, before it was locked
+
+
+def _sweep(beside: bytes, mark: str) -> None:
+    """Removes the folders that killed runs of this user have left: which nobody has locked, and which have files of a report alone."""
+    with contextlib.suppress(OSError), os.scandir(beside) as entries:
+        for entry in entries:
+            if _NAME.fullmatch(entry.name) and entry.is_dir(follow_symlinks=False):
+                with contextlib.suppress(OSError):
+                    _remove_dead(entry.path, mark)
+
+
+def _remove_dead(folder: bytes, mark: str) -> None:
+    lock = os.open(folder, os.O_RDONLY | os.O_DIRECTORY | os.O_NOFOLLOW | os.O_CLOEXEC)
+    try:
+        if os.fstat(lock).st_uid != os.geteuid():
+            return
+        fcntl.flock(lock, fcntl.LOCK_EX | fcntl.LOCK_NB)
+        names = os.listdir(lock)
+        if all(name == mark or _FILE.fullmatch(name) for name in names):
+            shutil.rmtree(folder, ignore_errors=True)
+    finally:
+        os.close(lock)
 
 
 _FIRST = "The pages of a report by exifnorm-pictures, which a new one replaces:"

@@ -118,7 +118,7 @@ class Book:
     def _written(self, section: Section) -> Written:
         """Writes a list: on the first page, if that is the only one or the list is short, and otherwise on pages of its own."""
         written = Written(section)
-        pages = pages_of(section.entries)
+        pages = pages_of(section.entries, section.key == "folders" and self._put is not None and self.counts.total > SHORT)
         page = next(pages, None)
         while page is not None:
             following = next(pages, None)
@@ -153,8 +153,7 @@ class Book:
 
 
 def _label(section: Section, page: List[Entry], number: int) -> str:
-    """What a link to a page says."""
+    """What a link to a page says: its number, or the folder that it shows."""
     if section.key != "folders":
         return str(number)
-    first, last = (shown_path(page[at].data.path) for at in (0, -1))
-    return first if first == last else f"{first} .. {last}"
+    return shown_path(page[0].data.path) + " (continued)" * (not page[0].data.is_first)
