@@ -10,7 +10,7 @@ import struct
 import unicodedata
 
 import pytest
-from made_files import app1_xmp, app13, jpeg, png, png_xmp, resource, xmp
+from made_files import app1, app1_xmp, app13, jpeg, png, png_xmp, resource, xmp
 from made_more_files import gif
 from studio import needs, put, tool
 from test_maker_notes import noted
@@ -259,6 +259,23 @@ def test_counts_of_a_label(folder, called):
     ]
     assert (last["pictures"], last["with"], last["not_known"]) == (8, 7, 0)
     assert called("list", "c", "--count", "creator", "--where", "creator like otto*")[1].count("\n") == 3
+
+
+@pytest.mark.parametrize("seed", range(3))
+def test_counts_add_up(seed, folder, called):
+    """By how the pictures were made: long and short keywords, none, a refused block, and a file that is no picture."""
+    rng = random.Random(seed)
+    words = ["clay", "x" * 60, "y" * 60, "Clay", "7"]
+    known = {f"{number:02}.jpg": rng.sample(words, rng.randrange(4)) for number in range(20)}
+    put(folder / "p", {name: picture([("keywords", word) for word in of_picture]) for name, of_picture in known.items()})
+    refused = jpeg(app1(b"II*\0\xff\xff\0\0"))
+    put(folder / "p", {"r.jpg": refused, **({"d.txt": b"text"} if seed else {})})
+    called("index", "p", "--catalogue", "c", "--quiet")
+    status, printed, _ = called("list", "c", "--count", "keywords", "--json")
+    *texts, last = map(json.loads, printed.splitlines())
+    counts = {word: sum(word in of_picture for of_picture in known.values()) for word in words}
+    assert {it["text"]: it["pictures"] for it in texts} == {word: count for word, count in counts.items() if count}
+    assert (status, last["pictures"], last["with"], last["not_known"]) == (2, 21, sum(map(bool, known.values())), 1)
 
 
 # Forms

@@ -178,8 +178,9 @@ def _fitting(row: Tuple[int, bytes, str]) -> Fitting:
 
 def has_text(text: object) -> None:
     """Raises `Damaged` if a value is no text, or longer than any that a catalogue keeps."""
-    has(str, text)
-    if len(str(text)) > LONGEST_TEXT:
+    if type(text) is not str:
+        has(str, text)
+    elif len(text) > LONGEST_TEXT:
         raise Damaged("a text is too long")
 
 
@@ -234,16 +235,31 @@ class Answer:
 
     def having(self, label: str) -> Tuple[int, int, int]:
         """Of the pictures that fit: how many have a text of a label, how many have none, and of how many that isn't known."""
+        if self._are_all:
+            return self._having_of_all(label)
         fits, table = self._of_fitting(), self._found.table(With(label))
         having = int(next(self._catalogue.rows(f"SELECT count(*) FROM {table} WHERE {fits.sql}", fits.values))[0])
         without = _Part(f"p.id NOT IN (SELECT picture FROM {table})")
         not_known = self._count(_joined("AND", [_Part(unread([label])), self._sure, without]))
         return having, self._count(self._sure) - having - not_known, not_known
 
+    def _having_of_all(self, label: str) -> Tuple[int, int, int]:
+        """The same of all pictures. The texts of a label are in the order of the pictures, so that no table of these is made."""
+        fits, rows = self._of_fitting(), self._catalogue.rows
+        has_short = "SELECT 1 FROM texts s WHERE s.label = ?1 AND s.long = 0 AND s.picture = t.picture"
+        having = 0
+        for part in ("long = 0", f"long = 1 AND NOT EXISTS ({has_short})"):
+            query = f"SELECT count(DISTINCT picture) FROM texts t WHERE label = ?1 AND {part} AND {fits.sql}"
+            having += int(next(rows(query, (label,)))[0])
+        without = _Part("NOT EXISTS (SELECT 1 FROM texts t WHERE t.label = ? AND t.long IN (0, 1) AND t.picture = p.id)", (label,))
+        not_known = self._count(_joined("AND", [_Part(unread([label])), self._sure, without]))
+        return having, self._count(self._sure) - having - not_known, not_known
+
     def _of_fitting(self) -> _Part:
         """The texts of the pictures that fit. If all do, no picture is looked up."""
         if self._are_all:
-            return _Part(f"picture NOT IN ({_LEFT_OUT})")
+            is_left_out = next(self._catalogue.rows(f"SELECT 1 FROM ({_LEFT_OUT}) LIMIT 1"), None)
+            return _Part(f"picture NOT IN ({_LEFT_OUT})" if is_left_out else "TRUE")
         return _Part(f"picture IN (SELECT p.id FROM pictures p WHERE {self._sure.sql})", self._sure.values)
 
     def _count(self, part: _Part) -> int:

@@ -8,7 +8,6 @@ import re
 import sys
 import time
 from datetime import datetime, timezone
-from itertools import groupby
 from typing import List, Optional, Sequence, Tuple
 
 from ..catalogue.asking import Answer, Fitting, Scope
@@ -43,11 +42,12 @@ def run(arguments: argparse.Namespace) -> int:
     with catalogue_for_questions(source, arguments) as catalogue, catalogue.reading():
         shown = [*columns, *([] if counted is None else [counted])]
         answer = Answer(catalogue, question, scope, Preparing(arguments).report, shown)
+        not_known = 0
         if counted is not None:
-            _print_counts(arguments, answer, counted)
+            not_known = _print_counts(arguments, answer, counted)
         else:
             _print_pictures(arguments, answer, columns)
-        return UNKNOWN if answer.not_known() else SUCCESS
+        return UNKNOWN if not_known or answer.not_known() else SUCCESS
 
 
 def _source(arguments: argparse.Namespace) -> str:
@@ -174,30 +174,33 @@ def _pictures(count: int) -> str:
 # Counts
 
 
-def _print_counts(arguments: argparse.Namespace, answer: Answer, label: str) -> None:
-    """Each text of a label with the number of pictures that have it; those that are spelled otherwise below it."""
+def _print_counts(arguments: argparse.Namespace, answer: Answer, label: str) -> int:
+    """Each text of a label with the number of pictures that have it; those that are spelled otherwise below it. Returns of how many pictures it
+    isn't known whether they have one."""
     table = table_of(arguments, [label, "pictures", "like"])
-    for _, spellings in groupby(answer.counted(label), lambda row: row[2]):
-        first = ""
-        for text, pictures, _ in spellings:
-            if table:
-                table.row(text, pictures, first)
-            elif arguments.json:
-                print_object("list", "text", {"label": label, "text": text, "pictures": pictures, "like": first or None})
-            else:
-                print_line(f"{pictures:>7,}  {escaped(text)}" + (f"   <- like {escaped(first)}?" if first else ""))
-            first = first or text
-    _print_end_of_counts(arguments, answer, label)
+    common, first = None, ""
+    for text, pictures, bare in answer.counted(label):
+        like = first if bare == common else ""
+        if table:
+            table.row(text, pictures, like)
+        elif arguments.json:
+            print_object("list", "text", {"label": label, "text": text, "pictures": pictures, "like": like or None})
+        else:
+            print_line(f"{pictures:>7,}  {escaped(text)}" + (f"   <- like {escaped(like)}?" if like else ""))
+        if bare != common:
+            common, first = bare, text
+    return _print_end_of_counts(arguments, answer, label)
 
 
-def _print_end_of_counts(arguments: argparse.Namespace, answer: Answer, label: str) -> None:
+def _print_end_of_counts(arguments: argparse.Namespace, answer: Answer, label: str) -> int:
     having, without, not_known = answer.having(label)
     if arguments.json:
         print_object("list", "summary", {"pictures": having + without + not_known, "with": having, "not_known": not_known})
-        return
+        return not_known
     more = f"; of {not_known:,} that isn't known: {_unread([label])}" if not_known else ""
     end = f"{_pictures(having)} with a text of {label}, {without:,} without{more}"
     if not arguments.csv:
         print_line(end)
     elif not_known:
         signals.say(f"exifnorm-pictures: note: {end}")
+    return not_known

@@ -26,6 +26,8 @@ def bare(text: str) -> str:
     >>> bare("Müller, Anna"), bare("muller anna"), bare("--")
     ('mulleranna', 'mulleranna', '--')
     """
+    if text.isascii():
+        return _OTHERS.sub("", text.lower()) or folded(text)
     compared = folded(text)
     if compared.isascii():
         return _OTHERS.sub("", compared) or compared
