@@ -10,6 +10,7 @@ import subprocess
 from pathlib import Path
 
 import pytest
+from hypothesis import given, settings, strategies as st
 from made_blocks import BLOCKS, with_exif
 from made_files import app1, app1_xmp, exif, jpeg, xmp
 from made_more_files import gif
@@ -17,7 +18,10 @@ from studio import SMALL_JPEG, TOP, needs, put, tool
 from test_captions import data_set, with_record, with_texts
 from test_groups import FILES as TWINS, with_short_note
 
+from exifnorm_pictures.export.rows import FieldRows
 from exifnorm_pictures.export.tables import Tables
+from exifnorm_pictures.fields.field import Field
+from exifnorm_pictures.model.xmp_values import Array, Literal, Structure, Uri
 
 SAMPLES = os.path.join(TOP, "samples", "before")
 PAGE = (Path(TOP) / "docs" / "CATALOGUE.md").read_text(encoding="utf-8")
@@ -399,6 +403,31 @@ def test_no_text_has_nul(exported, folder):
         for row in base.execute(f"SELECT * FROM {table}"):
             assert not any(isinstance(cell, str) and "\0" in cell for cell in row), (table, row)
     assert asked(base, "SELECT count(*) FROM captions WHERE text LIKE 'V_x00%=x'") == [(1,)]
+
+
+WORDS = st.sampled_from(
+    [Literal("a"), Literal("b"), Literal("b", "de"), Uri("b"), Literal("c" * 2000), Array("Bag", (Literal("a"), Literal("b")))]
+)
+MEMBERS = st.lists(WORDS, min_size=1, max_size=3).map(tuple)
+VALUES = st.one_of(
+    WORDS, st.builds(Array, st.sampled_from(["Alt", "Bag", "Seq"]), MEMBERS), WORDS.map(lambda it: Structure((("x:a", it),)))
+)
+
+
+def turned(value):
+    """A value with the members of its lists in the other order, to which a Bag is equal."""
+    if isinstance(value, Array):
+        return Array(value.kind, tuple(map(turned, value.members[::-1])))
+    return Structure(tuple((name, turned(it)) for name, it in value.members)) if isinstance(value, Structure) else value
+
+
+@settings(max_examples=25)
+@given(st.lists(VALUES, max_size=6))
+def test_the_row_of_a_field_does_not_depend_on_earlier_ones(values):
+    """Bags with the same members in another order are equal, and have equal rows; nothing else that is printed in another way is equal."""
+    rows, found = FieldRows(), [it for value in values for it in (value, turned(value))]
+    fields = [Field("xmp", "dc:a", "Bag", 1, (it,)) for it in found]
+    assert [rows.row(it) for it in fields] == [FieldRows().row(it) for it in fields]
 
 
 def test_a_temporary_file_that_is_not_read(called, folder, monkeypatch):

@@ -134,13 +134,14 @@ def _damaged(catalogue: Catalogue) -> int:
 
 def _parts(catalogue: Catalogue) -> List[str]:
     """The parts that were not read of the pictures of this run, a line for each kind of part, the most frequent first."""
-    query = "SELECT picture, what FROM not_read JOIN pictures ON id = picture WHERE run = (SELECT max(id) FROM runs)"
+    query = "SELECT picture, what FROM not_read JOIN pictures ON id = picture WHERE run = (SELECT max(id) FROM runs) ORDER BY picture"
     kinds: "Counter[str]" = Counter()
-    pictures = set()
+    pictures = last = 0
     for number, what in catalogue.rows(query):
         kinds[kind_of_part(what)] += 1
-        pictures.add(number)
+        pictures += number != last
+        last = number
     if not pictures:
         return []
-    head = f"{len(pictures):,} picture{'s' * (len(pictures) > 1)} not wholly read; they are the same as others only where these parts have the same bytes:"
+    head = f"{pictures:,} picture{'s' * (pictures > 1)} not wholly read; they are the same as others only where these parts have the same bytes:"
     return [head, *(f"  {count:>6,}  {what}" for what, count in kinds.most_common(12)), *["  .."] * (len(kinds) > 12)]

@@ -6,7 +6,7 @@ import re
 import unicodedata
 from collections import Counter
 from datetime import datetime
-from typing import Iterator, List, NamedTuple, Optional, Sequence, Tuple
+from typing import Dict, Iterator, List, NamedTuple, Optional, Sequence, Tuple
 
 from ..fields.labels import DATE, LABELS, Label, LabelText
 from ..model.found import EXIF, IPTC, NAMES, STANDARDS, XMP
@@ -88,9 +88,13 @@ class _How(NamedTuple):
 
 def conflicts(texts: Sequence[LabelText]) -> List[Conflict]:
     """The labels with texts in two standards at least."""
+    by_label: Dict[str, List[LabelText]] = {}
+    for text in texts:
+        if not text.block and not text.is_extra:
+            by_label.setdefault(text.label, []).append(text)
     result = []
     for label in LABELS:
-        ours = [it for it in texts if it.label == label.word and not it.block and not it.is_extra]
+        ours = by_label.get(label.word, [])
         if len({it.standard for it in ours}) > 1 and any(not it.is_empty for it in ours):
             result.append(_conflict(label, ours))
     return result

@@ -2,9 +2,8 @@
 
 from __future__ import annotations
 
-import functools
 from datetime import datetime, timedelta, timezone
-from typing import Any, Iterator, List, Optional, Sequence, Tuple
+from typing import Dict, Iterator, List, Optional, Sequence, Tuple
 
 from ..catalogue.store import Catalogue
 from ..catalogue.texts import texts_of
@@ -14,7 +13,7 @@ from ..comparison.groups import Groups
 from ..comparison.keeping import Keep, keeping
 from ..fields.labels import LabelText
 from ..fields.places import position_of
-from ..fields.field import Field
+from ..fields.field import Field, Identity
 from ..fields.block_fields import with_fields
 from ..fields.typed import typed
 from ..files.session import Session
@@ -23,8 +22,9 @@ from ..model.budgets import CACHED
 from ..model.records import BlockRecord, PictureRecord
 from ..model.texts import shown_path
 from ..scan.progress import Progress
-from .tables import Row, Tables
+from .tables import Row, Storable, Tables, storable
 
+KEPT_ROWS, FEW_NUMBERS = 4096, 6  # rows of fields that are kept, and the most elements of such a field
 _BEGINNING = datetime(1970, 1, 1, tzinfo=timezone.utc)
 
 
@@ -36,6 +36,7 @@ class Export:
         self.missing = 0  # pictures with a text that is too long to be kept
         self.maker_notes = 0  # pictures with a MakerNote
         self.groups = Groups(catalogue, only, bool(session), session)
+        self._fields = FieldRows()
 
     def all(self, quiet: bool) -> None:
         """Adds each picture, and then the groups. Prints its progress, unless it is quiet."""
@@ -57,7 +58,8 @@ class Export:
         self.maker_notes += any(block.note is not None for block, _ in blocks)
         for number, (block, fields) in enumerate(blocks):
             self.tables.add("blocks", [_block_row(picture, number, block)])
-            self.tables.add("fields", ((picture.id, number, at, *_field_row(one)) for at, one in enumerate(fields)))
+            rows = map(self._fields.row, fields)
+            self.tables.add_storable("fields", [((picture.id, number, at) + row, size) for at, (row, size) in enumerate(rows)])
         self._texts(picture, blocks)
         if picture.not_read != "":
             parts = self.catalogue.not_read_of(picture)
@@ -116,29 +118,30 @@ def _block_row(picture: PictureRecord, number: int, block: BlockRecord) -> Row:
     return (picture.id, number, *about, repair, block.digest, int(block.note is not None))
 
 
+class FieldRows:
+    """Makes rows of fields. Short ones are kept for the next picture: pictures have many fields in common."""
+
+    def __init__(self) -> None:
+        self._kept: Dict[Identity, Storable] = {}
+
+    def row(self, field: Field) -> Storable:
+        """The row of a field. Fields that mean the same have the same row."""
+        if len(field.content) > (CACHED if isinstance(field.content, bytes) else FEW_NUMBERS):
+            return storable(_field_row(field))
+        row = self._kept.get(field.identity)
+        if row is None:
+            row = storable(_field_row(field))
+            if row[1] <= CACHED:
+                if len(self._kept) >= KEPT_ROWS:
+                    self._kept.clear()
+                self._kept[field.identity] = row
+        return row
+
+
 def _field_row(field: Field) -> Row:
-    """A row of a field, which is kept for the next picture if it is short: pictures have many fields in common."""
-    return _short_row(*field.identity) if isinstance(field.content, bytes) and len(field.content) <= CACHED else _row(field)
-
-
-def _row(field: Field) -> Row:
-    value = typed(field)
+    value = typed(field) if field.directory != "xmp" and field.type not in ("ASCII", "UTF8") else None
     number = float(value) if isinstance(value, (int, float)) else None
-    return (
-        field.name,
-        field.directory,
-        field.key,
-        field.type,
-        field.count,
-        field.text,
-        field.exact,
-        number,
-    )
-
-
-@functools.lru_cache(maxsize=4096)
-def _short_row(*identity: Any) -> Row:
-    return _row(Field(*identity))
+    return (field.name, field.directory, field.key, field.type, field.count, field.text, field.exact, number)
 
 
 def _text_rows(texts: Sequence[LabelText]) -> Iterator[Row]:

@@ -4,7 +4,7 @@ from __future__ import annotations
 
 import contextlib
 import sqlite3
-from typing import Dict, Iterable, Iterator, List, Tuple
+from typing import Dict, Iterable, Iterator, List, Sequence, Tuple
 
 from ..files import signals
 from ..model.budgets import SQL_STEPS, WAITING_BYTES
@@ -115,6 +115,7 @@ CREATE INDEX groups_by_picture ON groups (picture);
 """
 
 Row = Tuple[object, ...]
+Storable = Tuple[Row, int]  # a row without NUL, and the characters of its texts
 
 
 class Tables:
@@ -129,16 +130,19 @@ class Tables:
     def add(self, table: str, rows: Iterable[Row]) -> None:
         """Adds rows to a table."""
         for row in rows:
-            if any(isinstance(cell, str) and "\0" in cell for cell in row):
-                row = tuple(map(_without_nul, row))
-            waiting = self._rows.setdefault(table, [])
+            self.add_storable(table, [storable(row)])
+
+    def add_storable(self, table: str, rows: Sequence[Storable]) -> None:
+        """Adds rows that can be stored to a table."""
+        waiting = self._rows.setdefault(table, [])
+        for row, size in rows:
             waiting.append(row)
-            self.counts[table] = self.counts.get(table, 0) + 1
-            self._size += sum(len(cell) for cell in row if isinstance(cell, (str, bytes)))
-            if len(waiting) >= _ROWS:
-                self._write(table)
-            if self._size >= WAITING_BYTES:
-                self._write_all()
+            self._size += size
+        self.counts[table] = self.counts.get(table, 0) + len(rows)
+        if self._size >= WAITING_BYTES:
+            self._write_all()
+        elif len(waiting) >= _ROWS:
+            self._write(table)
 
     def _write_all(self) -> None:
         for table in list(self._rows):
@@ -188,6 +192,16 @@ def tables(file: str) -> Iterator[Tables]:
             if type(error) is sqlite3.DatabaseError:  # as SQLite calls a file of which it can't read what it has written
                 raise Failure(f"the temporary file of the export can't be read: {error}") from error
             raise
+
+
+def storable(row: Row) -> Storable:
+    r"""A row as it can be stored.
+
+    >>> storable((1, "a\0b", None, "c"))
+    ((1, 'a\\x00b', None, 'c'), 4)
+    """
+    text = "".join([cell for cell in row if isinstance(cell, str)])
+    return tuple(map(_without_nul, row)) if "\0" in text else row, len(text)
 
 
 def _without_nul(cell: object) -> object:

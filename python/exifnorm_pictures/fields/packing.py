@@ -163,9 +163,12 @@ def unpacked(octets: bytes) -> List[Field]:
         if len(text) > FIELD_BYTES or opening.unconsumed_tail:
             raise Damaged("the fields of a block are too long")
         rows = json.loads(text.decode("ascii"))
-        if not isinstance(rows, list) or not all(isinstance(it, list) and [type(one) for one in it[:4]] == _TYPES for it in rows):
+        if not isinstance(rows, list) or set(map(type, rows)) - {list} or set(map(len, rows)) - {len(_TYPES) + 1}:
             raise Damaged("a list of fields has something else")
-        return [Field(where, key, kind, count, _value(where, kind, count, value)) for where, key, kind, count, value in rows]
+        wheres, keys, kinds, counts, values = zip(*rows) if rows else ((),) * 5
+        if any(set(map(type, cells)) - {kind} for cells, kind in zip((wheres, keys, kinds, counts), _TYPES)):
+            raise Damaged("a list of fields has something else")
+        return list(map(Field, wheres, keys, kinds, counts, map(_value, wheres, kinds, counts, values)))
     except (zlib.error, ValueError, TypeError, RecursionError) as error:
         raise Damaged(f"fields that can't be read: {error}") from error
 

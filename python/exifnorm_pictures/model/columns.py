@@ -3,6 +3,7 @@
 A field that is a column is declared as `Annotated[type, "what it is"]`, or with `Is(..)` for more than its type says.
 """
 
+from operator import itemgetter
 from typing import Any, Callable, Dict, Generic, Iterable, List, NamedTuple, Tuple, Type, TypeVar, Union, get_args
 
 
@@ -24,6 +25,7 @@ class Is(NamedTuple):
 _SQL = {int: "INTEGER", str: "TEXT", bytes: "BLOB"}
 
 
+_IsShort = Callable[[Tuple[Any, ...]], bool]
 Record = TypeVar("Record", bound=Tuple[Any, ...])
 
 
@@ -42,6 +44,7 @@ class Columns(Generic[Record]):
         self._made: Callable[[Iterable[Any]], Record] = named._make
         self._others = tuple(named._field_defaults[name] for name in named._fields[self.width :])
         self._lines = [*first, *(_defined(name, kind, more) for name, kind, more in columns), *last]
+        self._right: Dict[Tuple[type, ...], _IsShort] = {}  # by the types of a row, which are right: whether its values are short
 
     @property
     def listed(self) -> str:
@@ -58,8 +61,25 @@ class Columns(Generic[Record]):
     def record(self, row: Tuple[Any, ...]) -> Record:
         """The record of a row. Raises `Damaged` if a value isn't of the type of its column, or of one of its types, or is longer than `index`
         writes any."""
-        check(row, self.types, self.longest)
+        kinds = tuple(map(type, row))
+        is_short = self._right.get(kinds)
+        if is_short is None or not is_short(row):
+            check(row, self.types, self.longest)
+            if is_short is None and len(self._right) < _KINDS:
+                self._right[kinds] = self._shortness(kinds)
         return self._made(row + self._others)
+
+    def _shortness(self, kinds: Tuple[type, ...]) -> _IsShort:
+        """The function that tells of a row with values of these types whether none is as long as the longest value of any column."""
+        sized = [at for at, kind in enumerate(kinds) if kind in (str, bytes)]
+        most = min((self.longest[at] for at in sized), default=0)
+        if len(sized) < 2:
+            return lambda row: False
+        values = itemgetter(*sized)
+        return lambda row: max(map(len, values(row))) <= most
+
+
+_KINDS = 100  # of rows, which differ in what is missing
 
 
 def _more(about: Union[str, Is]) -> Is:
