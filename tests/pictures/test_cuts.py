@@ -277,6 +277,7 @@ def test_index_list_and_report(archives, asked, checks, folder):
         checks.equal(f"{case}: check, text", {it.count("the file ends ") for it in in_check if f"/{case}: " in it} <= {1}, True)
         named = [it["damaged"] for it in report if "damaged" in it and it["path"].endswith(f"/{case}")]
         checks.equal(f"{case}: report", named, [objects[case]])
+    assert f"; {len(CASES):,} cut off or damaged\n" in texts
     assert len(in_check) > 5 and f"{len(CASES):,} cut off or damaged: " in texts and f"<b>{len(CASES)}</b> cut off or damaged" in page
     without = re.search(r"([\d,]+) damaged, ", texts)[1]  # a block in what is left
     assert f"<b>{without}</b> cut off, and without a block" in page
@@ -309,7 +310,7 @@ def test_commands_about_a_file(folder, called, checks):
     (folder / "copies").mkdir()
     (folder / "names").write_text("\n".join(SOME) + "\n")
     status, printed, _ = called("mend", "--files-from", "names", "copies")
-    assert status == 2
+    assert status == 2 and f"; {len(SOME)} cut off or damaged" in printed.splitlines()[-1]
     for name in SOME:
         checks.equal(f"mend {name}", sum("the file ends " in it for it in printed.splitlines() if it.startswith(f"{name}: ")), 1)
 

@@ -45,7 +45,11 @@ def test_those_of_a_catalogue(archive, called_lines):
     """Its refused pictures, under their names below the folder that was indexed. Originals stay as they are."""
     called_lines("index", "p", "--catalogue", "c", "--quiet")
     status, lines, _ = called_lines("mend", "--catalogue", "c", "out")
-    assert status == 2 and lines[-1] == "4 pictures: 2 mended without loss, 1 with values lost or changed, 1 not mended", lines
+    assert (
+        status == 2
+        and lines[-1]
+        == "4 pictures: 2 mended without loss, 1 with values lost or changed, 1 not mended; 1 cut off or damaged, which no copy mends"
+    ), lines
     assert copies(archive / "out") == ["one/shared.jpg", "one/unsorted.jpg", "two/lossy.jpg"]
     assert all((archive / "p" / name).read_bytes() == octets for name, octets in PICTURES.items())
 

@@ -70,7 +70,7 @@ def run(arguments: argparse.Namespace) -> int:
             options.look = cluster.looker(arguments.scheduler, arguments.elsewhere, names)
         counts = index(options, catalogue)
         parts = [] if arguments.quiet or arguments.json else _parts(catalogue)
-        damaged = _damaged(catalogue) if arguments.json else 0
+        damaged = _damaged(catalogue, " AND run = (SELECT max(id) FROM runs)")
         steps = [] if arguments.quiet or arguments.json else list(_next_steps(catalogue, arguments.catalogue, excluded.known))
     if excluded.count:
         counts["excluded"] = excluded.count
@@ -79,7 +79,7 @@ def run(arguments: argparse.Namespace) -> int:
     if arguments.json:
         objects.print_object("index", "summary", {"counts": dict(counts), "damaged": damaged})
     else:
-        for line in [*parts, _counted(counts), *steps]:
+        for line in [*parts, _counted(counts) + f"; {damaged:,} cut off or damaged" * bool(damaged), *steps]:
             print_line(line)
     if any(counts[it] for it in NOT_READABLE) or any(os.path.exists(it) and not _may_be_read(it) for it in names):
         return UNKNOWN
@@ -118,8 +118,7 @@ def _next_steps(catalogue: Catalogue, name: str, excluded: int) -> Iterator[str]
     refused = next(catalogue.rows("SELECT count(*) FROM pictures WHERE problem IS NULL AND (exif IS NULL OR iptc IS NULL OR xmp IS NULL)"))[
         0
     ]
-    damaged = _damaged(catalogue)
-    if damaged:
+    if damaged := _damaged(catalogue):
         yield f"{damaged:,} cut off or damaged: exifnorm-pictures report --catalogue {word} --html report.html"
     if refused:
         yield f"{refused:,} refused or unreadable: exifnorm-pictures report --catalogue {word} --html report.html"
@@ -127,9 +126,9 @@ def _next_steps(catalogue: Catalogue, name: str, excluded: int) -> Iterator[str]
         yield f"{excluded:,} excluded, and in the catalogue from an earlier run: exifnorm-pictures forget FOLDER --catalogue {word}"
 
 
-def _damaged(catalogue: Catalogue) -> int:
-    """How many files are cut off or damaged, as far as that was seen."""
-    return int(next(catalogue.rows("SELECT count(*) FROM pictures WHERE damage != ''"))[0])
+def _damaged(catalogue: Catalogue, which: str = "") -> int:
+    """How many files are cut off or damaged, as far as that was seen: of all, or of some."""
+    return int(next(catalogue.rows(f"SELECT count(*) FROM pictures WHERE damage != ''{which}"))[0])
 
 
 def _parts(catalogue: Catalogue) -> List[str]:

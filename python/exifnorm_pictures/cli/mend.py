@@ -25,17 +25,17 @@ from .parser import refuse
 
 def run(arguments: argparse.Namespace) -> int:
     """Writes copies whose blocks are accepted; of several pictures also counts."""
-    worst = SUCCESS
+    worst, damaged = SUCCESS, 0
     counts: "Counter[str]" = Counter()
     for picture, out in _pairs(arguments):
-        status, result = _mend_one(arguments, picture, out)
-        worst = max(worst, status)
+        status, result, is_damaged = _mend_one(arguments, picture, out)
+        worst, damaged = max(worst, status), damaged + is_damaged
         counts[result] += 1
     if arguments.files_from or arguments.catalogue:
         if arguments.json:
-            print_object("mend", "summary", {"counts": {it: counts[it] for it in COUNTED}})
+            print_object("mend", "summary", {"counts": {it: counts[it] for it in COUNTED}, "damaged": damaged})
         else:
-            print_line(_counted(counts))
+            print_line(_counted(counts) + f"; {damaged:,} cut off or damaged, which no copy mends" * bool(damaged))
     return worst
 
 
@@ -54,8 +54,8 @@ def _counted(counts: "Counter[str]") -> str:
     return f"{total:,} picture{'s' * (total != 1)}" + f": {many}" * bool(many)
 
 
-def _mend_one(arguments: argparse.Namespace, picture: bytes, out: bytes) -> Tuple[int, str]:
-    """The status of a picture, and by what it is counted."""
+def _mend_one(arguments: argparse.Namespace, picture: bytes, out: bytes) -> Tuple[int, str, bool]:
+    """The status of a picture, by what it is counted, and whether its file is cut off or damaged."""
     folder = os.fsencode(arguments.names[0]) if arguments.files_from or arguments.catalogue else None
     try:
         mended = mend.mend(picture, out, arguments.session, folder, arguments.lossless)
@@ -65,12 +65,13 @@ def _mend_one(arguments: argparse.Namespace, picture: bytes, out: bytes) -> Tupl
         problem = names.get(type(error), Problem.TOOL_FAILED)
         line = f"{shown_path(picture)}: {atomic.not_written(shown_path(out), error)}"
         _print(arguments, [line], _mended_members(picture, None, problem, str(error)))
-        return FAILURE if isinstance(error, mend.NotWritten) else UNKNOWN, "not mended"
+        return FAILURE if isinstance(error, mend.NotWritten) else UNKNOWN, "not mended", False
     _print(arguments, _mended_lines(picture, mended), _mended_members(picture, mended))
+    is_damaged = bool(mended.damage or mended.cut_off)
     if not mended.is_written:
-        return UNKNOWN, "not mended"
+        return UNKNOWN, "not mended", is_damaged
     result = "plain" if mended.remedy == mend.Remedy.COPY else "lossy" if mended.lost else "lossless"
-    return UNKNOWN if mended.damage or mended.cut_off else DIFFERENCE if mended.lost else SUCCESS, result
+    return UNKNOWN if is_damaged else DIFFERENCE if mended.lost else SUCCESS, result, is_damaged
 
 
 def _pairs(arguments: argparse.Namespace) -> Iterator[Tuple[bytes, bytes]]:
