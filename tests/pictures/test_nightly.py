@@ -373,6 +373,35 @@ def test_names_in_a_letter(archive, called, folder):
     assert called("nightly", "p", "--catalogue", "c.catalogue", "--html", "p/page.html") == (0, "", "")
 
 
+def test_a_folder_of_pages(archive, called, folder):
+    """It is replaced at each night with news, also if it lies in the archive, whose pictures it doesn't join."""
+    (folder / "rules").write_text("every picture needs title\n")
+    words = ("nightly", "p", "--catalogue", "c.catalogue", "--rules", "rules", "--html", "p/[x] report/")
+    assert called(*words)[0] == 1 and (archive / "[x] report/index.html").is_file()
+    assert called(*words) == (0, "", "")
+    lose(archive)
+    aged(archive / "web")
+    status, printed, messages = called(*words)
+    assert (status, messages) == (1, "") and printed.splitlines()[0].endswith(": 12 pictures, 2 with news")
+    page = (archive / "[x] report/index.html").read_text(encoding="utf-8")
+    assert "web/0.jpg" in page and "every picture needs title" in page
+    assert called(*words) == (0, "", "")
+
+
+def test_too_many_files_for_one_page(archive, called, monkeypatch):
+    """The letter is printed all the same, and a note names the folder of pages, which can then be written."""
+    from exifnorm_pictures.report import book
+
+    monkeypatch.setattr(book, "MOST_OF_A_PAGE", len(NAMES) - 1)
+    words = ("nightly", "p", "--catalogue", "c.catalogue", "--html")
+    status, printed, messages = called(*words, "page.html")
+    assert status == 1 and printed.startswith("p, the first night: 12 pictures\n") and not os.path.exists("page.html")
+    assert messages.count("\n") == 1 and "page.html isn't written" in messages and "--html NAME/" in messages
+    lose(archive)
+    aged(archive / "web")
+    assert called(*words, "report/")[::2] == (1, "") and "web/0.jpg" in open("report/index.html", encoding="utf-8").read()
+
+
 def test_the_line_for_cron(archive, folder):
     """That of RECIPES, in the shell and with the few variables that cron gives."""
     with open(os.path.join(TOP, "docs", "RECIPES.md"), encoding="utf-8") as page:

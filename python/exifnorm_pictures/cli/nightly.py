@@ -175,7 +175,7 @@ def _write_page(night: Night) -> None:
     with contextlib.ExitStack() as open_:
         tonight = open_.enter_context(Catalogue(night.nights.tonight))
         last = None if night.is_first else open_.enter_context(Catalogue(night.nights.last))
-        about = contents.About(tonight, last, session=night.arguments.session)
+        about = contents.About(tonight, last, session=night.arguments.session, rules=night.rules)
         try:
             write_report(about, night.arguments.html, night.nights.names)
         except book.TooLarge as error:  # the letter is printed all the same
