@@ -68,12 +68,13 @@ def of_fields(number, mark):
 
 
 def of_texts(number, mark):
-    """A property has many texts, a title many languages, and each block a long text."""
+    """A property has many texts, a title many languages, and each block a long text. Its length doesn't grow: SQLite copies it at each further
+    text that it compares with it, up to 65,536 bytes, as long as a kept text may be."""
     word = mark.decode()
     texts = "".join(f"<rdf:li>{word}{it}</rdf:li>" for it in range(number))
     titles = "".join(f"<rdf:li xml:lang='x-{it}'>{word}</rdf:li>" for it in range(number))
     inside = f"<dc:subject><rdf:Bag>{texts}</rdf:Bag></dc:subject><dc:title><rdf:Alt>{titles}</rdf:Alt></dc:title>"
-    long = mark + b"x" * 20 * number
+    long = mark + b"x" * 12_000
     return Made(
         Parts(((0x010E, ASCII, long + b"\0"),), iim(long[:30_000]), (xmp(inside),)),
         {EXIF: 1, IPTC: 1, XMP: 2 * number},

@@ -505,28 +505,6 @@ class Outputs(WithPictures):
         line = f'ulimit -f {blocks}; exec "$0" "$@"'
         return run(["bash", "-c", line, sys.executable, "-m", "exifnorm_pictures", *words], self.folder, **more)
 
-    def test_full_disk(self):
-        write(self.path("page"), PAGE)
-        there = sorted(os.listdir(self.folder))
-        for words in (
-            ["index", "p", "--catalogue", "new", "--quiet"],
-            ["index", "p", "--catalogue", "c", "--again", "--quiet"],
-            ["index", "p", "--catalogue", "c", "--quiet", "--keep-old", "old"],
-            ["report", "--catalogue", "c", "--html", "page"],
-            ["report", "--catalogue", "c", "--html", "page2"],
-            ["mend", "p/refused.jpg", "out.jpg"],
-            ["mend", "p/a.jpg", "out.jpg"],
-        ):
-            with self.subTest(words):
-                done = self.full(*words)
-                self.assertEqual(done.returncode, 4, done)
-                self.assertEqual(len(done.stderr.splitlines()) + len(done.stdout.splitlines()), 1, done)
-                left = [it for it in os.listdir(self.folder) if not it.startswith("new")]
-                self.assertEqual(sorted(left), there)
-        self.assertEqual(read(self.path("page")), PAGE)
-        self.assertEqual(self.asked("index", "p", "--catalogue", "c", "--quiet"), ["2 unchanged"])
-        self.asked("index", "p", "--catalogue", "new", "--quiet")
-
     def test_full_folder_for_temporary_files(self):
         """Several processes write rows there; what they wrote is removed again."""
         own = self.path("own")
@@ -543,10 +521,7 @@ class Outputs(WithPictures):
     def test_streams(self):
         self.see_streams(
             (
-                ["same", "--catalogue", "c"],
                 ["show", "p/a.jpg"],
-                ["report", "--catalogue", "c", "--json"],
-                ["changed", "c", "d", "--all"],
                 ["index", "p", "--catalogue", "c", "--again"],
             )
         )

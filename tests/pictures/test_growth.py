@@ -25,7 +25,7 @@ TIMES = 2.3
 FEW = {
     "calls": 3000,
     "steps": 20,
-    "asked": 2_000_000,  # an index of SQLite begins to divide its pages, with 50 kB for each division
+    "asked": 600_000,
     "hashed": 20_000,
     "written": 4_000_000,  # a cache of SQLite that is full begins to write
     "memory": 200_000,

@@ -283,6 +283,7 @@ class Catalogue:
         if other runs that have it open allow it within `SHORT_WAIT`. Raises `NoCatalogue`."""
         self.name = name
         self._made = make or adds
+        self._was_cut = False
         _check_head(name, make)
         with self.guarded():
             self.base = connect(address(name, "rwc" if make else "rw" if adds else "ro"))
@@ -291,7 +292,7 @@ class Catalogue:
                     self.base.execute(f"PRAGMA busy_timeout = {SHORT_WAIT * 1000}")
                 if make or adds:
                     self._prepare(SHORT_WAIT if adds else WAIT)
-                    self._file = _identity(name)
+                    self._file, self._least = _identity(name), os.stat(name).st_size
                 else:
                     check_schema(self.base, name)
             except BaseException:
@@ -358,12 +359,14 @@ class Catalogue:
             raise NoCatalogue(f"{self.name} was {'replaced' if now else 'removed'} while it was written, so this run is not in it")
         head, length = _head_of(self.name)
         pages, size = int.from_bytes(head[28:32], "big"), int.from_bytes(head[16:18], "big")
-        if not head_is_ours(head) or length < pages * (size if size > 1 else 65536):
+        if self._was_cut or not head_is_ours(head) or length < pages * (size if size > 1 else 65536):
             raise NoCatalogue(f"{self.name} was cut while it was written, and is damaged")
 
     def close(self) -> None:
         """Closes the catalogue. All committed data are then in its one file, which can be read in a read-only folder."""
         if self._made:
+            with contextlib.suppress(OSError):  # before the log is written back, which makes a file longer again that was cut
+                self._was_cut = os.stat(self.name).st_size < self._least
             with contextlib.suppress(sqlite3.Error):  # another program has it open, or the disk is full
                 self.base.execute(f"PRAGMA busy_timeout = {PATIENCE}")
                 self.base.execute("PRAGMA journal_mode = DELETE")

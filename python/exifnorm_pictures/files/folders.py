@@ -18,7 +18,7 @@ import tempfile
 from typing import Iterator, List, Optional, Sequence, Tuple
 
 from ..model.texts import reason, shown_path
-from . import opening, rights
+from . import opening, rights, signals
 from .atomic import NotReplaced
 
 _LONGEST = 64 << 20  # bytes of a list of names
@@ -70,7 +70,8 @@ def replaced(out: bytes, mark: str, sources: Sequence[str]) -> Iterator[NewFolde
         except OSError as error:
             raise NotReplaced(reason(error)) from None
     finally:
-        shutil.rmtree(room, ignore_errors=True)  # of an earlier one, if all went well
+        with signals.signals_held():
+            shutil.rmtree(room, ignore_errors=True)  # of an earlier one, if all went well
         os.close(lock)
 
 

@@ -11,6 +11,8 @@ import stat
 import tempfile
 from typing import Iterator
 
+from . import signals
+
 PREFIX = "exifnorm-"
 _LOCK = "lock"
 _MARK = b"temporary files of a run of exifnorm-pictures, which the next run removes\n"  # in each lock
@@ -20,7 +22,9 @@ _NAME = re.compile(PREFIX + "[a-z0-9_]{8}")  # as mkdtemp makes it
 @contextlib.contextmanager
 def room() -> Iterator[str]:
     """A folder in TMPDIR that is removed at the end. As long as its run lives, a file in it is locked."""
-    _sweep(tempfile.gettempdir())
+    with signals.signals_held():  # to find a place for temporary files Python makes one there
+        base = tempfile.gettempdir()
+    _sweep(base)
     name = tempfile.mkdtemp(prefix=PREFIX)
     lock = -1
     try:
@@ -31,7 +35,8 @@ def room() -> Iterator[str]:
         os.rename(os.path.join(name, "new"), os.path.join(name, _LOCK))
         yield name
     finally:
-        shutil.rmtree(name, ignore_errors=True)
+        with signals.signals_held():
+            shutil.rmtree(name, ignore_errors=True)
         if lock >= 0:
             os.close(lock)
 
