@@ -1,0 +1,75 @@
+// The first fault of a document.
+ghost use Rattle.std.specs.Prelude.{◌≡◌, ◌≤◌, length, drop, take, option_map, MatchOption};
+ghost use Rattle.px_xmp_document.specs.Document.{is_utf, is_utf8, is_read, IsSplit, IsDocument};
+ghost use Rattle.px_xmp_document.specs.Faults.{IsFault};
+
+use crate::faults::{Cause, Fault};
+use px_xmp_marks::{Declaration, read_declaration};
+use px_xmp_text::first_bad_character;
+
+// Whether three octets are `UTF` in any case.
+fn is_utf(u: u8, t: u8, f: u8) -> bool
+    ensures { result ≡ is_utf u t f }
+{
+    (u == b'U' || u == b'u') && (t == b'T' || t == b't') && (f == b'F' || f == b'f')
+}
+
+// Whether the name of an encoding is that of UTF-8.
+fn is_utf8(name: &[u8]) -> bool
+    ensures { result ≡ is_utf8 name.now }
+{
+    name.len() == 5 && is_utf(name[0], name[1], name[2]) && name[3] == b'-' && name[4] == b'8'
+}
+
+// Whether no encoding is named, or UTF-8.
+fn is_read(encoding: Option<&[u8]>) -> bool
+    ensures { result ≡ is_read (option_map (λ e. e.now) encoding.entry) }
+{
+    match encoding {
+        Some(name) => is_utf8(name),
+        None => true,
+    }
+}
+
+// The XML declaration at the start. It is empty if there is none.
+fn read_start<'a>(octets: &'a [u8]) -> Declaration<'a>
+    ensures parts { IsSplit octets.now (take result.size octets.now) (option_map (λ e. e.now) result.encoding) (drop result.size octets.now) }
+    ensures within { result.size ≤ length octets.now }
+{
+    px_xmp_marks::laws::declarations_are_read();
+    px_xmp_marks::laws::only_declarations_are_read();
+    match read_declaration(octets) {
+        Some(declaration) => declaration,
+        None => Declaration {
+            encoding: None,
+            size: 0,
+        },
+    }
+}
+
+/// The first fault of some octets. None: they are a document without a document type, in UTF-8. It allocates nothing.
+/// XML 1.0, productions 1 and 22.
+pub fn first_fault(octets: &[u8]) -> Option<Fault>
+    ensures { MatchOption result (IsDocument octets.now) (λ f. IsFault octets.now f.cause f.offset) }
+{
+    if let Some(offset) = first_bad_character(octets) {
+        return Some(Fault {
+            cause: Cause::NoCharacter,
+            offset,
+        });
+    }
+    let start = read_start(octets);
+    if !is_read(start.encoding) {
+        return Some(Fault {
+            cause: Cause::OtherEncoding,
+            offset: 0,
+        });
+    }
+    match px_xmp_tree::first_fault(octets.split_at(start.size).1) {
+        Some(fault) => Some(Fault {
+            cause: Cause::Nesting(fault.cause),
+            offset: start.size + fault.offset,
+        }),
+        None => None,
+    }
+}

@@ -1,0 +1,21 @@
+// What is wrong with a document.
+
+/// What is wrong.
+#[derive(Clone, Copy, Debug, PartialEq, Eq)]
+pub enum Cause {
+    /// No character that XML allows is here, in UTF-8.
+    NoCharacter,
+    /// The XML declaration names another encoding than UTF-8.
+    OtherEncoding,
+    /// The marks or the elements that follow the declaration are wrong.
+    Nesting(px_xmp_tree::Cause),
+}
+
+/// What is wrong, and where.
+#[derive(Clone, Copy, Debug, PartialEq, Eq)]
+pub struct Fault {
+    /// What is wrong.
+    pub cause: Cause,
+    /// Where it is.
+    pub offset: usize,
+}
