@@ -1,0 +1,4 @@
+pub mod Distinct
+pub mod Faults
+pub mod Laws
+pub mod calls
