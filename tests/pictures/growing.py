@@ -92,6 +92,10 @@ def of_parts(number, mark):
 
 
 def whole_jpeg(parts):
+    if max(map(len, (parts.exif, parts.record, *parts.packets))) > 60_000:
+        from largest import jpeg_of  # which imports this module
+
+        return jpeg_of(parts)
     record = [app13(resource(0x0404, parts.record))] * bool(parts.record)
     return jpeg(app1(parts.exif), *record, *map(app1_xmp, parts.packets), *[segment(0xFE, b"x")] * parts.others)
 
@@ -203,7 +207,7 @@ IN_EACH_FORMAT = {
     "fields": Growth(of_fields, 300, 5000),
     "texts": Growth(of_texts, 300, 1500),
     "packets": Growth(of_packets, 120, 2000),
-    "parts": Growth(of_parts, 300, 20_000),
+    "parts": Growth(of_parts, 300, 2400),
 }
 
 
@@ -402,13 +406,13 @@ OTHERS = {
     "blanks": ("png", Growth(blanks, 20_000, 1_000_000)),
     "a declaration": ("png", Growth(declared, 20_000, 1_000_000)),
     "pieces of extended XMP": ("jpg", Growth(extended_pieces, 500, 5000)),
-    "unsorted entries": ("png", Growth(unsorted, 500, 8000)),
+    "unsorted entries": ("png", Growth(unsorted, 500, 5000)),
     "doubled entries": ("png", Growth(doubled, 400, 8000)),
-    "entries of unknown types": ("png", Growth(unknown_types, 400, 8000)),
-    "values that share bytes": ("png", Growth(shared_values, 500, 8000)),
-    "neighbouring values": ("png", Growth(neighbouring_values, 500, 8000)),
-    "resources": ("jpg", Growth(resources, 500, 4000)),
-    "bytes of a value": ("jpg", Growth(numbers, 10_000, 30_000)),
+    "entries of unknown types": ("png", Growth(unknown_types, 400, 5000)),
+    "values that share bytes": ("png", Growth(shared_values, 500, 5000)),
+    "neighbouring values": ("png", Growth(neighbouring_values, 500, 5000)),
+    "resources": ("jpg", Growth(resources, 500, 1100)),
+    "bytes of a value": ("jpg", Growth(numbers, 10_000, 7500)),
     "bytes after the end": ("jpg", Growth(trailer, 3000, 300_000)),
     "markers of a scan": ("jpg", Growth(scan, 300, 100_000)),
     "strips": ("tif", Growth(strips, 1000, 100_000)),
