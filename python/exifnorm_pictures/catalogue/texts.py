@@ -4,7 +4,7 @@ from __future__ import annotations
 
 from typing import List, NamedTuple, Sequence, Set, Tuple
 
-from ..fields.labels import LABEL_WORDS, LabelText, camera_of, not_kept, of_block, with_own
+from ..fields.labels import LABEL_WORDS, LABELLED, LabelText, camera_of, not_kept, of_block, with_own
 from ..fields.field import Field
 from ..model.found import NAMES, STANDARDS
 from ..model.records import BlockRecord
@@ -25,7 +25,8 @@ def texts_of(blocks: Sequence[Tuple[BlockRecord, List[Field]]], wanted: Sequence
     for block, fields in blocks:
         camera = camera if any(camera) else camera_of(fields)
         part = "" if block.name == NAMES[block.kind] else block.name
-        left = not_kept(fields)
-        texts += [it._replace(block=part) if part else it for it in of_block(fields) if it.label not in left]
+        labelled = [it for it in fields if (it.directory, it.tag) in LABELLED]
+        left = not_kept(labelled)
+        texts += [it._replace(block=part) if part else it for it in of_block(labelled) if it.label not in left]
         missing |= left & set(wanted)
     return PictureTexts(with_own(sorted(texts, key=lambda it: STANDARDS.index(it.standard)), *camera), missing)

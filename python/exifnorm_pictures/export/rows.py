@@ -2,7 +2,8 @@
 
 from __future__ import annotations
 
-from datetime import datetime, timedelta, timezone
+import time
+from datetime import MAXYEAR, MINYEAR
 from typing import Dict, Iterator, List, Optional, Sequence, Tuple
 
 from ..catalogue.store import Catalogue
@@ -25,7 +26,6 @@ from ..scan.progress import Progress
 from .tables import Row, Storable, Tables, storable
 
 KEPT_ROWS, FEW_NUMBERS = 4096, 6  # rows of fields that are kept, and the most elements of such a field
-_BEGINNING = datetime(1970, 1, 1, tzinfo=timezone.utc)
 
 
 class Export:
@@ -107,9 +107,10 @@ def _time(nanoseconds: Optional[int]) -> Optional[str]:
     if nanoseconds is None:
         return None
     try:
-        return (_BEGINNING + timedelta(seconds=nanoseconds // 1_000_000_000)).strftime("%Y-%m-%d %H:%M:%S")
-    except OverflowError:
+        year, month, day, *clock = time.gmtime(nanoseconds // 1_000_000_000)[:6]
+    except (OverflowError, OSError):
         return None
+    return "%04d-%02d-%02d %02d:%02d:%02d" % (year, month, day, *clock) if MINYEAR <= year <= MAXYEAR else None
 
 
 def _block_row(picture: PictureRecord, number: int, block: BlockRecord) -> Row:

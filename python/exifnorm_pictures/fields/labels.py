@@ -167,6 +167,13 @@ def decoded(octets: bytes, declares_utf8: bool = False) -> Tuple[str, str]:
 _EXIF = {it.exif: it.word for it in LABELS if it.exif} | {"9291": DATE, "9011": DATE, "9286": COMMENT} | WINDOWS
 _IPTC = {it.iptc: it.word for it in LABELS if it.iptc} | {"1:90": "", "2:60": DATE}
 _XMP = {it.xmp: it.word for it in LABELS if it.xmp}
+# The label of each field that has a part in one, by its directory and its tag
+LABELLED = {
+    (directory, tag): word
+    for directories, words in ((("main", "exif"), _EXIF), (("iptc",), _IPTC), (("xmp",), _XMP))
+    for directory in directories
+    for tag, word in words.items()
+}
 
 
 def of_block(fields: Iterable[Field]) -> Iterator[LabelText]:
@@ -181,9 +188,7 @@ def of_block(fields: Iterable[Field]) -> Iterator[LabelText]:
 
 def word_of(field: Field) -> Optional[str]:
     """The label of a field that has a part in one."""
-    if field.directory == "xmp":
-        return _XMP.get(field.tag)
-    return _IPTC.get(field.tag) if field.directory == "iptc" else _EXIF.get(field.tag) if field.directory in ("main", "exif") else None
+    return LABELLED.get((field.directory, field.tag))
 
 
 def not_kept(fields: Iterable[Field]) -> Set[str]:

@@ -53,9 +53,12 @@ class Progress:
         self._reports.append((now, count))
         while len(self._reports) > 2 and now - self._reports[1][0] > WINDOW:
             self._reports.popleft()
-        on_terminal, is_last = (self.stream.isatty(), self.is_whole and count >= self.total)
+        if self.quiet or not self.total or self._is_over:
+            return
+        on_terminal = self.stream.isatty()
+        is_last = self.is_whole and count >= self.total
         is_due = is_last or now - self.last >= (0.2 if on_terminal else 1.0)
-        if self.quiet or not self.total or not is_due or self._is_over:
+        if not is_due:
             return
         self.last, self._is_over = now, is_last
         end = "\n" if not on_terminal or is_last else ""
