@@ -234,6 +234,25 @@ def test_a_new_folder_allows_what_its_catalogue_does(mode: int, small: Path, cal
     assert out.stat().st_mode & 0o777 == 0o711 and {it.stat().st_mode & 0o777 for it in out.iterdir()} == {0o604}
 
 
+# Before and after
+
+
+@pytest.mark.parametrize("is_replaced", [False, True])
+def test_another_picture_is_shown_beside_the_earlier_one(is_replaced: bool, folder: Path, called: Called) -> None:
+    """Two copies, or a file that was replaced, of which the tile says so."""
+    one = with_exif(SMALL_JPEG, block([MAKE]))
+    sides = ["x", "x"] if is_replaced else ["x", "y"]
+    for side, octets, catalogue in zip(sides, (one, one[:-3] + bytes([one[-3] ^ 1]) + one[-2:]), ("old", "c")):
+        put(str(folder), {f"{side}/a.jpg": octets})
+        called("index", side, "--catalogue", catalogue, "--pixels", "--quiet")
+    called("report", "c", "--since", "old", "--html", "page.html")
+    (pair,) = re.findall(r'<ul class="small pair">(.*?)</ul>', (folder / "page.html").read_text(encoding="utf-8"), re.S)
+    before, after = pair.split("<li>")[1:]
+    assert [os.path.dirname(it) for it in files_of(re.findall('href="([^"]*)"', before))] == [os.fsencode(folder / "x")] * (not is_replaced)
+    assert ("<img" in before, "earlier report" in before) == (not is_replaced, is_replaced)
+    assert files_of(re.findall('href="([^"]*)"', after)) == {os.fsencode(folder / sides[1] / "a.jpg")} and "<img" in after
+
+
 # Words
 
 

@@ -155,5 +155,5 @@ class Book:
 def _label(section: Section, page: List[Entry], number: int) -> str:
     """What a link to a page says: its number, or the folder that it shows."""
     if section.key != "folders":
-        return str(number)
+        return f"page {number}"
     return shown_path(page[0].data.path) + " (continued)" * (not page[0].data.is_first)

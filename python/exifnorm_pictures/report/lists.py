@@ -99,6 +99,10 @@ class Breaking(NamedTuple):
     path: bytes
     broken: List[Tuple[Rule, Broken]]
 
+    def by_rule(self) -> List[Tuple[Rule, List[Broken]]]:
+        """Each rule once, with all that breaks it."""
+        return [(rule, [broken for _, broken in all_]) for rule, all_ in groupby(self.broken, lambda pair: pair[0])]
+
 
 def breaking(rules: Checked) -> Iterator[Entry]:
     """The pictures that break a rule."""
