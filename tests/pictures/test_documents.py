@@ -47,6 +47,15 @@ class Documents(WithPictures):
         for it in (readers.table(), readers.table_of_parts()):
             self.assertTrue(f"\n\n{it}\n" in page, f"RECIPES has another table than\n{it}")
 
+    def test_each_command_is_shown(self):
+        """By an example in its help, an entry of the manual page, and a command of RECIPES, which tests run."""
+        pages = {name: read(os.path.join(TOP, "docs", name)).decode() for name in ("RECIPES.md", "exifnorm-pictures.1")}
+        blocks = "\n".join(re.findall(r"```sh\n(.*?)```", pages["RECIPES.md"], re.S))
+        for name, of_command in parser.parsers()[1].items():
+            self.assertRegex(of_command.format_help(), rf"Example:\n  exifnorm-pictures {name} ")
+            self.assertRegex(pages["exifnorm-pictures.1"], rf'\n\.BI "{name} ')
+            self.assertRegex(blocks, rf"\bexifnorm-pictures {name} ")
+
     def test_examples_in_the_modules(self):
         for it in pkgutil.walk_packages(exifnorm_pictures.__path__, "exifnorm_pictures."):
             if not it.name.endswith("__main__"):

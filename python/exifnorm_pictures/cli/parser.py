@@ -245,6 +245,7 @@ def _index_arguments(parser: argparse.ArgumentParser) -> None:
 
 
 def _merge_arguments(parser: argparse.ArgumentParser) -> None:
+    _example(parser, "merge monday.catalogue other.catalogue --catalogue all.catalogue")
     parser.add_argument("catalogues", nargs="+", type=_name, metavar="CATALOGUE", help="a catalogue; the last one with a picture counts")
     parser.add_argument("--catalogue", required=True, type=_name, metavar="ALL", help="the catalogue to write; created if it is missing")
 
@@ -266,6 +267,7 @@ def _same_arguments(parser: argparse.ArgumentParser) -> None:
 
 
 def _forget_arguments(parser: argparse.ArgumentParser) -> None:
+    _example(parser, "forget /archive/old --catalogue my.catalogue")
     parser.add_argument(
         "folders", nargs="*", type=_name, metavar="FOLDER", help="a folder, with all below it, or a picture; it need not be there"
     )
@@ -369,6 +371,11 @@ def _pictures_arguments(parser: argparse.ArgumentParser) -> None:
     parser.add_argument("pictures", nargs="*", type=_name, metavar="PICTURE")
     parser.add_argument("--block", action="store_true", help="each PICTURE is a block that was extracted before")
     _looking_arguments(parser)
+
+
+def _explain_arguments(parser: argparse.ArgumentParser) -> None:
+    _example(parser, "explain picture.jpg")
+    _pictures_arguments(parser)
 
 
 def _show_arguments(parser: argparse.ArgumentParser) -> None:
@@ -541,7 +548,7 @@ _COMMANDS: Tuple[Tuple[str, str, Callable[[argparse.ArgumentParser], None]], ...
     ("show", "print the fields of pictures", _show_arguments),
     ("captions", "print captions, names, keywords and rights of pictures, each with its fields", _captions_arguments),
     ("conflicts", "list pictures whose Exif, IPTC and XMP contradict each other", _conflicts_arguments),
-    ("explain", "explain why metadata are refused or a file is damaged, and name remedies", _pictures_arguments),
+    ("explain", "explain why metadata are refused or a file is damaged, and name remedies", _explain_arguments),
     ("report", "write a page, or a folder of pages, about a catalogue", _report_arguments),
     ("export", "write a catalogue as plain tables of SQLite, for SQL, Datasette and pandas", _export_arguments),
     ("mend", "write a copy of a picture in which refused metadata are mended", _mend_arguments),

@@ -1,0 +1,128 @@
+"""The table of statuses in RECIPES: each of its cells is made to happen, and no other status is."""
+
+import os
+import re
+import shutil
+
+import pytest
+from made_blocks import BLOCKS
+from made_files import A, B, app1, app1_xmp, app13, jpeg, resource, xmp
+from studio import TOP, needs, put
+from test_list import record
+from test_maker_notes import noted
+from test_nights import CUT
+from test_repairs import REFUSED
+
+from exifnorm_pictures.cli.parser import parsers
+
+with open(os.path.join(TOP, "docs", "RECIPES.md"), encoding="utf-8") as page:
+    SECTION = page.read().partition("## Statuses")[2].partition("\n## ")[0]
+ROWS = [[cell.strip(" `") for cell in line.split("|")[1:-1]] for line in SECTION.splitlines() if line.startswith("| `")]
+CELLS = {(row[0], status) for row in ROWS for status, text in enumerate(row[1:]) if text}
+
+GOOD, OTHER = (jpeg(app1(block), app13(resource(0x0404, record([("title", "A"), ("credit", "Museum")])))) for block in (A, B))
+REFUSED_BLOCK = jpeg(app1(b"II*\0\xff\xff\0\0"))
+TWO_CREATORS = jpeg(
+    app13(resource(0x0404, record([("creator", "Anna")]))),
+    app1_xmp(xmp("<dc:creator><rdf:Seq><rdf:li>Otto</rdf:li></rdf:Seq></dc:creator>")),
+)
+# The files of p, and those that replace them after the first line, or are gone (None)
+INDEX = "index p --catalogue c --pixels --quiet"
+ARCHIVES = {
+    "good": ({"a.jpg": GOOD, "b.jpg": OTHER}, {}),
+    "edited": ({"a.jpg": GOOD, "b.jpg": OTHER}, {"a.jpg": OTHER}),
+    "gone": ({"a.jpg": GOOD, "b.jpg": OTHER}, {"a.jpg": None}),
+    "refused": ({"a.jpg": REFUSED_BLOCK, "b.jpg": OTHER}, {}),
+    "now refused": ({"a.jpg": GOOD, "b.jpg": OTHER}, {"a.jpg": REFUSED_BLOCK}),
+    "other refused": ({"a.jpg": REFUSED_BLOCK}, {"a.jpg": jpeg(app1(b"II*\0\xff\xff\0\1"))}),
+    "two creators": ({"a.jpg": TWO_CREATORS}, {}),
+    "not readable": ({"a.jpg": GOOD, "b.orf": CUT}, {}),
+    "now not readable": ({"a.jpg": GOOD}, {"b.orf": CUT}),
+    "other notes": ({"a.jpg": noted(inside=b"\1\2"), "b.jpg": noted(inside=b"\3\4")}, {}),
+    "after repair": ({"a.jpg": jpeg(app1(REFUSED["unsorted"])), "b.jpg": jpeg(app1(REFUSED["unsorted"] + b"\0\0"))}, {}),
+    "lossless": ({"a.jpg": jpeg(app1(REFUSED["unsorted"]))}, {}),
+    "not mended": ({"a.jpg": b"\xff\xd8" + app1(b"II*\0\xff\xff\0\0") + b"no marker" * 9}, {}),
+    "lossy": ({"a.jpg": jpeg(app1(BLOCKS["Doubled"]))}, {}),
+}
+# The archive, and the lines, of which the last one has the status
+CASES = {
+    ("index", 0): ("refused", INDEX),
+    ("index", 2): ("not readable", INDEX),
+    ("merge", 0): ("refused", INDEX, "merge c --catalogue d"),
+    ("forget", 0): ("good", INDEX, "forget p --catalogue c"),
+    ("relocate", 0): ("good", INDEX, "relocate c p copy"),
+    ("relocate", 1): ("gone", INDEX, "relocate c p copy"),
+    ("verify", 0): ("good", INDEX, "verify --catalogue c"),
+    ("verify", 1): ("gone", INDEX, "verify --catalogue c"),
+    ("verify", 2): ("good", "index p --catalogue c --quiet", "verify --catalogue c"),
+    ("same", 0): ("good", INDEX, "same --catalogue c"),
+    ("same", 1): ("other notes", INDEX, "same --catalogue c"),
+    ("same", 2): ("after repair", INDEX, "same --catalogue c"),
+    ("changed", 0): ("good", INDEX, "changed c p"),
+    ("changed", 1): ("edited", INDEX, "changed c p"),
+    ("changed", 2): ("other refused", INDEX, "changed c p"),
+    ("history", 0): ("good", INDEX, "index p --catalogue c --keep-old old --quiet", "history p/a.jpg old c"),
+    ("history", 1): ("edited", INDEX, "index p --catalogue c --keep-old old --quiet", "history p/a.jpg old c"),
+    ("history", 2): ("other refused", INDEX, "index p --catalogue c --keep-old old --quiet", "history p/a.jpg old c"),
+    ("compare", 0): ("good", "compare p/a.jpg p/a.jpg"),
+    ("compare", 1): ("good", "compare p/a.jpg p/b.jpg"),
+    ("compare", 2): ("refused", "compare p/a.jpg p/b.jpg --only IFD0:Artist"),
+    ("list", 0): ("good", INDEX, "list c --without credit"),
+    ("list", 2): ("refused", INDEX, "list c --without credit"),
+    ("check", 0): ("good", INDEX, "check rules c"),
+    ("check", 1): ("two creators", INDEX, "check rules c"),
+    ("check", 2): ("refused", INDEX, "check rules c"),
+    ("nightly", 0): ("good", "nightly p --catalogue c", "nightly p --catalogue c"),
+    ("nightly", 1): ("edited", "nightly p --catalogue c", "nightly p --catalogue c"),
+    ("nightly", 2): ("now not readable", "nightly p --catalogue c", "nightly p --catalogue c"),
+    ("show", 0): ("good", "show p/a.jpg"),
+    ("show", 2): ("refused", "show p/a.jpg"),
+    ("captions", 0): ("good", "captions p"),
+    ("captions", 2): ("refused", "captions p"),
+    ("conflicts", 0): ("good", "conflicts p"),
+    ("conflicts", 1): ("two creators", "conflicts p"),
+    ("conflicts", 2): ("refused", "conflicts p"),
+    ("explain", 0): ("good", "explain p/a.jpg"),
+    ("explain", 2): ("refused", "explain p/a.jpg"),
+    ("report", 0): ("refused", INDEX, "report c --html page"),
+    ("export", 0): ("refused", INDEX, "export c tables"),
+    ("mend", 0): ("lossless", "mend p/a.jpg copy.jpg"),
+    ("mend", 1): ("lossy", "mend p/a.jpg copy.jpg"),
+    ("mend", 2): ("not mended", "mend p/a.jpg copy.jpg"),
+}
+
+
+def test_each_cell_has_a_case():
+    assert CELLS == CASES.keys()
+    assert {command for command, _ in CELLS} == parsers()[1].keys()
+
+
+@needs("exiftool", "exiv2")
+@pytest.mark.parametrize("command, status", CASES, ids=lambda it: str(it))
+def test_a_status(command, status, folder, called):
+    name, *lines = CASES[command, status]
+    before, after = ARCHIVES[name]
+    put(folder / "p", before)
+    (folder / "rules").write_text("every picture needs title, credit\n")
+    for number, line in enumerate(lines):
+        if number == 1:
+            for file, octets in after.items():
+                put(folder / "p", {file: octets or b""})
+                if octets is None:
+                    (folder / "p" / file).unlink()
+            shutil.copytree(folder / "p", folder / "copy")
+        found, printed, messages = called(*line.split())
+    assert found == status, printed + messages
+
+
+@pytest.mark.parametrize("command", sorted({command for command, _ in CELLS}))
+def test_bad_arguments_and_a_file_that_is_no_catalogue(command, folder, called):
+    """3 for an option that there isn't, and 4 for a text in place of a catalogue, if the command reads one."""
+    put(folder, {"c": b"text", "p/a.jpg": GOOD, "rules": b"every picture needs title\n"})
+    with pytest.raises(SystemExit) as refused:
+        called(command, "--no-such-option")
+    assert refused.value.code == 3
+    lines = {case[-1] for (name, _), case in CASES.items() if name == command}
+    for line in lines:
+        if re.search(r"\bc\b", line.replace("copy", "")):
+            assert called(*line.split())[0] in (3, 4), line
