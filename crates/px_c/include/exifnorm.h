@@ -13,8 +13,7 @@
  * call. How blocks are found in other formats, XMP, and groups of pictures are tested. It is proved of each call which status but
  * EXIFNORM_NO_MEMORY it returns for which input, what it sets, and what stays unchanged; and that exifnorm_check doesn't return
  * EXIFNORM_NO_MEMORY for a block of DataSets. What this page says otherwise of EXIFNORM_NO_MEMORY, and of copies, of the stack, of
- * threads, of ownership, and which room is always enough for a name or for joined blocks, is tested. That texts are ASCII is read in
- * their definitions, and tested.
+ * threads, of ownership, and that EXIFNORM_NAME_ROOM is enough, is tested. That texts are ASCII is read in their definitions, and tested.
  *
  * For every call:
  *

@@ -78,6 +78,7 @@ pub(crate) fn put_blocks(
     ensures short { result ≡ status.too_little_room → (sizes.new.blocks ≡ length (blocks front.now.octets front.now.parts))
         × (sizes.new.joined ≡ length (joined_bytes front.now.octets front.now.parts))
         × ((length stored.old < sizes.new.blocks) ⊎ (length out.old < sizes.new.joined)) × (stored.new ≡ stored.old) × (out.new ≡ out.old) }
+    ensures few { sizes.new.joined ≤ length front.now.octets }
 {
     let count = block_count(front);
     let joined = joined_len(front);

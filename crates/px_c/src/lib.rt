@@ -10,7 +10,7 @@
 //! is no argument.
 #![tactic(auto)]
 
-ghost use Rattle.std.specs.Prelude.{◌≡◌, ◌≢◌, ◌⊎◌};
+ghost use Rattle.std.specs.Prelude.{◌≡◌, ◌≢◌, ◌⊎◌, ◌≤◌, length};
 ghost use Rattle.px_engine.specs.declared.faults.Fault.TheVariants.{NormalTooLong};
 ghost use Rattle.px_engine.specs.declared.forms.Given.TheVariants.{Whole, Needs};
 ghost use Rattle.px_engine.specs.declared.kinds.BlockKind.TheVariants.{Iim};
@@ -215,7 +215,7 @@ pub extern "C" fn exifnorm_jpeg_parts(
 /// Stores where the blocks of a picture are at the start of `blocks`, in order: of Exif, of Photoshop's image resources,
 /// of XMP and of extended XMP. A block of one piece is a range of the picture. Those of more pieces are joined: they are
 /// ranges of the bytes that the call writes to the start of `out`. `sizes` has the number of blocks, and that of these
-/// bytes. The picture may be its first bytes, as far as its head goes. Allocates nothing.
+/// bytes, at most that of the picture's. The picture may be its first bytes, as far as its head goes. Allocates nothing.
 ///
 /// `REFUSED`: the bytes have no head, and `fault` is the first fault; the blocks that end before it are stored and
 /// counted. If the bytes end before the head does, more of them may continue a block of Exif: that block is left out.
@@ -235,6 +235,7 @@ pub extern "C" fn exifnorm_jpeg_blocks(
     ensures refused { result ≡ status.refused → StoresEnded bytes.now fault.new sizes.new blocks.old blocks.new out.old out.new }
     ensures short { result ≡ status.too_little_room → LacksRoomForBlocks bytes.now sizes.new blocks.old blocks.new out.old out.new }
     ensures fault { result ≢ status.refused → fault.new ≡ fault.old }
+    ensures few { sizes.new.joined ≤ length bytes.now }
 {
     match read_head(bytes) {
         Ok(head) => put_blocks(&head.front(), blocks, out, sizes),

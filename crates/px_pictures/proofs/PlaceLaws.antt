@@ -252,6 +252,5 @@ pub none_joined : (b : List ℕ) (parts : List Part) → joined_size b parts ≡
 none_joined b parts e =
     nil_from_length (joined_octets b (pieces b None parts)) (omega (arith, e, octets_within b (joined_pieces (pieces b None parts))))
 
-pub joined_few : (b : List ℕ) (parts : List Part) → HasFront b parts → length b < 2 ^ 63
-    → length (joined_octets b (pieces b None parts)) < 2 ^ 63
-joined_few b parts h l = omega (arith, l, octets_within b (joined_pieces (pieces b None parts)), joined_within b parts h)
+pub joined_few : (b : List ℕ) (parts : List Part) → HasFront b parts → length (joined_octets b (pieces b None parts)) ≤ length b
+joined_few b parts h = omega (arith, octets_within b (joined_pieces (pieces b None parts)), joined_within b parts h)

@@ -115,10 +115,12 @@ impl<'a> Iterator for Places<'a> {
     }
 }
 
-/// The number of joined bytes: those of the blocks that have more than one piece. It allocates nothing.
+/// The number of joined bytes: those of the blocks that have more than one piece. It is at most that of the picture's bytes.
+/// It allocates nothing.
 pub fn joined_len(front: &Front) -> usize
     requires { HasFront front.now.octets front.now.parts }
-    ensures { result ≡ length (joined_bytes front.now.octets front.now.parts) }
+    ensures joined { result ≡ length (joined_bytes front.now.octets front.now.parts) }
+    ensures few { result ≤ length front.now.octets }
 {
     let bytes = front.bytes();
     let mut left = pieces_left(front);
