@@ -4,17 +4,20 @@ import itertools
 import json
 import os
 import struct
+import unicodedata
 from collections import Counter
 
 import pytest
-from made_blocks import ASCII, BLOCKS, LONG, MAKE, SHORT, UNDEFINED, block, entry, table, with_exif
-from made_files import app1, app1_xmp, app13, chunk, exif, iim, jpeg, png, resource, xmp
+from hypothesis import example, given, strategies as st
+from made_blocks import ASCII, BLOCKS, LONG, MAKE, SHORT, UNDEFINED, block, entry, segment, table, with_exif
+from made_files import app1, app1_xmp, app13, chunk, exif, iim, jpeg, png, resource, title, xmp
 from studio import SMALL_JPEG, TOP, needs, tool
 from test_jpeg_heads import COMPARED
 from test_never_the_same import damages, parts, reached, segments, texts
 
 from exifnorm_pictures.comparison.proved import head_of_file
 from exifnorm_pictures.comparison.two_pictures import compare, read
+from exifnorm_pictures.comparison.wording import told_apart
 from exifnorm_pictures.files.session import Session
 from exifnorm_pictures.model.found import EXIF, IPTC
 from exifnorm_pictures.scan.batches import How
@@ -305,3 +308,36 @@ def test_the_samples(run):
         "IFD0:Copyright": (None, "Riverside Museum"),
         "IPTC:Caption-Abstract": ("Bowl, celadon glaze, 1820", "Bowl, celadon glaze, 1280"),
     }
+
+
+LETTERS = "ae\u0308\u0301\u00e4\u00e9\u00c5\u212b \u00a0\u2003\u200b\u00ad<"
+
+
+@given(*[st.text(LETTERS, max_size=5)] * 2)
+@example("M\u00fcnchen", "Mu\u0308nchen")
+@example("\u212b\u00a0", "\u00c5\u00a0")
+def test_different_texts_never_look_alike(before, after):
+    """By the canonical equivalence of Unicode, and whatever blanks and characters without a width are in them."""
+
+    def look(text):
+        visible = "".join(it for it in unicodedata.normalize("NFC", text) if unicodedata.category(it) != "Cf")
+        return " ".join(visible.split())
+
+    shown = told_apart(before, after)
+    assert before == after or look(shown[0]) != look(shown[1]), shown
+    assert look(before) == look(after) or shown == (before, after)
+
+
+def test_values_that_look_alike(folder, called):
+    """Letters with accents of their own look as composed ones; a colour profile shows in no field."""
+    (folder / "a.jpg").write_bytes(jpeg(app1_xmp(title("Z\u00fcrich")), segment(0xFE, b"one")))
+    (folder / "b.jpg").write_bytes(jpeg(app1_xmp(title("Zu\u0308rich"))))
+    (folder / "c.jpg").write_bytes(jpeg(app1_xmp(title("Z\u00fcrich"))))
+    for words in (["compare", "a.jpg", "b.jpg"], ["compare", "a.jpg", "b.jpg", "--csv"]):
+        assert "Zu<U+0308>rich" in called(*words)[1]
+    (row,) = json.loads(called("compare", "a.jpg", "b.jpg", "--json")[1])["fields"]
+    assert (row["before"]["value"], row["after"]["value"]) == ("Z\u00fcrich", "Zu\u0308rich")
+    status, printed, _ = called("compare", "a.jpg", "c.jpg")
+    assert status == 0 and printed.endswith("Their colour profiles or comments differ.\n")
+    assert "comments differ" in json.loads(called("compare", "a.jpg", "c.jpg", "--json")[1])["note"]
+    assert "comments differ" not in called("compare", "b.jpg", "c.jpg")[1]

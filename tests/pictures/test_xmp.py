@@ -119,6 +119,12 @@ class Packets(unittest.TestCase):
         ]
         self.assertEqual(len({said(it) for it in packets_}), len(packets_))
 
+    @needs("rdflib")
+    def test_named_nodes(self):
+        """As rdflib writes a packet: ExifTool reads the URI of rdf:Bag as a keyword, and Adobe's toolkit (exiv2) refuses the packet."""
+        inside = "<dc:subject rdf:nodeID='n'/></rdf:Description><rdf:Bag rdf:nodeID='n'><rdf:li>clay</rdf:li></rdf:Bag><rdf:Description>"
+        self.assertEqual(cause(xmp(inside)), "Shared")
+
     def test_rare_forms_are_left_to_rdflib(self):
         from exifnorm_pictures.xmp import packets as rdf, reader
 

@@ -28,6 +28,7 @@ from . import proved
 from .changed import Compared, compared
 from .differing import FieldDifference, exact_side
 from .pairs import Pair
+from .wording import told_apart
 
 
 Heads = Tuple[Optional[bytes], Optional[bytes]]
@@ -150,6 +151,8 @@ def _row(difference: FieldDifference) -> FieldRow:
     )
     if values[0] == values[1]:  # what people see is equal, and what is there isn't
         values = both
+    elif not difference.note:
+        values = list(told_apart(values[0], values[1]))
     return FieldRow(difference.name, (values[0], values[1]), (both[0], both[1]), (difference,), difference.note)
 
 

@@ -5,6 +5,7 @@ from __future__ import annotations
 import hashlib
 import os.path
 import re
+import unicodedata
 from collections import Counter
 from datetime import datetime, timedelta
 from typing import List, NamedTuple, Optional, Sequence, Tuple
@@ -42,7 +43,39 @@ def sides(difference: FieldDifference, exactly: bool = False) -> Tuple[Optional[
     plain = [", ".join(map(in_line, one)) if one else None for one in (difference.before, difference.after)]
     if exactly or plain[0] == plain[1]:
         return exact_side(difference.before), exact_side(difference.after)
-    return plain[0], plain[1]
+    return told_apart(plain[0], plain[1])
+
+
+def told_apart(before: Optional[str], after: Optional[str]) -> Tuple[Optional[str], Optional[str]]:
+    """Two texts that differ. Of those that look alike, as letters with accents of their own do, the numbers of the characters that don't show.
+
+    >>> told_apart("Z\u00fcrich", "Zu\u0308rich"), told_apart("a b", "a\u00a0b"), told_apart("Otto", "Otto ")
+    (('Zürich', 'Zu<U+0308>rich'), ('a b', 'a<U+00A0>b'), ('Otto', 'Otto<U+0020>'))
+    """
+    if before is None or after is None or before == after or _look(before) != _look(after):
+        return before, after
+    shown = _HIDDEN.sub(_number, before), _HIDDEN.sub(_number, after)
+    return shown if _look(shown[0]) != _look(shown[1]) else (_NOT_ASCII.sub(_number, before), _NOT_ASCII.sub(_number, after))
+
+
+# Characters that don't show, such as a space at the end, or that show as a part of another one
+_ACCENTS = "\u0300-\u036f\u1ab0-\u1aff\u1dc0-\u1dff\u20d0-\u20ff\ufe20-\ufe2f"
+_BLANKS = "\u00a0\u00ad\u2000-\u200f\u2028-\u202f\u205f-\u206f\u3000\ufeff"
+_HIDDEN = re.compile(f"[{_ACCENTS}{_BLANKS}]|^ | $| (?= )")
+_NOT_ASCII = re.compile("[^\x00-\x7f]")
+
+
+def _look(text: str) -> str:
+    """Equal of texts that look alike."""
+    return " ".join(unicodedata.normalize("NFC", text).translate(_NOTHING).split())
+
+
+# Characters without a width
+_NOTHING = dict.fromkeys((0xAD, *range(0x200B, 0x2010), *range(0x202A, 0x202F), *range(0x2060, 0x2070), 0xFEFF))
+
+
+def _number(character: "re.Match[str]") -> str:
+    return f"<U+{ord(character[0]):04X}>"
 
 
 def plain_sides(difference: FieldDifference) -> Tuple[Optional[str], Optional[str]]:
@@ -52,7 +85,9 @@ def plain_sides(difference: FieldDifference) -> Tuple[Optional[str], Optional[st
     (None, 'Otto')
     """
     values = ["; ".join(it.text for it in one) if one else None for one in (difference.before, difference.after)]
-    return (values[0], values[1]) if values[0] != values[1] else (exact_side(difference.before), exact_side(difference.after))
+    if values[0] == values[1]:
+        return exact_side(difference.before), exact_side(difference.after)
+    return told_apart(values[0], values[1])
 
 
 def line_of(difference: FieldDifference, exactly: bool = False) -> str:

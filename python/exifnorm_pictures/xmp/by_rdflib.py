@@ -32,7 +32,10 @@ def statements(root: ElementTree.Element, budget: Optional[Budget] = None) -> St
         raise
     except Exception:  # rdflib raises its own kinds, those of xml.sax, and others
         raise Unreadable("NotRDF") from None
-    return _Tree(rdflib, graph).statements()
+    statements = _Tree(rdflib, graph).statements()
+    if any(f"{{{RDF}}}nodeID" in element.attrib for element in root.iter()):
+        raise Unreadable("Shared")  # RDF gives a meaning to the packet, in which ExifTool and Adobe's toolkit find no value
+    return statements
 
 
 def _is_markup(element: ElementTree.Element) -> bool:

@@ -24,7 +24,7 @@ CAUSES = {
     "NotRDF": "What is inside rdf:RDF does not follow the syntax of RDF/XML.",
     "SeveralSubjects": "The packet makes statements about several subjects.",
     "Repeated": "A property stands twice with different values, which XMP does not allow, and their order isn't known.",
-    "Shared": "A node of the packet has several names or leads back to itself.",
+    "Shared": "A node of the packet has a name (rdf:nodeID), which other readers of XMP don't follow, or several, or leads back to itself.",
     "ExtensionMissing": "The packet names extended XMP that is not there.",
     "ExtensionNotNamed": "There is extended XMP that no packet names.",
     "ExtensionDamaged": "The extended XMP is not the one that the packet names, by its MD5.",
