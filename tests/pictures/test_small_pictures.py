@@ -4,6 +4,7 @@ import base64
 import contextlib
 import io
 import os
+import struct
 from pathlib import Path
 from typing import Any, Dict, Iterator
 
@@ -99,11 +100,30 @@ def test_hostile_pictures_cost_their_tile(tmp_path: Path, shrinker: thumbnails.S
     assert {name for name, path in files.items() if path in uris} - {"bomb.png"} == {"1.jpg", "2.jpg", "3.jpg"}
 
 
-@pytest.mark.parametrize("what", ["os.abort()", "bytearray(400 << 20)", "[0 for _ in iter(int, 1)]"])
+EPS = b"%!PS-Adobe-3.0 EPSF-3.0\n%%BoundingBox: 0 0 9 9\n%%EndComments\n0 0 1 setrgbcolor 0 0 9 9 rectfill showpage\n%%EOF\n"
+WMF = b"\xd7\xcd\xc6\x9a\0\0" + struct.pack("<4hHI", 0, 0, 9, 9, 72, 0) + b"\0\0\1\0\x09\0\0\x03" + bytes(10)
+
+
+@pytest.mark.parametrize("octets", [EPS, WMF, b"\xc5\xd0\xd3\xc6" + struct.pack("<2I", 30, len(EPS)) + bytes(18) + EPS])
+def test_no_program_is_run(octets: bytes, tmp_path: Path, shrinker: thumbnails.Shrinker, monkeypatch: pytest.MonkeyPatch) -> None:
+    """For EPS Pillow runs Ghostscript, which runs what the file says."""
+    (tmp_path / "gs").write_text(f"#!/bin/sh\n: > {tmp_path}/taken\nhead -c 2000000000 /dev/zero\n")
+    (tmp_path / "gs").chmod(0o755)
+    monkeypatch.setenv("PATH", f"{tmp_path}:{os.environ['PATH']}")
+    (tmp_path / "a.eps").write_bytes(octets)
+    paths = [os.fsencode(tmp_path / "a.eps"), saved(half_red(), tmp_path / "b.jpg")]
+    assert [*thumbnails.small_pictures(paths, shrinker)] == paths[1:]
+    assert not (tmp_path / "taken").exists()
+
+
+@pytest.mark.parametrize(
+    "what",
+    ["os.write(1, bytes([255] * 999))", "os.system('echo abcdefgh')", "os.abort()", "bytearray(400 << 20)", "[0 for _ in iter(int, 1)]"],
+)
 def test_what_ends_the_process_costs_a_tile(
     what: str, tmp_path: Path, shrinker: thumbnails.Shrinker, monkeypatch: pytest.MonkeyPatch
 ) -> None:
-    """As a fault of Pillow may: it ends, asks for more memory than it may have, or doesn't end."""
+    """As a fault of Pillow may: it prints something, ends, asks for more memory than it may have, or doesn't end."""
     source = Path(shrinking.__file__).read_text(encoding="utf-8")
     faulty = source.replace(
         '    with open(path, "rb") as file:', f'    if b"bad" in path:\n        import os; {what}\n    with open(path, "rb") as file:'
@@ -112,7 +132,8 @@ def test_what_ends_the_process_costs_a_tile(
     (tmp_path / "shrinking.py").write_text(faulty.replace("SECONDS, MEMORY = 10,", "SECONDS, MEMORY = 0,"))
     monkeypatch.setattr(shrinking, "__file__", str(tmp_path / "shrinking.py"))
     paths = [saved(half_red(), tmp_path / name) for name in ("1.jpg", "bad.jpg", "2.jpg")]
-    assert [*thumbnails.small_pictures(paths, shrinker)] == [paths[0], paths[2]]
+    made = [*thumbnails.small_pictures(paths, shrinker)]
+    assert made == (paths if "abcdefgh" in what or "255" in what else [paths[0], paths[2]])  # what is printed changes nothing
 
 
 def test_without_pillow_there_are_thumbnails(tmp_path: Path) -> None:

@@ -7,12 +7,15 @@ NUL, and perhaps the thumbnail that it has. An answer is a JPEG, or empty.
 from __future__ import annotations
 
 import io
+import os
 import resource
 import struct
 import sys
-from typing import Any, BinaryIO, Optional
+from typing import Any, BinaryIO, Optional, Sequence
 
 LARGEST = 10_000  # bytes of a small picture
+# What Pillow reads by itself: for EPS it would start Ghostscript, which runs what a picture says
+_FORMATS = ("JPEG", "MPO", "PNG", "GIF", "BMP", "DIB", "PPM", "TIFF", "WEBP", "AVIF", "JPEG2000", "PSD", "ICO", "TGA", "PCX")
 SECONDS, MEMORY = 10, 256 << 20  # that one picture may take
 _WIDEST = (300, 220, 150, 100)  # points, each smaller than the one before, until a picture is small enough
 _ORIENTATION = 0x0112
@@ -30,9 +33,14 @@ def _small(image_module: Any, path: bytes, embedded: bytes) -> bytes:
     return b""
 
 
+def _formats(image_module: Any) -> Sequence[str]:
+    """Those of `_FORMATS` that this Pillow has."""
+    return [it for it in _FORMATS if it in image_module.OPEN]
+
+
 def _orientation(image_module: Any, file: BinaryIO) -> int:
     try:
-        return int(image_module.open(file).getexif().get(_ORIENTATION, 1))
+        return int(image_module.open(file, formats=_formats(image_module)).getexif().get(_ORIENTATION, 1))
     except Exception:  # Pillow raises many kinds
         return 1
 
@@ -42,7 +50,7 @@ def _shrunk(image_module: Any, source: Any, orientation: int) -> Optional[bytes]
         zip(range(2, 9), (0, 3, 1, 5, 4, 6, 2))
     )  # FLIP_LEFT_RIGHT, ROTATE_180, FLIP_TOP_BOTTOM, TRANSPOSE, ROTATE_270, TRANSVERSE, ROTATE_90
     try:
-        picture = image_module.open(source)
+        picture = image_module.open(source, formats=_formats(image_module))
         picture.draft("RGB", (_WIDEST[0], _WIDEST[0]))
         picture.thumbnail((_WIDEST[0], _WIDEST[0]))
         if picture.mode in ("RGBA", "LA", "P", "PA"):  # on white, where it can be seen through
@@ -76,10 +84,11 @@ def _limit_time() -> None:
 def main() -> None:
     from PIL import Image
 
-    Image.preinit()
+    Image.init()
     resource.setrlimit(resource.RLIMIT_AS, (MEMORY, MEMORY))
     resource.setrlimit(resource.RLIMIT_CORE, (0, 0))
-    requests, answers = sys.stdin.buffer, sys.stdout.buffer
+    requests, answers = sys.stdin.buffer, open(os.dup(1), "wb")
+    os.dup2(os.open(os.devnull, os.O_WRONLY), 1)  # whatever else is printed is no answer
     while len(head := requests.read(4)) == 4:
         path, _, embedded = requests.read(struct.unpack(">I", head)[0]).partition(b"\0")
         _limit_time()

@@ -59,9 +59,10 @@ class Shrinker:
         if not select.select([process.stdout], [], [], PATIENCE)[0]:
             raise EOFError
         head = process.stdout.read(4)
-        if len(head) < 4:
+        length = struct.unpack(">I", head)[0] if len(head) == 4 else shrinking.LARGEST + 1
+        if length > shrinking.LARGEST:
             raise EOFError
-        return process.stdout.read(struct.unpack(">I", head)[0])
+        return process.stdout.read(length)
 
 
 def small_pictures(paths: Sequence[bytes], shrinker: Shrinker, session: Optional[Session] = None) -> Dict[bytes, str]:
