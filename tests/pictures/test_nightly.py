@@ -458,13 +458,24 @@ def test_what_is_refused(words, files, expected, why, archive, called, folder):
     assert not (folder / "c.catalogue").exists()
 
 
-def test_a_file_of_another_kind_stays(archive, night, called, folder):
+@pytest.mark.parametrize("name", ["before.catalogue", "tonight.catalogue", "before.catalogue.new", "catalogue.lock"])
+@pytest.mark.parametrize("make", ["file", "link", "pipe"])
+def test_a_file_of_another_kind_stays(name, make, archive, night, called, folder):
+    """Whatever has the name of one of the files beside a catalogue."""
     night()
     lose(archive)
-    (folder / "c.before.catalogue").write_bytes(b"somebody's")
+    (folder / "precious").write_bytes(b"somebody's")
+    there = folder / f"c.{name}"
+    there.unlink(missing_ok=True)
+    {
+        "file": lambda: shutil.copy(folder / "precious", there),
+        "link": lambda: there.symlink_to("precious"),
+        "pipe": lambda: os.mkfifo(there),
+    }[make]()
+    before = os.lstat(there).st_ino
     status, _, messages = called("nightly", "p", "--catalogue", "c.catalogue")
-    assert status == 4 and "c.before.catalogue" in messages
-    assert (folder / "c.before.catalogue").read_bytes() == b"somebody's"
+    assert status == 4 and there.name in messages and os.lstat(there).st_ino == before
+    assert make == "pipe" or there.read_bytes() == b"somebody's"
 
 
 def test_sidecars_and_excluded_files(archive, night):

@@ -14,6 +14,7 @@ import contextlib
 import fcntl
 import os
 import shutil
+import stat
 from typing import IO, Iterator, List, Optional, Tuple
 
 from ..files import atomic
@@ -21,6 +22,7 @@ from ..model.errors import Failure
 from ..model.texts import shown_path
 from .store import Catalogue, head_is_ours
 
+_HEAD = "The lock of exifnorm-pictures nightly, and what its catalogue of tonight was made from:\n"
 _SQLITES = ("-wal", "-shm", "-journal")  # files that SQLite keeps beside a catalogue
 
 
@@ -57,7 +59,7 @@ class Nights:
 
     def __enter__(self) -> "Nights":
         # The lock is this process's own: one that it has started and that outlives it doesn't hold it, as it would with flock
-        file = open(self._lock_name, "a+", encoding="utf-8", errors="surrogateescape")
+        file = _opened_lock(self._lock_name)
         try:
             fcntl.lockf(file, fcntl.LOCK_EX | fcntl.LOCK_NB)
         except OSError:
@@ -98,6 +100,7 @@ class Nights:
     def _replace_before(self) -> None:
         """Gives the last catalogue a second name, so that it has one at each moment."""
         beside = f"{self.before}.new"
+        _refuse_others(beside)
         with contextlib.suppress(FileNotFoundError):
             os.unlink(beside)
         try:
@@ -108,14 +111,28 @@ class Nights:
 
     def _noted(self) -> str:
         assert self._lock
-        self._lock.seek(0)
+        self._lock.seek(len(_HEAD))
         return self._lock.read()
 
     def _note(self, text: str) -> None:
         assert self._lock
         self._lock.truncate(0)
-        self._lock.write(text)
+        self._lock.write(_HEAD + text)
         self._lock.flush()
+
+
+def _opened_lock(name: str) -> IO[str]:
+    """A lock that is open, and perhaps new. Raises `NotReplaced` for a file of another kind, which is left as it is."""
+    with contextlib.suppress(FileNotFoundError):
+        if not stat.S_ISREG(os.lstat(name).st_mode):
+            raise atomic.NotReplaced(atomic.not_written(shown_path(name), "it is there, and is no regular file"))
+    number = os.open(name, os.O_RDWR | os.O_CREAT | os.O_APPEND | os.O_NOFOLLOW | os.O_NONBLOCK | os.O_CLOEXEC, 0o666)
+    file = open(number, "a+", encoding="utf-8", errors="surrogateescape")
+    file.seek(0)
+    if file.read(len(_HEAD)) not in ("", _HEAD):
+        file.close()
+        raise _other_kind(name)
+    return file
 
 
 def _mark(name: str) -> Optional[List[int]]:
@@ -130,7 +147,11 @@ def _mark(name: str) -> Optional[List[int]]:
 def _refuse_others(name: str) -> None:
     """Raises `NotReplaced` if a name is that of a file which is no catalogue."""
     if os.path.lexists(name) and not (os.path.isfile(name) and _is_ours(name)):
-        raise atomic.NotReplaced(atomic.not_written(shown_path(name), "it is there, and is a file of another kind"))
+        raise _other_kind(name)
+
+
+def _other_kind(name: str) -> atomic.NotReplaced:
+    return atomic.NotReplaced(atomic.not_written(shown_path(name), "it is there, and is a file of another kind"))
 
 
 def _is_ours(name: str) -> bool:
