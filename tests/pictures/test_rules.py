@@ -6,16 +6,34 @@ import io
 import json
 import random
 import re
+import unicodedata
 
 import pytest
-from made_files import jpeg
+from made_files import app1, jpeg
 from studio import needs, put
 from test_list import DATASETS, picture
 from test_maker_notes import noted
 
-TEXTS = ("clay", "Clay", "Otto Weiß", "Riverside Museum", "1998.10", "2003.12 bowl", "a, b", "x" * 30, "# seven")
+TEXTS = (
+    "clay",
+    "Clay",
+    "Otto Weiß",
+    "Zu\u0308rich",
+    "Z\u00fcrich",
+    "\u1e69\u00f6 s\u0323\u0307o\u0308",
+    "Riverside Museum",
+    "1998.10",
+    "2003.12 bowl",
+    "a, b",
+    "x" * 30,
+    "# seven",
+)
 DATES = ("19500321", "20010102", "20500101")
 FOLDERS = ("web", "scans", "scans/old", "2024/web")
+
+
+def composed(text):
+    return unicodedata.normalize("NFC", text)
 
 
 def quoted(text):
@@ -34,14 +52,14 @@ def drawn(rng):
             it for it in texts if it[0] == "date created" and it[1] > "20010102"
         ] and [("date created", re.sub(r"(....)(..)(..)", r"\1-\2-\3", dict(texts)["date created"]))]
     values = rng.sample(TEXTS, 2)
-    pattern = rng.choice(("####.##*", "*lay", "?lay", "Otto*"))
+    pattern = rng.choice(("####.##*", "*lay", "?lay", "Otto*", "Z?rich", "Zu\u0308*"))
     tests = {
-        "is": (quoted(values[0]), lambda text: text == values[0]),
-        "one of": (", ".join(map(quoted, values)), lambda text: text in values),
+        "is": (quoted(values[0]), lambda text: composed(text) == composed(values[0])),
+        "one of": (", ".join(map(quoted, values)), lambda text: composed(text) in map(composed, values)),
         "from": ("words.txt", lambda text: text in ("clay", "Otto Weiß")),
-        "like": (quoted(pattern), lambda text: fnmatch.fnmatchcase(text, pattern.replace("#", "[0-9]"))),
+        "like": (quoted(pattern), lambda text: fnmatch.fnmatchcase(composed(text), composed(pattern).replace("#", "[0-9]"))),
         "never": ("", lambda text: False),
-        "at most": ("12 characters", lambda text: len(text) <= 12),
+        "at most": ("6 characters", lambda text: len(composed(text)) <= 6),
     }
     words, is_allowed = tests[kind]
     return f"{label} {kind} {words}", lambda texts: [it for it in dict.fromkeys(texts) if it[0] == label and not is_allowed(it[1])]
@@ -94,6 +112,31 @@ def test_rules(folder, called, seed):
     assert [int(row[1]) for row in rows] == [it["line"] for it in objects]
 
 
+@pytest.mark.parametrize("seed", range(3))
+def test_a_folder_a_catalogue_and_questions_agree(folder, called, seed):
+    """What breaks a rule in a folder does so in its catalogue, and fits the question that asks for it; also of pictures not wholly read."""
+    rng = random.Random(100 + seed)
+    refused = app1(b"II*\0\xff\xff\0\0")
+    for number in range(20):
+        labels = rng.sample(list(DATASETS), rng.randrange(len(DATASETS)))
+        texts = [(label, rng.choice(DATES if label == "date created" else TEXTS)) for label in labels]
+        put(folder / "p", {f"{rng.choice(FOLDERS)}/{number:02}.jpg": picture(texts, *[refused] * (rng.random() < 0.2))})
+    asked = [(f"every picture needs {label}", f"without {label}") for label in DATASETS]
+    asked += [(f"{label} never", f"with {label}") for label in DATASETS]
+    asked += [("date created not after 2001", "date created > 2001"), ("date created not before 2001-01", "date created < 2001-01")]
+    (folder / "rules").write_text("".join(f"{rule}\n" for rule, _ in asked))
+    called("index", "p", "--catalogue", "c", "--quiet")
+    of_catalogue, of_folder = (called("check", "rules", name, "--json") for name in ("c", "p"))
+    assert of_catalogue[:2] == of_folder[:2]
+    *broken, summary = map(json.loads, of_catalogue[1].splitlines())
+    for line, (rule, question) in enumerate(asked, 1):
+        for source in ("c", "p") if line % 6 == 0 else ("c",):
+            status, printed, _ = called("list", source, "--where", question, "-0")
+            assert sorted({it["path"] for it in broken if it["line"] == line}) == sorted(filter(None, printed.split("\0"))), (rule, source)
+            assert status <= of_catalogue[0], rule
+    assert of_catalogue[0] == (2 if summary["not_known"] else 1)
+
+
 def test_nothing_is_broken(folder, called):
     put(folder / "p", {"a.jpg": picture([("title", "A")])})
     (folder / "rules").write_text("every picture needs title\ntitle is A\n")
@@ -143,13 +186,21 @@ def test_each_mistake_is_named(folder, called):
         "title never in",
         "keywords from nothing.txt",
         "credit needs title",
+        "every pictures need title",
+        "date not after today",
+        'copyright = "Museum"',
+        "Artist is Anna",
+        "title like ####",
+        "position and serial never",
     )
     (folder / "rules").write_text("every picture needs title\n" + "\n".join(wrong))
     status, printed, messages = called("check", "rules", "p")
     assert (status, printed) == (3, "")
     for number, line in enumerate(wrong, 2):
         assert f"line {number}: " in messages and f"\n  {line}\n" in messages
-    assert "creator" in messages.split("line 3: ")[1].splitlines()[0]
+    meant = {3: "creator", 12: "every picture needs", 13: "date created", 14: " is ", 15: "creator", 16: "comment", 17: "comma"}
+    for number, proposal in meant.items():
+        assert proposal in messages.split(f"line {number}: ")[1].splitlines()[0], number
 
 
 @pytest.mark.parametrize("octets", (b"", b"# only a comment\n", b"\xff\xfe", b"title is A\n" * 2000))

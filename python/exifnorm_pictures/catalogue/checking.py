@@ -34,6 +34,7 @@ class Checked:
         self._catalogue = catalogue
         self.rules = rules
         base = catalogue.base
+        base.create_function("composed", 1, _composed, deterministic=True)
         with catalogue.guarded():
             base.execute("CREATE TEMP TABLE broken (path BLOB, number INTEGER, label TEXT, text TEXT)")
             base.execute("CREATE TEMP TABLE allowed (number INTEGER, text TEXT, PRIMARY KEY (number, text)) WITHOUT ROWID")
@@ -68,18 +69,20 @@ class Checked:
             return "1", ()
         if rule.kind == LIKE:
             signs = {"[": "[[]", "#": "[0-9]"}
-            return "t.text NOT GLOB ?", ("".join(signs.get(sign, sign) for sign in rule.values[0]),)
+            pattern = unicodedata.normalize("NFC", rule.values[0])
+            return "composed(t.text) NOT GLOB ?", ("".join(signs.get(sign, sign) for sign in pattern),)
         if rule.kind == LENGTH:
-            return "length(t.text) > ?", (int(rule.values[0]),)
+            return "length(composed(t.text)) > ?", (int(rule.values[0]),)
         if rule.kind == AFTER:
             return f"{_DATED} AND t.head > ?", (rule.values[0] + _LAST,)
         if rule.kind == BEFORE:
             return f"{_DATED} AND t.head < ? AND substr(?, 1, length(t.head)) != t.head", (rule.values[0], rule.values[0])
         assert rule.kind == VALUES
-        texts = {(number, unicodedata.normalize(form, text)) for text in rule.values for form in ("NFC", "NFD")}
+        texts = {(number, unicodedata.normalize("NFC", text)) for text in rule.values}
         with self._catalogue.guarded():
             self._catalogue.base.executemany("INSERT OR IGNORE INTO temp.allowed VALUES (?, ?)", texts)
-        return "NOT EXISTS (SELECT 1 FROM temp.allowed a WHERE a.number = ? AND a.text = t.text)", (number,)
+        allowed = "EXISTS (SELECT 1 FROM temp.allowed a WHERE a.number = ? AND a.text = {})"
+        return f"NOT ({allowed.format('t.text')} OR {allowed.format('composed(t.text)')})", (number, number)
 
     def broken(self, by_picture: bool = False) -> Iterator[Broken]:
         """What breaks a rule, by rules or by pictures."""
@@ -123,6 +126,11 @@ class Checked:
             if not left:
                 break
         return left
+
+
+def _composed(text: object) -> Optional[str]:
+    """A text with composed letters, as rules compare it; None of what is no text in a damaged catalogue."""
+    return unicodedata.normalize("NFC", text) if isinstance(text, str) else None
 
 
 def _below(path: bytes, root: bytes) -> str:

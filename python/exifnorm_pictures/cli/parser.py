@@ -245,7 +245,7 @@ def _index_arguments(parser: argparse.ArgumentParser) -> None:
 
 
 def _merge_arguments(parser: argparse.ArgumentParser) -> None:
-    _example(parser, "merge monday.catalogue other.catalogue --catalogue all.catalogue")
+    _example(parser, "merge a.catalogue b.catalogue --catalogue all.catalogue")
     parser.add_argument("catalogues", nargs="+", type=_name, metavar="CATALOGUE", help="a catalogue; the last one with a picture counts")
     parser.add_argument("--catalogue", required=True, type=_name, metavar="ALL", help="the catalogue to write; created if it is missing")
 

@@ -40,6 +40,16 @@ _PREDICATES = {  # by their words
     ("not", "before"): BEFORE,
 }
 _PLACES = ("in", "except")
+_MEANT = {  # words in place of a predicate, and what may be meant
+    **dict.fromkeys(("=", "==", ":", "equals", "must", "should", "are", "be"), "is"),
+    **dict.fromkeys(("matches", "match", "has", "contains", "contain", "with"), 'like "*..*"'),
+    **dict.fromkeys(("before", "until", "<", "<="), "not after"),
+    **dict.fromkeys(("after", "since", ">", ">="), "not before"),
+    **dict.fromkeys(("forbidden", "no", "none", "without", "not"), "never"),
+    **dict.fromkeys(("max", "maximum", "up", "shorter"), "at most .. characters"),
+    **dict.fromkeys(("and", "or", "&", ";"), "a comma"),
+    **dict.fromkeys(("need", "require", "requires", "required", "have"), "every picture needs"),
+}
 MOST_RULES = 1000
 MOST_WORDS = 1_000_000  # of the texts that all rules together allow
 LONGEST_LINE = 100_000  # characters
@@ -117,6 +127,18 @@ def _rule(number: int, line: str, words_of: Callable[[str], List[str]]) -> Optio
         raise _Mistake(f"a line has at most {LONGEST_LINE:,} characters; a file of words, after from, may have more", 0, 1)
     tokens = list(_tokens(line))
     return _Reader(number, line, tokens, words_of).read() if tokens else None
+
+
+def _meant_label(name: str) -> str:
+    """The label that may be meant: one that begins so, one with nearly these letters, or one that stands for a field of this name.
+
+    >>> _meant_label("date"), _meant_label("creatr"), _meant_label("artist"), _meant_label("x")
+    ('date created', 'creator', 'creator', '')
+    """
+    fields = fields_by_label()
+    near = [label for label in fields if len(name) > 2 and label.startswith(name)] or difflib.get_close_matches(name, fields, 1, 0.6)
+    groups = ((label, one.casefold().split(":")) for label, of_label in fields.items() for one in of_label)
+    return next(iter([*near, *(label for label, (group, field) in groups if name in (group, field))]), "")
 
 
 class _Mistake(Exception):
@@ -219,9 +241,18 @@ class _Reader:
         name = " ".join(token.text for token in tokens)
         label = label_of(name)
         if label is None:
-            near = difflib.get_close_matches(name[:_SHOWN].casefold(), fields_by_label(), 1, 0.6)
-            self._fail(f"{name[:_SHOWN]!r} is no label" + (f" (perhaps {near[0]} is meant)" if near else ""), *tokens)
+            self._fail_at_label(name[:_SHOWN], tokens)
         return label
+
+    def _fail_at_label(self, name: str, tokens: Sequence[_Token]) -> NoReturn:
+        """Says what is wrong with words that are no label, and what may be meant."""
+        if tokens[0].word in ("every", "each", "all", "any") and len(tokens) > 1 and tokens[1].word in ("picture", "pictures"):
+            self._fail("expected: every picture needs, as in `every picture needs credit`", *tokens[:3])
+        for at, token in enumerate(tokens[1:], 1):
+            if token.word in _MEANT and label_of(" ".join(before.text for before in tokens[:at])):
+                self._fail(f"{token.text!r} is no word of a rule (perhaps {_MEANT[token.word]} is meant)", token)
+        meant = _meant_label(name.casefold())
+        self._fail(f"{name!r} is no label" + (f" (perhaps {meant} is meant)" if meant else ""), *tokens)
 
     def _predicate(self, labels: Sequence[str]) -> Tuple[str, Tuple[str, ...]]:
         for words, kind in _PREDICATES.items():
@@ -262,7 +293,9 @@ class _Reader:
         while not (self._is_at_end or self._next.word in (",", *_PLACES) or self._next.is_quoted):
             self._at += 1
         if first == self._at:
-            self._fail("expected: a text, in quotes if it has a comma, in or except")
+            is_comment = self._is_at_end and "#" in self._line[self._next.end :]
+            more = ". # begins a comment: put a text that has it in quotes" * is_comment
+            self._fail(f"expected: a text, in quotes if it has a comma, in or except{more}")
         return self._line[self._tokens[first].start : self._tokens[self._at - 1].end]
 
     def _length(self) -> str:
@@ -271,7 +304,7 @@ class _Reader:
             self._fail("expected: a number, as in at most 2000 characters")
         self._at += 1
         if self._next.word not in ("characters", "character"):
-            self._fail("expected: characters")
+            self._fail("expected: characters, as in at most 2000 characters")
         self._at += 1
         return number.text
 
@@ -289,7 +322,9 @@ class _Reader:
         while not self._is_at_end:
             word = self._next.word
             if word not in _PLACES:
-                self._fail("expected: in or except and a folder, or the end of the line")
+                is_further = word == "or" or self._next.is_quoted
+                several = '. Several texts: one of "a", "b"' * is_further
+                self._fail(f"expected: in or except and a folder, or the end of the line{several}")
             self._at += 1
             folders[word].append(self._folder())
             while self._next.word == ",":
