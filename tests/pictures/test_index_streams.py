@@ -9,6 +9,9 @@ from unittest import mock
 
 import pytest
 from hypothesis import given, settings, strategies as st
+from made_blocks import MAKE, block, with_exif
+from studio import SMALL_JPEG
+from work import Counting, compiled
 
 from exifnorm_pictures.catalogue.store import Catalogue
 from exifnorm_pictures.model.records import PictureRecord
@@ -174,6 +177,50 @@ def test_files_are_found_while_pictures_are_read(tmp_path):
     with mock.patch.object(os, "scandir", lambda it: listed.append(it) or real(it)), Catalogue(str(tmp_path / "c"), make=True) as made:
         run(made, [top], 200, look)
     assert listed_at_first[0] < 7 < 13 == len(listed)
+
+
+def equal(work, how):
+    """Files that all mean the same, as copies do."""
+    for file in work:
+        yield PictureRecord.of(file.path, file.root, file.stamp, "JPEG", not_read="", exif_octets="0" * 64)
+
+
+def test_a_picture_moves_to_its_own_name_first(tmp_path):
+    """Of several that are gone and mean the same, a new one is that of its name in its folder, or else the first that has no new name."""
+    with Catalogue(str(tmp_path / "c"), make=True) as catalogue:
+        for names in (("b/x", "c/a", "d/a"), ("e/a", "e/q")):
+            shutil.rmtree(tmp_path / "p", ignore_errors=True)
+            for name in names:
+                (tmp_path / "p" / name).parent.mkdir(parents=True, exist_ok=True)
+                (tmp_path / "p" / name).write_text(name[:0])
+                os.utime(tmp_path / "p" / name, ns=(ord(name[0]), ord(name[2])))
+            counts = run(catalogue, [os.fsencode(tmp_path / "p")], 50, equal)
+        assert counts == {"accepted": 2, "Moved": 2, "Vanished": 1} or counts == {"no block": 2, "Moved": 2, "Vanished": 1}
+        found = {path: detail for path, *_, problem, detail, _, _ in rows(catalogue) if problem == "Moved"}
+        p = os.fsencode(tmp_path / "p")
+        assert found == {p + b"/b/x": f"to {tmp_path}/p/e/q", p + b"/c/a": f"to {tmp_path}/p/e/a"}
+
+
+def test_many_copies_that_move_take_no_longer_each(tmp_path):
+    """Pictures that are gone and have copies under other names, all of which mean the same."""
+    counting = Counting(compiled(tmp_path))
+    picture = with_exif(SMALL_JPEG, block([MAKE]))
+    works = []
+    for size in (60, 120):
+        folder = tmp_path / str(size)
+        for top, name in (("p", ""), ("copy", "new")):
+            (folder / top).mkdir(parents=True)
+            for number in range(size):
+                (folder / top / f"{name}{number:03}.jpg").write_bytes(picture)
+        words = ["index", "p", "--catalogue", "c", "--jobs", "1", "--quiet"]
+        assert counting.run(folder, *words).status == 0
+        shutil.rmtree(folder / "p")
+        os.rename(folder / "copy", folder / "p")
+        works.append(counting.run(folder, *words))
+        assert works[-1].out.decode().splitlines()[0] == f"{size} accepted, {size} moved since an earlier run"
+    counting.close()
+    assert works[1].steps <= 2.3 * works[0].steps + 20
+    assert works[1].calls <= 2.3 * works[0].calls + 3000
 
 
 def test_a_picture_moves_to_no_name_that_was_known(tmp_path):

@@ -237,9 +237,6 @@ class Results(unittest.TestCase):
             self.assertEqual(verdicts.left_open(one, two), expected)
 
     def test_new_names(self):
-        self.assertEqual(moved.best([], b"/a"), None)
-        self.assertEqual(moved.best([b"/b/x", b"/c/a", b"/d/a"], b"/e/a"), b"/c/a")
-        self.assertEqual(moved.best([b"/b/x", b"/c/y"], b"/e/a"), b"/b/x")
         for words, key in (
             ((["a", "", ""], "", 1), ("a", "", "", "", 1)),
             ((["", "", ""], "", 1), None),

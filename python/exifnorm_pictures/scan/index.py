@@ -24,7 +24,7 @@ from ..model.problems import AGAIN, GONE, NEEDED, Problem
 from ..model.records import PictureRecord, is_as_before
 from .batches import LONGEST_WAIT, Batch, How, Lines, Result
 from .excluded import Excluded
-from .moved import Departed, moved_together
+from .moved import Departed, moved_folders
 from .progress import Progress
 from .seen import Numbers, Paths
 from .walk import FoundFile, Unlisted, below, can_overlap, outermost
@@ -92,22 +92,32 @@ def index(options: IndexOptions, catalogue: Catalogue) -> "Counter[str]":
     work, first = Work(), catalogue.is_empty()
     at_work = _Looking(options, catalogue, run, work)
     at_work.all(_Finding(options, catalogue, work, first))
-    gone, departed = ([], Departed()) if first else _gone(options, work, catalogue, run)
-    if work.taken:
-        catalogue.forget_pictures(work.taken)
-    if gone:
-        catalogue.put(run, gone)
-    left = list(departed.settle(catalogue, run, gone, None if not work.new else lambda path: path not in work.reread))
-    together = moved_together(departed.went) if options.moved_line else {}
-    in_folders = {path for paths in together.values() for path in paths}
-    for picture in left:
-        at_work.count(picture, None if picture.path in in_folders else options.how.lines)
-    if options.moved_line:
-        at_work.print_lines(options.moved_line(*key, len(paths)) for key, paths in together.items())
+    if not first:
+        _settle(options, at_work, _gone(options, work, catalogue, run))
     for picture in _named_wrong(work, catalogue):
         at_work.count(picture, options.lines or options.how.lines)
     catalogue.end_run(run, _now())
     return work.counts
+
+
+def _settle(options: IndexOptions, at_work: "_Looking", departed: Departed) -> None:
+    """Keeps and reports what became of pictures that are gone: those that moved with their folder in one line together."""
+    work, catalogue, run = at_work.work, at_work.catalogue, at_work.run
+    if work.taken:
+        catalogue.forget_pictures(work.taken)
+    vanished = (PictureRecord.of(path, b"", problem=Problem.VANISHED, detail=Problem.VANISHED.text) for path, _ in departed.each())
+    while some := list(islice(vanished, BATCH)):
+        catalogue.put(run, some)
+    if work.new:
+        departed.settle(catalogue, run, lambda path: path not in work.reread)
+    folders: "Counter[Tuple[bytes, bytes]]" = Counter()
+    if options.moved_line:
+        folders.update(filter(None, (moved_folders(*it) for it in departed.moves())))
+    for (path, to), picture in zip(departed.each(), departed.reports()):
+        both = None if to is None else moved_folders(path, to)
+        at_work.count(picture, None if both and folders[both] > 1 else options.how.lines)
+    if options.moved_line:
+        at_work.print_lines(options.moved_line(*key, count) for key, count in folders.items() if count > 1)
 
 
 def _now() -> str:
@@ -213,13 +223,13 @@ def _worth_another(problem: Optional[str]) -> bool:
     return problem in AGAIN or (program is not None and programs.is_there(program))
 
 
-def _gone(options: IndexOptions, work: Work, catalogue: Catalogue, run: int) -> Tuple[List[PictureRecord], Departed]:
-    """The pictures below the folders that are missing now, and the facts by which they are recognised under another name.
+def _gone(options: IndexOptions, work: Work, catalogue: Catalogue, run: int) -> Departed:
+    """The pictures below the folders that are missing now.
 
     Those of a folder that can't be read aren't gone: nothing is known of them. Neither are those that are excluded and still there.
     """
     hidden = tuple(it.path.rstrip(b"/") + b"/" for it in work.unlisted)
-    gone, departed = [], Departed()
+    departed = Departed()
     for top in outermost(it for it in options.names if os.path.isdir(it)):
         head = len(top.rstrip(b"/")) + 1
         for number, path, problem in catalogue.below(top, run):
@@ -228,11 +238,10 @@ def _gone(options: IndexOptions, work: Work, catalogue: Catalogue, run: int) -> 
             if number in work.sidecars:
                 work.taken.append(number)
             elif not os.path.lexists(path):
-                gone.append(PictureRecord.of(path, b"", problem=Problem.VANISHED, detail=Problem.VANISHED.text))
                 departed.add(catalogue, number, path)
             elif options.excluded and options.excluded.has_below(path[head:]):
                 options.excluded.known += 1
-    return gone, departed
+    return departed
 
 
 def _named_wrong(work: Work, catalogue: Catalogue) -> Iterator[PictureRecord]:

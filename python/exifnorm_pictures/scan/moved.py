@@ -2,7 +2,9 @@
 
 from __future__ import annotations
 
+import hashlib
 import os
+import sqlite3
 from typing import Callable, Dict, Iterator, List, Optional, Sequence, Tuple
 
 from ..catalogue.store import Catalogue
@@ -19,69 +21,100 @@ def content_key(octets: Sequence[Optional[str]], unread: Optional[str], size: Op
     return None if not any(octets) or unread is None or size is None else (*octets, unread, size)
 
 
+# Which pictures are gone goes to a temporary database, which is deleted with its connection: all of an archive may have moved.
+_TABLES = """
+CREATE TABLE gone (
+    number INTEGER PRIMARY KEY,
+    path BLOB NOT NULL UNIQUE,
+    name BLOB NOT NULL,             -- the last one of the path
+    size INTEGER,
+    modified INTEGER,
+    inode INTEGER,
+    content BLOB,                   -- a digest of the facts that identify the picture under any name
+    went BLOB                       -- its new path
+);
+CREATE INDEX gone_by_file ON gone (inode, size, modified);
+CREATE INDEX gone_by_content ON gone (content, name) WHERE went IS NULL;
+CREATE INDEX gone_in_order ON gone (content) WHERE went IS NULL;
+CREATE INDEX gone_by_target ON gone (went);
+PRAGMA journal_mode = OFF;
+"""
+_BY_FILE = "SELECT number, went FROM gone WHERE inode = ? AND size = ? AND modified = ? ORDER BY number DESC LIMIT 1"
+_BY_NAME = "SELECT number FROM gone WHERE content = ? AND name = ? AND went IS NULL ORDER BY number LIMIT 1"
+_FIRST = "SELECT number FROM gone INDEXED BY gone_in_order WHERE content = ? AND went IS NULL ORDER BY number LIMIT 1"
+
+
 class Departed:
     """The pictures that are gone, until their new names are known."""
 
     def __init__(self) -> None:
-        self.by_content: Dict[Key, List[bytes]] = {}
-        self.by_file: Dict[Key, bytes] = {}
-        self.went: Dict[bytes, bytes] = {}
+        self._base = sqlite3.connect("", isolation_level=None)
+        self._base.executescript(_TABLES)
 
     def add(self, catalogue: Catalogue, number: int, path: bytes) -> None:
         """Notes a picture that is gone."""
         query = f"SELECT {_MARKS} FROM pictures WHERE id = ?"
         for size, modified, inode, unread, *octets in catalogue.rows(query, (number,)):
-            if size is not None:
-                self.by_file[(size, modified, inode)] = path
-            key = content_key(octets, unread, size)
-            if key:
-                self.by_content.setdefault(key, []).append(path)
+            marks = (None, None, None) if size is None else (size, modified, inode)
+            row = (path, os.path.basename(path), *marks, _digest(content_key(octets, unread, size)))
+            self._base.execute("INSERT INTO gone (path, name, size, modified, inode, content) VALUES (?, ?, ?, ?, ?, ?)", row)
+
+    def each(self) -> Iterator[Tuple[bytes, Optional[bytes]]]:
+        """The path of each picture that is gone, in the order in which they were noted, and its new one if that is known."""
+        return iter(self._base.execute("SELECT path, went FROM gone ORDER BY number"))
+
+    def moves(self) -> Iterator[Tuple[bytes, bytes]]:
+        """The same of those that have a new path."""
+        return ((path, went) for path, went in self.each() if went is not None)
 
     def _meet(self, path: bytes, size: int, modified: int, inode: int, unread: Optional[str], *octets: str) -> None:
         """Notes a picture that is new: one that is gone may have become it."""
-        same = self.by_file.get((size, modified, inode))
-        if same is None or same in self.went:
-            key = content_key(octets, unread, size)
-            same = best([one for one in self.by_content.get(key or (), []) if one not in self.went], path)
-        if same is not None:
-            self.went[same] = path
+        row = self._base.execute(_BY_FILE, (inode, size, modified)).fetchone()
+        if row is None or row[1] is not None:
+            content = _digest(content_key(octets, unread, size))
+            row = content and (
+                self._base.execute(_BY_NAME, (content, os.path.basename(path))).fetchone()
+                or self._base.execute(_FIRST, (content,)).fetchone()
+            )
+        if row:
+            self._base.execute("UPDATE gone SET went = ? WHERE number = ?", (path, row[0]))
 
-    def settle(
-        self, catalogue: Catalogue, run: int, gone: Sequence[PictureRecord], is_new: Optional[Callable[[bytes], bool]]
-    ) -> Iterator[PictureRecord]:
-        """The report on each picture that is gone: moved, if one of those that are new in this run is the same, or missing.
-
-        `is_new` tells whether a picture of this run was unknown before; None if there is no such picture.
-        """
-        if is_new and (self.by_content or self.by_file):
+    def settle(self, catalogue: Catalogue, run: int, is_new: Callable[[bytes], bool]) -> None:
+        """Finds which pictures that are gone have another name among those of this run, of which `is_new` tells whether they were unknown."""
+        if next(self.each(), None):
             query = f"SELECT path, {_MARKS} FROM pictures WHERE run = ? AND problem IS NULL AND size IS NOT NULL ORDER BY id"
             for row in catalogue.rows(query, (run,)):
                 if is_new(row[0]):
                     self._meet(*row)
-        remounted = list(self._remounted(catalogue, run, is_new)) if is_new else []
-        if self.went:
+        self._add_remounted(catalogue, run, is_new)
+        if next(self.moves(), None):
             with catalogue.transaction():
-                words = ((f"to {shown_path(to)}", path) for path, to in self.went.items())
+                words = ((f"to {shown_path(to)}", path) for path, to in self.moves())
                 catalogue.base.executemany("UPDATE pictures SET problem = 'Moved', detail = ? WHERE path = ?", words)
-        for picture in [*gone, *remounted]:
-            to = self.went.get(picture.path)
-            yield picture if to is None else PictureRecord.of(picture.path, b"", problem=Problem.MOVED, detail=f"to {shown_path(to)}")
 
-    def _remounted(self, catalogue: Catalogue, run: int, is_new: Callable[[bytes], bool]) -> Iterator[PictureRecord]:
+    def _add_remounted(self, catalogue: Catalogue, run: int, is_new: Callable[[bytes], bool]) -> None:
         """The pictures of folders that are gone and whose files are new in this run: a file system that is mounted at another place.
 
         A folder that is gone may be a disk that isn't mounted, and a new file a copy of one on it. So the time and the inode must be the
         same, which no copy has.
         """
-        used = set(self.went.values())
         for root in catalogue.roots():
             if os.path.lexists(root):
                 continue
             for old, path in catalogue.rows(_REMOUNTED, (run, root)):
-                if path not in used and old not in self.went and is_new(path) and not os.path.lexists(old):
-                    used.add(path)
-                    self.went[old] = path
-                    yield PictureRecord.of(old, b"")
+                is_used = self._base.execute("SELECT 1 FROM gone WHERE went = ? OR path = ?", (path, old)).fetchone()
+                if not is_used and is_new(path) and not os.path.lexists(old):
+                    self._base.execute("INSERT INTO gone (path, name, went) VALUES (?, ?, ?)", (old, os.path.basename(old), path))
+
+    def reports(self) -> Iterator[PictureRecord]:
+        """The report on each picture that is gone: moved, or missing."""
+        for path, to in self.each():
+            problem, detail = (Problem.VANISHED, Problem.VANISHED.text) if to is None else (Problem.MOVED, f"to {shown_path(to)}")
+            yield PictureRecord.of(path, b"", problem=problem, detail=detail)
+
+
+def _digest(key: Optional[Key]) -> Optional[bytes]:
+    return None if key is None else hashlib.sha256(repr(key).encode("utf-8", "surrogatepass")).digest()
 
 
 def moved_together(went: Dict[bytes, bytes]) -> Dict[Tuple[bytes, bytes], List[bytes]]:
@@ -92,19 +125,23 @@ def moved_together(went: Dict[bytes, bytes]) -> Dict[Tuple[bytes, bytes], List[b
     """
     together: Dict[Tuple[bytes, bytes], List[bytes]] = {}
     for old, new in went.items():
-        old_names, new_names = old.split(b"/"), new.split(b"/")
-        while len(old_names) > 1 and len(new_names) > 1 and old_names[-1] == new_names[-1]:
-            del old_names[-1], new_names[-1]
-        if len(old_names) < old.count(b"/") + 1:
-            together.setdefault((b"/".join(old_names) or b"/", b"/".join(new_names) or b"/"), []).append(old)
+        folders = moved_folders(old, new)
+        if folders:
+            together.setdefault(folders, []).append(old)
     return {key: paths for key, paths in together.items() if len(paths) > 1}
+
+
+def moved_folders(old: bytes, new: bytes) -> Optional[Tuple[bytes, bytes]]:
+    """The folder that a picture was in, and the one that it moved to with the path below it; None if its name is another one.
+
+    >>> moved_folders(b"/a/x/1.jpg", b"/b/x/1.jpg"), moved_folders(b"/a/3.jpg", b"/c/4.jpg")
+    ((b'/a', b'/b'), None)
+    """
+    old_names, new_names = old.split(b"/"), new.split(b"/")
+    while len(old_names) > 1 and len(new_names) > 1 and old_names[-1] == new_names[-1]:
+        del old_names[-1], new_names[-1]
+    return (b"/".join(old_names) or b"/", b"/".join(new_names) or b"/") if len(old_names) < old.count(b"/") + 1 else None
 
 
 _REMOUNTED = """SELECT old.path, new.path FROM pictures AS new JOIN pictures AS old USING (inode, size, modified, exif_octets, iptc_octets, xmp_octets)
     WHERE new.run = ? AND new.problem IS NULL AND old.root = ? AND old.problem IS NULL AND old.id != new.id ORDER BY old.path"""
-
-
-def best(candidates: Sequence[bytes], name: bytes) -> Optional[bytes]:
-    """Of several pictures the one with the same name in its folder, or else the first."""
-    last = os.path.basename(name)
-    return next((it for it in candidates if os.path.basename(it) == last), candidates[0] if candidates else None)
