@@ -12,7 +12,7 @@ from test_repairs import REFUSED
 
 from exifnorm_pictures.catalogue.store import Catalogue
 from exifnorm_pictures.cli import main
-from exifnorm_pictures.fields import block_fields, packing
+from exifnorm_pictures.fields import block_fields, lines, packing
 from exifnorm_pictures.fields.field import Field
 from exifnorm_pictures.judge import judge
 from exifnorm_pictures.model.columns import Damaged
@@ -166,18 +166,19 @@ def test_what_index_writes_is_read(monkeypatch):
     for number in range(6):
         blocks.add("iptc", b"".join(b"\x1c\2\x19\0\x04%04d" % (number if it == 0 else it) for it in range(300)), f"page {number}")
     judged = judge.judge_all(blocks, packs=True)
-    one = packing.length(judged[0].fields)
-    assert len(judged[0].fields) * 4 < one
+    one = len(judged[0].fields)
+    assert len(lines.joined([judged[0].fields])[0]) * 4 < one
     for limit, kept in ((3 * one, 3), (3 * one - 1, 2), (6 * one, 6)):
         monkeypatch.setattr(judge, "KEPT_BYTES", limit)
-        monkeypatch.setattr(block_fields, "KEPT_BYTES", limit)
+        monkeypatch.setattr(lines, "KEPT_BYTES", limit)
         judged = judge.judge_all(blocks, packs=True)
-        fields = block_fields.with_fields(judged)
-        assert sum(len(found) == 300 for _, found in fields) == kept
+        cells = lines.joined([it.fields for it in judged])
+        fields = [packing.unpacked(it) for it in lines.parted(cells)]
+        assert sum(len(found) == 300 for found in fields) == kept
         if kept < 6:
-            monkeypatch.setattr(block_fields, "KEPT_BYTES", 2 * one - 1)
+            monkeypatch.setattr(lines, "KEPT_BYTES", 2 * one - 1)
             with pytest.raises(Damaged):
-                block_fields.with_fields(judged)
+                lines.parted(cells)
 
 
 ROWS = {

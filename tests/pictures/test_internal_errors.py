@@ -13,12 +13,13 @@ from exifnorm_pictures.cli import main
 from exifnorm_pictures.comparison import changed, pairs
 from exifnorm_pictures.extract import extraction, readers
 from exifnorm_pictures.extract.formats import png
-from exifnorm_pictures.fields import packing
+from exifnorm_pictures.fields import lines, packing
 from exifnorm_pictures.fields.listing import exact
 from exifnorm_pictures.judge import judge
 from exifnorm_pictures.model import records
 from exifnorm_pictures.model.found import Blocks, NotRead
 from exifnorm_pictures.model.records import BlockRecord, Damaged, PictureRecord, Stamp
+from hypothesis import given, strategies as st
 from made_files import jpeg, png as made_png
 from studio import errors, run
 
@@ -170,13 +171,27 @@ def test_a_report_of_a_damaged_catalogue(command, values):
         b"\0\x11",
         zlib.compress(b"7"),
         zlib.compress(b"\xff"),
+        zlib.compress(b"[]\n[]"),
+        zlib.compress(b"[]")[:-5],
         7,
         "text",
     ],
 )
 def test_fields_that_are_damaged(octets):
     with pytest.raises(Damaged):
-        packing.unpacked(octets)
+        for text in lines.parted([octets]):
+            packing.unpacked(text)
+
+
+TEXTS = st.none() | st.sampled_from([b"[]", b'[["main","010f","ASCII",4,"abc"]]', b"[7]" * 30, b"[8]" * 3000, b"[7]" * 3000])
+
+
+@given(st.lists(TEXTS, max_size=6))
+def test_the_fields_of_each_block_are_read_again(texts):
+    """Whatever blocks have none, and however many share a text, which is kept once."""
+    cells = lines.joined(texts)
+    assert lines.parted(cells) == texts
+    assert sum(len(it) for it in cells if it) < 400 + 40 * len(texts)
 
 
 def test_fields_of_a_picture_have_a_limit(monkeypatch):
@@ -185,7 +200,7 @@ def test_fields_of_a_picture_have_a_limit(monkeypatch):
     for number in range(5):
         blocks.add("iptc", b"\x1c\2\x78\0\x64" + bytes(range(32, 132)), f"page {number}")
     (one,) = {it.fields for it in judge.judge_all(blocks, packs=True)}
-    monkeypatch.setattr(judge, "KEPT_BYTES", 2 * packing.length(one))
+    monkeypatch.setattr(judge, "KEPT_BYTES", 2 * len(one))
     kept = [packing.unpacked(it.fields) for it in judge.judge_all(blocks, packs=True)]
     assert [it[0].directory for it in kept] == ["iptc", "iptc", "", "", ""]
     assert exact(kept[-1][0]).startswith("too many to be kept; sha256:") and kept[-1] == kept[-2]

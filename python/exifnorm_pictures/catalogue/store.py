@@ -14,8 +14,11 @@ import sqlite3
 import sys
 import stat
 import time
+from itertools import groupby
+from operator import itemgetter
 from typing import Any, Callable, Iterable, Iterator, List, NamedTuple, Optional, Sequence, Tuple, Type, TypeVar, overload
 
+from ..fields.lines import joined, parted
 from ..files import mounts, opening as files, signals
 from ..model.budgets import ROW_BYTES, ROW_NUMBER, SQL_STEPS
 from ..model.columns import Damaged
@@ -25,7 +28,7 @@ from ..model.problems import GONE, NO_BYTES
 from ..model.records import BLOCKS, PICTURES, BlockRecord, PictureRecord, Stamp, block_of_row, has_short, not_read_of_row, picture_of_row
 
 APPLICATION = 0x45584E50  # 'EXNP', which distinguishes a catalogue from other SQLite files
-VERSION = 6
+VERSION = 7
 CACHE = 32_000  # kB of a catalogue that is written to: digests go into its index in no order
 PATIENCE = 200  # milliseconds that closing waits for other programs; while they read, the write-ahead log stays
 WAIT = 10  # seconds for other processes that set the journal's mode
@@ -544,7 +547,17 @@ class Catalogue:
     def blocks_of(self, picture: PictureRecord) -> List[BlockRecord]:
         """The blocks of a picture."""
         query = f"SELECT {BLOCK_COLUMNS} FROM blocks WHERE picture = ? ORDER BY number"
-        return list(self.rows(query, (picture.id,), _bounded(block_of_row)))
+        with self.guarded():
+            return with_own_fields(list(self.rows(query, (picture.id,), _bounded(block_of_row))))
+
+    def packed_fields(self, columns: str) -> Iterator[Tuple[int, List[Tuple[Any, ...]]]]:
+        """Each picture's number, and for each of its blocks some columns and its packed fields."""
+        rows = self.rows(f"SELECT picture, {columns}, fields FROM main.blocks ORDER BY picture, number")
+        for picture, ours in groupby(rows, key=itemgetter(0)):
+            blocks = list(ours)
+            with self.guarded():
+                texts = parted(row[-1] for row in blocks)
+            yield picture, [(*row[1:-1], text) for row, text in zip(blocks, texts)]
 
     def choose(self, paths: Iterable[bytes]) -> str:
         """A temporary table of paths; its name."""
@@ -620,10 +633,23 @@ def put_rows(base: sqlite3.Connection, run: int, first: int, entries: Iterable[P
     """Adds rows for some pictures, which get the numbers from `first` on."""
     numbered = list(enumerate(entries, first))
     base.executemany(_PUT_PICTURE, [(number, *it[1 : PICTURES.width], run) for number, it in numbered])
-    base.executemany(_PUT_BLOCK, [(number, at, *block.row()) for number, it in numbered for at, block in enumerate(it.blocks)])
+    base.executemany(_PUT_BLOCK, [(number, *row) for number, it in numbered for row in _rows_of_blocks(it.blocks)])
     base.executemany("INSERT INTO maker_notes VALUES (?, ?)", [(number, it.notes) for number, it in numbered if it.notes])
     parts = [(number, at, part.what, part.digest) for number, it in numbered for at, part in enumerate(it.unread)]
     base.executemany("INSERT INTO not_read VALUES (?, ?, ?, ?)", parts)
+
+
+def _rows_of_blocks(blocks: Sequence[BlockRecord]) -> Iterator[Tuple[object, ...]]:
+    """The number of each block of a picture, and its columns, of which the fields are the last one."""
+    cells = joined([block.fields for block in blocks])
+    for number, (block, cell) in enumerate(zip(blocks, cells)):
+        yield (number, *block[: BLOCKS.width - 1], cell)
+
+
+def with_own_fields(blocks: Sequence[BlockRecord]) -> List[BlockRecord]:
+    """The blocks of a picture, of all its rows in their order, each with its own fields. Raises `Damaged`."""
+    texts = parted(block.fields for block in blocks)
+    return [block if block.fields is text else block._replace(fields=text) for block, text in zip(blocks, texts)]
 
 
 def root_of_row(row: Tuple[bytes]) -> bytes:

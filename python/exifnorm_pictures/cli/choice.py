@@ -57,9 +57,12 @@ def refuse_unknown(choice: Choice, listings: Iterable[Listed]) -> None:
 
 def listings_of(catalogue: Catalogue) -> Iterator[Listed]:
     """The fields of each block of a catalogue."""
-    for name, packed in catalogue.rows("SELECT name, fields FROM blocks WHERE fields IS NOT NULL"):
-        with catalogue.guarded():
-            yield other_name(name), unpacked(packed)
+    for _, blocks in catalogue.packed_fields("name"):
+        for name, packed in blocks:
+            if packed:
+                with catalogue.guarded():
+                    fields = unpacked(packed)
+                yield other_name(name), fields
 
 
 def other_name(name: str) -> str:

@@ -3,8 +3,7 @@
 from __future__ import annotations
 
 import hashlib
-from itertools import groupby
-from typing import Iterator, List, NamedTuple, Optional, Sequence, Tuple
+from typing import Any, Iterator, List, NamedTuple, Optional, Sequence, Tuple
 
 from ..catalogue.store import Catalogue
 from ..fields.choosing import Choice
@@ -81,17 +80,13 @@ def _write(catalogue: Catalogue, rows: List[Tuple[object, ...]]) -> None:
 
 def _rows(catalogue: Catalogue, choice: Choice) -> Iterator[Tuple[object, ...]]:
     """A row for each picture with blocks."""
-    query = "SELECT picture, kind, name, status, ifnull(digest, repaired), octets, repair, fields FROM main.blocks ORDER BY picture, number"
-    blocks: Iterator[Tuple[int, _Counted]] = catalogue.rows(query, (), lambda row: (row[0], _counted(row[1:], choice)))
-    for picture, ours in groupby(blocks, key=_number):
-        yield (picture, *_row([it for _, it in ours], choice))
+    for picture, rows in catalogue.packed_fields("kind, name, status, ifnull(digest, repaired), octets, repair"):
+        with catalogue.guarded():
+            blocks = [_counted(row, choice) for row in rows]
+        yield (picture, *_row(blocks, choice))
 
 
-def _number(numbered: Tuple[int, _Counted]) -> int:
-    return numbered[0]
-
-
-def _counted(row: Tuple[str, str, str, Optional[str], str, Optional[str], Optional[bytes]], choice: Choice) -> _Counted:
+def _counted(row: Tuple[Any, ...], choice: Choice) -> _Counted:
     word, name, status, digest, octets, repair, packed = row
     has(str, word, name, status, octets, *(it for it in (digest, repair) if it is not None))
     if packed is None:

@@ -9,7 +9,17 @@ import sqlite3
 from collections import Counter
 from typing import Callable, Iterator, List, NamedTuple, Optional, Sequence, Set, Tuple, TypeVar
 
-from ..catalogue.store import BLOCK_COLUMNS, PICTURE_COLUMNS, Catalogue, NoCatalogue, address, check_schema, connect, unlike
+from ..catalogue.store import (
+    BLOCK_COLUMNS,
+    PICTURE_COLUMNS,
+    Catalogue,
+    NoCatalogue,
+    address,
+    check_schema,
+    connect,
+    unlike,
+    with_own_fields,
+)
 from ..fields.field import Field
 from ..fields.block_fields import fields_of
 from ..files import signals
@@ -221,7 +231,7 @@ class Pairs:
     def blocks(self, side: int, picture: PictureRecord) -> List[BlockRecord]:
         """A picture's blocks."""
         query = f"SELECT {BLOCK_COLUMNS} FROM {_BASES[side]}.blocks WHERE picture = ? ORDER BY number"
-        return self._of(side, query, picture, block_of_row)
+        return self._made(side, with_own_fields, self._of(side, query, picture, block_of_row))
 
     def fields(self, side: int, block: Optional[BlockRecord]) -> List[Field]:
         """The fields of a block; none if they aren't kept, or if there is no block."""

@@ -2,7 +2,6 @@
 
 from __future__ import annotations
 
-import contextlib
 import errno
 import os
 from typing import Optional
@@ -52,16 +51,17 @@ def blocks_in(file: Parts, path: bytes, whole: bool = False, session: Optional[S
     if session is None:
         with Session() as own:
             return blocks_in(file, path, whole, own)
-    with contextlib.closing(file):
-        try:
-            blocks = _read(file, path, whole)
-        except LeftToOthers as why:
-            return by_others(session, file.as_file(path), file, whole, str(why))
-        except Broken as why:
-            return _of_broken(by_others(session, file.as_file(path), file, True, f"{BROKEN}{why}"), str(why))
+    try:
+        blocks = _read(file, path, whole)
         if blocks.has_more:
             add_trailers(session, blocks, file.as_file(path))
         return blocks
+    except LeftToOthers as why:
+        return by_others(session, file.as_file(path), file, whole, str(why))
+    except Broken as why:
+        return _of_broken(by_others(session, file.as_file(path), file, True, f"{BROKEN}{why}"), str(why))
+    finally:
+        file.close()
 
 
 def _of_broken(blocks: Blocks, why: str) -> Blocks:

@@ -4,11 +4,9 @@ from __future__ import annotations
 
 from typing import Callable, Generic, List, Optional, Sequence, Tuple, TypeVar
 
-from ..model.budgets import KEPT_BYTES
-from ..model.columns import Damaged
 from ..model.records import BlockRecord
 from .field import Field
-from .packing import length, unpacked
+from .packing import unpacked
 
 Source = TypeVar("Source")
 
@@ -37,7 +35,5 @@ def fields_of(block: BlockRecord) -> List[Field]:
 
 
 def with_fields(blocks: Sequence[BlockRecord]) -> List[Tuple[BlockRecord, List[Field]]]:
-    """The blocks of a picture of a catalogue, each with its fields. Raises `Damaged`, also if they are more than `index` keeps."""
-    if sum(length(it.fields) for it in blocks if it.fields) > KEPT_BYTES:
-        raise Damaged("the fields of a picture are too long")
+    """The blocks of a picture of a catalogue, each with its fields. Raises `Damaged`."""
     return [(it, fields_of(it)) for it in blocks]

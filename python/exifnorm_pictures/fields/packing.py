@@ -1,4 +1,4 @@
-"""Fields with their values as few bytes, for a catalogue: JSON, and where that is long, compressed.
+"""Fields with their values as JSON, for a catalogue.
 
 A field is the list `[directory, key, type, elements, value]`, in which the value is by the type:
 
@@ -14,7 +14,6 @@ from __future__ import annotations
 
 import hashlib
 import json
-import zlib
 from itertools import starmap
 from typing import Any, Callable, Iterable, List, NamedTuple, Optional, Sequence
 
@@ -24,23 +23,22 @@ from ..model.xmp_values import Array, Literal, Long, Uri, Structure, XmpValue
 from .field import Content, Field, Identity
 from .listing import LONGEST_BYTES, MAKER_NOTE, OCTETS, digest_of, kept_value, plain_text
 
-_SHORTEST = 200  # characters of a list that compression makes longer, or hardly shorter
-_SHORT = 4096  # characters of a list that is compressed with small buffers
-
+_LONG = 64  # characters of a long text
+_ESCAPED = bytes(range(32)) + b'"\\\x7f'  # in JSON
 _NOTE = f'["{MAKER_NOTE[0]}","{MAKER_NOTE[1]}",'  # as the MakerNote begins
 
 _quoted: Callable[[str], str] = json.encoder.encode_basestring_ascii  # type: ignore[attr-defined]  # typeshed lacks it
 
 
 class Packed(NamedTuple):
-    """The fields of a block for a catalogue."""
+    """The fields of a block as JSON."""
 
     octets: bytes
     but_note: Optional[str]  # a digest of all but the MakerNote; None without one
 
 
 def packed(fields: Sequence[Field]) -> Packed:
-    """The fields as few bytes.
+    """The fields as JSON.
 
     >>> packed([Field("main", "010f", "ASCII", 4, b"abc\\0")]).octets
     b'[["main","010f","ASCII",4,"abc"]]'
@@ -51,13 +49,14 @@ def packed(fields: Sequence[Field]) -> Packed:
 def packed_contents(contents: Iterable[Identity]) -> Packed:
     """The same of what identifies each field."""
     lines = list(starmap(_json_of_field, contents))
-    text = f"[{','.join(lines)}]".encode("ascii")
-    note = next((number for number, line in enumerate(lines) if line.startswith(_NOTE)), None)
-    if note is None:
-        return Packed(_compressed(text, len(lines)), None)
-    octets = _compressed(text, len(lines))
-    del lines[note]
-    return Packed(octets, hashlib.blake2b(",".join(lines).encode("ascii"), digest_size=32).hexdigest())
+    text = f"[{','.join(lines)}]"
+    octets = text.encode("ascii")
+    if len(octets) > FIELD_BYTES:
+        octets = left_out(octets, len(lines))
+    if _NOTE not in text:  # in a value a quote has a backslash before it
+        return Packed(octets, None)
+    others = [line for line in lines if not line.startswith(_NOTE)]
+    return Packed(octets, hashlib.blake2b(",".join(others).encode("ascii"), digest_size=32).hexdigest())
 
 
 def left_out(octets: bytes, count: int = 0) -> bytes:
@@ -65,55 +64,31 @@ def left_out(octets: bytes, count: int = 0) -> bytes:
     return packed([Field("", "", "", count, Long(digest_of(octets), "too many to be kept"))]).octets
 
 
-def is_short(octets: bytes) -> bool:
-    """Whether packed fields are so few bytes that they aren't compressed, such as the result of `left_out`."""
-    return octets[:1] == b"[" and len(octets) <= _SHORTEST
-
-
-def length(octets: bytes) -> int:
-    """How many bytes packed fields have as JSON, for a limit of those of a picture, in which short ones count as nothing. Raises `Damaged`.
-
-    >>> length(packed([Field("main", "010f", "ASCII", 4, b"abc\\0")] * 1000).octets)
-    32001
-    """
-    if octets[:1] == b"[":
-        return 0 if is_short(octets) else len(octets)
-    try:
-        return len(zlib.decompressobj().decompress(octets, FIELD_BYTES))
-    except zlib.error as error:
-        raise Damaged(f"fields that can't be read: {error}") from error
-
-
-def _compressed(text: bytes, count: int) -> bytes:
-    """So many fields, as JSON, as few bytes."""
-    if len(text) > FIELD_BYTES:  # more than can be unpacked again
-        return left_out(text, count)
-    if len(text) <= _SHORTEST:
-        return text
-    if len(text) > _SHORT:
-        return zlib.compress(text, 6)
-    # zlib's default buffers are made for long texts, and clearing them takes longer than compressing a short one
-    compressing = zlib.compressobj(6, zlib.DEFLATED, 12, 5)
-    return compressing.compress(text) + compressing.flush()
-
-
 def _json_of_field(directory: str, tag: str, kind: str, count: int, content: Content) -> str:
     if kind in OCTETS:
-        value = _json_of_octets(directory, tag, kind, count, content)
+        if type(content) is bytes and len(content) <= LONGEST_BYTES and directory != "thumb":  # as most are, so it needn't be asked
+            text = plain_text(content)
+            value = _quoted(text) if text is not None else f'["{content.hex()}"]'
+        else:
+            value = _json_of_octets(directory, tag, kind, count, content)
     else:
         value = _json_of_others(directory, tag, kind, count, content)
     return f'["{directory}",{_quoted(tag)},"{kind}",{count},{value}]'
 
 
 def _json_of_octets(directory: str, tag: str, kind: str, count: int, content: Content) -> str:
-    value = content
-    if not isinstance(value, bytes) or len(value) > LONGEST_BYTES or directory == "thumb":  # which a short value needn't be asked
-        value = kept_value(Field(directory, tag, kind, count, content))
+    value = kept_value(Field(directory, tag, kind, count, content))
     if isinstance(value, bytes):
         text = plain_text(value)
-        return _quoted(text) if text is not None else f'["{value.hex()}"]'
+        return _json_of_text(text) if text is not None else f'["{value.hex()}"]'
     assert isinstance(value, Long) and isinstance(value.begins, bytes)
     return f'["{value.digest}","{value.begins.hex()}"]'
+
+
+def _json_of_text(text: str) -> str:
+    """The text in quotes. A long one in which nothing is escaped takes a fourth of the time."""
+    is_plain = len(text) > _LONG and text.isascii() and len(text.encode("ascii").translate(None, _ESCAPED)) == len(text)
+    return f'"{text}"' if is_plain else _quoted(text)
 
 
 def _json_of_others(directory: str, tag: str, kind: str, count: int, content: Any) -> str:
@@ -134,7 +109,7 @@ def _json_of_others(directory: str, tag: str, kind: str, count: int, content: An
 def _json_of_property(value: XmpValue) -> str:
     if isinstance(value, Literal):
         if not value.language and not value.datatype:
-            return _quoted(value.text)
+            return _json_of_text(value.text)
         return f"[{_quoted(value.text)},{_quoted(value.language)}" + (f",{_quoted(value.datatype)}]" if value.datatype else "]")
     if isinstance(value, Uri):
         return f'{{"uri":{_quoted(value.uri)}}}'
@@ -149,27 +124,22 @@ def _json_of_property(value: XmpValue) -> str:
 
 
 def unpacked(octets: bytes) -> List[Field]:
-    """The fields from the result of `packed`. No compressed text begins with a bracket (RFC 1950, 2.2). Raises `Damaged`.
+    """The fields from the result of `packed`. Raises `Damaged`.
 
-    >>> few, many = ([Field("main", "010f", "ASCII", 4, b"abc\\0")] * number for number in (1, 1000))
-    >>> unpacked(packed(few).octets) == few, unpacked(packed(many).octets) == many
-    (True, True)
+    >>> unpacked(packed([Field("main", "010f", "ASCII", 4, b"abc\\0")]).octets)
+    [Field(name='IFD0:Make', text='abc')]
     """
-    if not isinstance(octets, bytes):
-        raise Damaged(f"{octets!r} is a value of another type")
+    if len(octets) > FIELD_BYTES:
+        raise Damaged("the fields of a block are too long")
     try:
-        opening = zlib.decompressobj()
-        text = octets if octets[:1] == b"[" else opening.decompress(octets, FIELD_BYTES)
-        if len(text) > FIELD_BYTES or opening.unconsumed_tail:
-            raise Damaged("the fields of a block are too long")
-        rows = json.loads(text.decode("ascii"))
+        rows = json.loads(octets.decode("ascii"))
         if not isinstance(rows, list) or set(map(type, rows)) - {list} or set(map(len, rows)) - {len(_TYPES) + 1}:
             raise Damaged("a list of fields has something else")
         wheres, keys, kinds, counts, values = zip(*rows) if rows else ((),) * 5
         if any(set(map(type, cells)) - {kind} for cells, kind in zip((wheres, keys, kinds, counts), _TYPES)):
             raise Damaged("a list of fields has something else")
         return list(map(Field, wheres, keys, kinds, counts, map(_value, wheres, kinds, counts, values)))
-    except (zlib.error, ValueError, TypeError, RecursionError) as error:
+    except (ValueError, TypeError, RecursionError) as error:
         raise Damaged(f"fields that can't be read: {error}") from error
 
 

@@ -11,11 +11,12 @@ from .. import xmp
 from ..extract import structure
 from ..fields import normal_form, xmp_properties
 from ..fields.block_fields import Fields
-from ..fields.packing import Packed, is_short, left_out, length, packed, packed_contents
+from ..fields.lines import is_short
+from ..fields.packing import left_out, packed, packed_contents
 from ..model import steps
 from ..model.budgets import KEPT_BYTES, Budget
 from ..model.found import COMPRESSED, EXIF, FEW, IPTC, NAMES, XMP, Blocks, FoundBlock
-from ..model.records import BLOCKS, BlockRecord
+from ..model.records import BlockRecord
 from ..model.sides import Status
 
 _BY_ITSELF = FoundBlock("", b"", "", "")  # where a block is that was given without a picture
@@ -40,7 +41,12 @@ def judge(kind: str, block: bytes, packs: bool = False, at: FoundBlock = _BY_ITS
     except MemoryError:
         return BlockRecord(kind, *at[2:5], Status.FAILED, None, "OutOfMemory", None, len(block), octets)
     digest = octets if form == block else hashlib.sha256(form).hexdigest()
-    return _with_form(BlockRecord(kind, *at[2:5], Status.ACCEPTED, digest, None, None, len(block), octets), form, packs, budget)
+    accepted = (kind, *at[2:5], Status.ACCEPTED, digest, None, None, len(block), octets)
+    if not packs:
+        return _with_form(BlockRecord(*accepted), form, packs, budget)
+    if budget is not None:
+        normal_form.count(form, budget)
+    return BlockRecord(*accepted, None, None, None, *packed_contents(normal_form.contents(form)))
 
 
 def _misplaced(kind: str, block: bytes) -> str:
@@ -58,12 +64,8 @@ def _with_form(block: BlockRecord, form: bytes, packs: bool, budget: Optional[Bu
         normal_form.count(form, budget)
     if not packs:
         return block._replace(fresh=Fields(normal_form.fields_of_form, form))
-    return _with_packed(block, packed_contents(normal_form.contents(form)))
-
-
-def _with_packed(block: BlockRecord, kept: Packed) -> BlockRecord:
-    """A block with its fields as a catalogue keeps them. `_replace` takes three times as long."""
-    return BlockRecord._make((*block[: BLOCKS.width - 1], kept.octets, kept.but_note, None))
+    kept = packed_contents(normal_form.contents(form))
+    return block._replace(fields=kept.octets, but_note=kept.but_note)
 
 
 def _repaired(refused: BlockRecord, block: bytes, packs: bool, budget: Optional[Budget]) -> BlockRecord:
@@ -85,8 +87,8 @@ def _says_nothing(block: FoundBlock) -> bool:
     return block.kind == EXIF and len(data) <= 64 and data[:10] in _NOTHING and not any(data[10:])
 
 
+_ALL_KEPT_BYTES = 2 * KEPT_BYTES
 _DATASET = b"\x1c"  # with which each DataSet begins
-_INFLATES = 1032  # bytes that a byte of zlib can become
 _NOTHING = (b"II*\0\x08\0\0\0\0\0", b"MM\0*\0\0\0\x08\0\0")  # a header, and a directory without entries
 
 
@@ -104,7 +106,7 @@ def judge_all(blocks: Blocks, packs: bool = False) -> List[BlockRecord]:
     """Judges all blocks of a picture, in their order. Extended XMP is judged with the packet that refers to it. Raises `TooMuch`."""
     if any(map(_says_nothing, blocks.found)):
         blocks.found = [it for it in blocks.found if not _says_nothing(it)]
-    extended = _Extended(blocks) if any(it.extends for it in blocks.found) else None
+    extended = _Extended(blocks) if any([it.extends for it in blocks.found]) else None
     none = xmp.Extensions({}, blocks.budget)
     known: Dict[Tuple[str, bytes], BlockRecord] = {}
     many = len(blocks.found) > FEW
@@ -130,24 +132,17 @@ def judge_all(blocks: Blocks, packs: bool = False) -> List[BlockRecord]:
             known[at.kind, at.data] = block
         kept += len(block.fields or b"")
         judged.append(block if kept <= KEPT_BYTES else _within(block, kept))
-    judged = _all_within(judged) if kept * _INFLATES > KEPT_BYTES else judged  # which nearly no picture has
     return judged + extended.not_named() if extended else judged
 
 
 def _within(block: BlockRecord, kept: int) -> BlockRecord:
-    """A block without its packed fields, if so many bytes are kept of a picture: its pages may share one long text."""
-    return block if kept <= KEPT_BYTES or block.fields is None else block._replace(fields=left_out(block.fields))
-
-
-def _all_within(blocks: List[BlockRecord]) -> List[BlockRecord]:
-    """The blocks without the packed fields of those from which on all of them, unpacked, are more than are kept of a picture."""
-    within: List[BlockRecord] = []
-    kept = 0
-    for block in blocks:
-        is_long = block.fields is not None and not is_short(block.fields)
-        kept += length(block.fields or b"") if is_long and kept <= KEPT_BYTES else 0
-        within.append(_within(block, kept) if is_long else block)
-    return within
+    """A block without its packed fields, if the picture has so many bytes of them up to it: its pages may share one long text. Those of short
+    ones stay, up to twice as many."""
+    if kept <= KEPT_BYTES or block.fields is None:
+        return block
+    if kept > _ALL_KEPT_BYTES:
+        return block._replace(fields=None)
+    return block if is_short(block.fields) else block._replace(fields=left_out(block.fields))
 
 
 class _Extended:
@@ -200,10 +195,11 @@ def _judge_xmp(at: FoundBlock, extensions: xmp.Extensions, left: Dict[str, bytes
         left.pop(name, None)
     if statements is None:
         return _unreadable(XMP, at, len(at.data), octets.hexdigest(), cause)
-    result = BlockRecord(XMP, *at[2:5], Status.ACCEPTED, xmp.digest_of_packet(statements), None, None, len(at.data), octets.hexdigest())
-    if not packs:
-        return result._replace(fresh=Fields(xmp_properties.fields_of_statements, statements))
-    return _with_packed(result, packed(xmp_properties.fields_of_statements(statements)))
+    digest = xmp.digest_of_packet(statements)
+    accepted = (XMP, *at[2:5], Status.ACCEPTED, digest, None, None, len(at.data), octets.hexdigest())
+    if packs:
+        return BlockRecord(*accepted, None, None, None, *packed(xmp_properties.fields_of_statements(statements)))
+    return BlockRecord(*accepted, fresh=Fields(xmp_properties.fields_of_statements, statements))
 
 
 def _unreadable(kind: str, at: FoundBlock, length: int, octets: str, cause: str) -> BlockRecord:

@@ -69,9 +69,8 @@ FIELDS = 100_000  # of a block that are kept to be shown; the block is compared 
 SHOWN_FIELDS = 50_000  # of a picture that show prints, all its blocks together: as JSON each takes 2.4 kB of memory; need 400
 SHOWN_CHARACTERS = 8 << 20  # of their values, plain and exact
 FIELD_BYTES = 4 << 20  # of the fields of a block as JSON, here and in a catalogue of others; need 8.6 kB
-KEPT_BYTES = (
-    4 << 20
-)  # of the fields of a picture in a catalogue, all blocks together, as JSON and as packed: those of two take 130 MB; need 8.6 kB
+KEPT_BYTES = 4 << 20  # of the fields of a picture in a catalogue, all blocks together, as JSON: those of two take 130 MB; need 8.6 kB
+LINES_BYTES = 3 * KEPT_BYTES  # of the same with those of short blocks, which aren't left out up to twice as many
 WHOLE_FILE = 16 << 20  # bytes of a file of which no block was read, for a digest of all of it; with --whole any number
 HOLES = 1 << 30  # bytes of the holes of a file of which a digest is made: with a terabyte of them a file of 4 kB would take an hour; need 0
 MENDED_BYTES = 1 << 30  # of a picture with a refused block that `mend` copies for each remedy, which may write its holes; need 100 MB

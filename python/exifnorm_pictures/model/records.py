@@ -44,15 +44,14 @@ class BlockRecord(NamedTuple):
     ] = None
     fields: Annotated[
         Optional[bytes],
-        Is("its fields: JSON, compressed by zlib if it is long; of a refused block, those after repair", longest=ROW_BYTES),
+        Is(
+            "its fields, after repair if it is refused, and those of the blocks after it, a line each: JSON, by zlib if long",
+            longest=ROW_BYTES,
+        ),
     ] = None
     # What a catalogue doesn't have
     but_note: Optional[str] = None  # a digest of its fields without the MakerNote, if it has one; of a refused block, of those after repair
     fresh: Optional[object] = None  # the fields of a block that was judged just now: `fields.block_fields.Fields`
-
-    def row(self) -> Tuple[Any, ...]:
-        """The block as a row of the catalogue."""
-        return self[: BLOCKS.width]
 
     @property
     def is_accepted(self) -> bool:
@@ -179,14 +178,16 @@ class PictureRecord(NamedTuple):
         **others: Any,
     ) -> "PictureRecord":
         """A picture that was looked at. Several processes do that, and one writes, so what is compared is made here."""
-        values: Dict[str, Any] = {**cls._field_defaults, "path": path, "root": root, "type": type, "extractor": extractor}
-        values.update(problem=problem, detail=detail, blocks=tuple(blocks), unread=tuple(unread))
-        values.update(_compared(problem, blocks, unread))
-        values.update(zip(Stamp._fields, stamp or ()))
-        values.update(others)
         if fault := cut(part.what for part in unread) if unread else "":
-            values["damage"] = fault
-        return cls._make(values.values())
+            others["damage"] = fault
+        if not problem:  # of one with a problem nothing is known
+            others.update(_compared(blocks, unread))
+        others.update(blocks=tuple(blocks), unread=tuple(unread))
+        values: List[Any] = list(cls._field_defaults.values())  # in a third of the time of a call with so many names
+        values[1:12] = path, root, *(stamp or _NO_STAMP), type, extractor, problem, detail
+        for name, value in others.items():
+            values[_PLACES[name]] = value
+        return cls._make(values)
 
     @classmethod
     def found(
@@ -273,31 +274,35 @@ def is_same_file(picture: PictureRecord, other: PictureRecord) -> bool:
     return has_marks and picture.marks == other.marks and picture.sidecars == other.sidecars and not has_rotted
 
 
+_PLACES = {name: number for number, name in enumerate(PictureRecord._fields)}
+_NO_STAMP = (None,) * len(Stamp._fields)
+
+
 def _marks(stamp: Optional[Stamp]) -> Dict[str, Any]:
-    return dict(zip(Stamp._fields, stamp or (None,) * len(Stamp._fields)))
+    return dict(zip(Stamp._fields, stamp or _NO_STAMP))
 
 
 _OCTETS = {kind: f"{kind}_octets" for kind in KINDS}
 
 
-def _compared(problem: Optional[str], blocks: Sequence[BlockRecord], unread: Sequence[NotRead]) -> Dict[str, Any]:
-    """What is compared of a picture: columns by their names. Of one with a problem nothing is known."""
-    if problem:
-        return {}
+def _compared(blocks: Sequence[BlockRecord], unread: Sequence[NotRead]) -> Dict[str, Any]:
+    """What is compared of a picture: columns by their names."""
     by_kind: Dict[str, List[BlockRecord]] = {kind: [] for kind in KINDS}
     for block in blocks:
         by_kind[block.kind].append(block)
-    sides = [side_of(ours) for ours in by_kind.values()]
-    known: Dict[str, Any] = {}
-    for word, side in zip(KINDS, sides):
+    known: Dict[str, Any] = {"not_read": "", "other_not_read": ""}
+    for word, ours in by_kind.items():
+        side = side_of(ours)
         known[word] = side.digest if side.status == Status.ACCEPTED else "" if side.status == Status.ABSENT else None
         known[_OCTETS[word]] = side.octets
-    known["not_read"] = known["other_not_read"] = _parts_digest(unread)
-    if known["not_read"]:
-        known["other_not_read"] = _parts_digest([part for part in unread if not part.what.endswith(REACHED)])
-    known["maker_notes"] = ",".join(f"{block.name}:{block.note}" for block in by_kind[EXIF] if block.note is not None)
-    known["other_exif"] = _exif_but_notes(by_kind[EXIF]) if known["maker_notes"] else ""
-    known["exif_repaired"] = sides[0].repaired or None
+        if side.repaired and word == EXIF:
+            known["exif_repaired"] = side.repaired
+    if unread:
+        known["not_read"] = known["other_not_read"] = _parts_digest(unread)
+        if known["not_read"]:
+            known["other_not_read"] = _parts_digest([part for part in unread if not part.what.endswith(REACHED)])
+    if notes := [f"{block.name}:{block.note}" for block in by_kind[EXIF] if block.note is not None]:
+        known["maker_notes"], known["other_exif"] = ",".join(notes), _exif_but_notes(by_kind[EXIF])
     return known
 
 

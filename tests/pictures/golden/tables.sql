@@ -1,4 +1,4 @@
--- version 6
+-- version 7
 CREATE TABLE blocks (
     picture INTEGER NOT NULL REFERENCES pictures(id) ON DELETE CASCADE,
     number INTEGER NOT NULL,        -- the order in the file
@@ -15,7 +15,7 @@ CREATE TABLE blocks (
     repair TEXT,                    -- of a refused block: the steps after which it is accepted, JSON: cause, what was done, what is lost
     repaired TEXT,                  -- SHA-256 of what it means after them
     note INTEGER,                   -- where its MakerNote begins: in the block, or in a TIFF, whose block is laid out anew, in the file
-    fields BLOB,                    -- its fields: JSON, compressed by zlib if it is long; of a refused block, those after repair
+    fields BLOB,                    -- its fields, after repair if it is refused, and those of the blocks after it, a line each: JSON, by zlib if long
     PRIMARY KEY (picture, number)
 ) WITHOUT ROWID;
 CREATE TABLE maker_notes (

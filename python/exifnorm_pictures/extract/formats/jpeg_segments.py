@@ -82,8 +82,9 @@ def blocks_of(head: Head) -> List[bytes]:
     >>> [len(blocks_of(read_head(BytesIO(picture), 0, Budget()))) for picture in pictures]
     [1, 1, 1, 1]
     """
-    if not any(begins for _, _, begins, _, _ in head.parts):
-        return []
+    pieces = [part for part in head.parts if part[1]]
+    if all([begins for _, _, begins, _, _ in pieces]):  # each block in one segment, as in most pictures
+        return [head.octets[start : start + size] for _, _, _, start, size in pieces]
     last, *_, start, size = head.parts[-1]
     octets = head.octets if last in (SOS, EOI) else head.octets[: start + size] + END_MARK
     return [data for _, data in whole_blocks(octets)]
