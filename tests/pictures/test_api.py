@@ -120,13 +120,15 @@ WRITTEN = [
 -XMP-tiff:BitsPerSample=8 -XMP-tiff:BitsPerSample=16 -XMP-tiff:XResolution=72 -XMP-exif:ExposureTime=1/60 -XMP-exif:FNumber=2.8
 -XMP-exif:ISO=200 -XMP-exif:ExposureCompensation=-1/3 -XMP-exif:GPSAltitude=12.5 -XMP-tiff:WhitePoint=1/3 -XMP-tiff:WhitePoint=2/3
 -XMP-exif:Flash={Fired=True,Return=0,Mode=2,Function=False,RedEyeMode=False} -XMP-mwg-rs:RegionInfo={AppliedToDimensions={W=3,H=2.5}}
--XMP-dc:Title=Vase -XMP-dc:Title-de=Krug -XMP-xmp:Label=6
+-XMP-dc:Title=Vase -XMP-dc:Title-de=Krug -XMP-xmp:Label=6 -XMP-exif:GPSLatitude=48.1355 -XMP-exif:GPSLongitude=-11.57625
+-XMP-exif:CFAPattern={Columns=2,Rows=2,Values=[0,1,1,2]} -XMP-exif:Opto-ElectricConvFactor={Columns=1,Rows=2,Names=[a],Values=[1/2,3/4]}
 """.split()
 ]
 OTHER_NAMES = {
     "ISOSpeedRatings": "ISO",
     "ExposureBiasValue": "ExposureCompensation",
     "Regions": "RegionInfo",
+    "OECF": "Opto-ElectricConvFactor",
 }
 
 
@@ -168,7 +170,8 @@ def test_types_of_xmp_are_those_of_exiftool():
     typed = {name: kind for name, kind in theirs.items() if kind in ("Integer", "Real", "Rational", "Boolean", "Date")}
     assert typed.pop("exif:GPSMeasureMode") == "Integer" and typed.setdefault("exif:LightSource", "Integer")
     assert {name: xmp_types.TYPES.get(name) for name in typed} == typed
-    assert not [name for name in xmp_types.TYPES if name in theirs and name not in typed], "texts by ExifTool"
+    texts = [name for name in xmp_types.TYPES if name in theirs and name not in typed]
+    assert {xmp_types.TYPES[name] for name in texts} == {"Coordinate"}, "texts by ExifTool, which reads degrees of some"
 
 
 OTHER_FORMS = {
@@ -176,6 +179,8 @@ OTHER_FORMS = {
     "tiff:Orientation": ["", "6.0", " 6", "1_0", "٣", "0x6", "1" * 5000],
     "exif:ExposureTime": ["0.5", "1/", "/60", "1/60 s", "1/2/3"],
     "xmpRights:Marked": ["", "yes", "1"],
+    "exif:GPSLatitude": ["", "48.1", "48,8", "48,8,N", "48,8.0n", "48 8 N", "٤٨,8N"],
+    "exif:Values": ["", "a", "1/2/3"],
     "xmp:CreateDate": [
         "2019",
         "2019-03",

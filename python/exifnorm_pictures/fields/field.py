@@ -29,7 +29,8 @@ class Field:
     - FLOAT and DOUBLE: float
     - UNDEFINED, the MakerNote and the thumbnail: bytes
     - properties of XMP that are no texts by their standard, such as xmp:Rating, exif:ExposureTime and xmp:CreateDate: int for Integer, float for
-      Real, Fraction for Rational, bool for Boolean, datetime or date for Date; a str if one has another form, and of a date without its day
+      Real, Fraction for Rational, bool for Boolean, datetime or date for Date, float for the degrees of GPSCoordinate; a str if one has another
+      form, and of a date without its day
     - several elements, or a list of XMP: a tuple of these; of alternatives in XMP the default one, see `languages`
     - a structure of XMP: a dict of its fields, by names such as "stRef:documentID"
     """

@@ -206,12 +206,17 @@ def languages_of(field: Field) -> Dict[str, str]:
 
 
 def _json_of_xmp(field: Field) -> Any:
-    """A text, a list of texts, or a list of texts with their languages."""
+    """The value of a property as JSON has it: by its type, but dates are texts; a list; or a list of texts with their languages."""
     pairs = xmp_texts(field.with_content(kept_value(field)))
     if pairs is None:
         long = [one for one in kept_value(field) if isinstance(one, Long)]
         return {"sha256": long[0].digest, "count": field.count} if long else None
     if any(language for _, language in pairs):
         return [{"text": text, "language": language or None} for text, language in pairs]
-    texts = [text for text, _ in pairs]
-    return texts[0] if field.type in ("text", "URI") and len(texts) == 1 else texts
+    values = [_json_of_text(field.tag, text) for text, _ in pairs]
+    return values[0] if field.type in ("text", "URI") and len(values) == 1 else values
+
+
+def _json_of_text(name: str, text: str) -> Any:
+    value = object_of(name, text)
+    return text if isinstance(value, date) else _json_number(value)

@@ -1,6 +1,7 @@
 """Types of known properties of XMP, and the values of their texts as objects of Python.
 
-XMP writes each value as a text. The types are those of XMP part 1 (ISO 16684-1), 8.3 to 8.6, of part 2, 1.2 and 3, and of CIPA DC-010.
+XMP writes each value as a text. The types are those of XMP part 1 (ISO 16684-1), 8.3 to 8.6, of part 2, 1.2 and 3, and of CIPA DC-010. The
+values of OECF are Rational and those of CFAPattern Integer, and both have the name `exif:Values`.
 """
 
 from __future__ import annotations
@@ -30,10 +31,10 @@ tiff Integer ImageWidth ImageLength BitsPerSample Compression PhotometricInterpr
 exif Integer ColorSpace ComponentsConfiguration PixelXDimension PixelYDimension ExposureProgram ISOSpeedRatings MeteringMode LightSource
  SubjectArea FocalPlaneResolutionUnit SubjectLocation SensingMethod FileSource SceneType CustomRendered ExposureMode WhiteBalance
  FocalLengthIn35mmFilm SceneCaptureType GainControl Contrast Saturation Sharpness SubjectDistanceRange GPSAltitudeRef GPSDifferential
- Return Mode Columns Rows; Boolean Fired Function RedEyeMode; Rational CompressedBitsPerPixel ExposureTime FNumber ShutterSpeedValue
+ Return Mode Columns Rows; Number Values; Boolean Fired Function RedEyeMode; Rational CompressedBitsPerPixel ExposureTime FNumber ShutterSpeedValue
  ApertureValue BrightnessValue ExposureBiasValue MaxApertureValue SubjectDistance FocalLength FlashEnergy FocalPlaneXResolution
  FocalPlaneYResolution ExposureIndex DigitalZoomRatio GPSAltitude GPSDOP GPSSpeed GPSTrack GPSImgDirection GPSDestBearing
- GPSDestDistance GPSHPositioningError; Date DateTimeOriginal DateTimeDigitized GPSTimeStamp
+ GPSDestDistance GPSHPositioningError; Coordinate GPSLatitude GPSLongitude GPSDestLatitude GPSDestLongitude; Date DateTimeOriginal DateTimeDigitized GPSTimeStamp
 exifEX Integer PhotographicSensitivity SensitivityType StandardOutputSensitivity RecommendedExposureIndex ISOSpeed ISOSpeedLatitudeyyy
  ISOSpeedLatitudezzz CompositeImage CompositeImageCount; Rational Gamma LensSpecification Temperature Humidity Pressure WaterDepth
  Acceleration CameraElevationAngle
@@ -54,6 +55,7 @@ TYPES = _types()
 _INTEGER = re.compile(r"[+-]?[0-9]{1,300}")
 _REAL = re.compile(r"[+-]?(?:[0-9]{1,300}(?:\.[0-9]{0,300})?|\.[0-9]{1,300})")
 _RATIONAL = re.compile(r"([+-]?[0-9]{1,300})/([+-]?[0-9]{1,300})")
+_COORDINATE = re.compile(r"([0-9]{1,3}),([0-9]{1,2}(?:\.[0-9]{1,20})?)(?:,([0-9]{1,2}(?:\.[0-9]{1,20})?))?([NSEW])")
 _DATE = re.compile(
     r"([0-9]{4})-([0-9]{2})-([0-9]{2})(?:T([0-9]{2}):([0-9]{2})(?::([0-9]{2})(?:\.([0-9]{1,20}))?)?(?:(Z)|([+-])([0-9]{2}):([0-9]{2}))?)?"
 )
@@ -65,8 +67,8 @@ def object_of(name: str, text: str) -> XmpObject:
 
     >>> object_of("tiff:Orientation", "6"), object_of("exif:ExposureTime", "1/60"), object_of("exif:ExposureTime", "fast")
     (6, Fraction(1, 60), 'fast')
-    >>> object_of("xmpRights:Marked", "False"), object_of("dc:source", "6")
-    (False, '6')
+    >>> object_of("xmpRights:Marked", "False"), object_of("dc:source", "6"), object_of("exif:GPSLatitude", "48,7.5S")
+    (False, '6', -48.125)
     >>> object_of("xmp:CreateDate", "2019-03-12T11:20:45.5+01:00").isoformat(), object_of("xmp:CreateDate", "2019-03")
     ('2019-03-12T11:20:45.500000+01:00', '2019-03')
     """
@@ -88,6 +90,19 @@ def _rational(text: str) -> XmpObject:
         return text
     below = int(match[2])
     return Fraction(int(match[1]), below) if below else None
+
+
+def _number(text: str) -> XmpObject:
+    return _integer(text) if _INTEGER.fullmatch(text) else _rational(text)
+
+
+def _coordinate(text: str) -> XmpObject:
+    """Degrees, those of south and west below zero (part 2, 1.2.7.4, GPSCoordinate: "DDD,MM,SSk" or "DDD,MM.mmk")."""
+    match = _COORDINATE.fullmatch(text)
+    if match is None:
+        return text
+    degrees = int(match[1]) + Fraction(match[2]) / 60 + Fraction(match[3] or 0) / 3600
+    return float(-degrees if match[4] in "SW" else degrees)
 
 
 def _boolean(text: str) -> XmpObject:
@@ -115,6 +130,8 @@ _MADE: Dict[str, Callable[[str], XmpObject]] = {
     "Integer": _integer,
     "Real": _real,
     "Rational": _rational,
+    "Number": _number,
+    "Coordinate": _coordinate,
     "Boolean": _boolean,
     "Date": _date,
 }
