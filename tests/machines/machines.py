@@ -3,6 +3,7 @@
 from __future__ import annotations
 
 import fcntl
+import functools
 import os
 import re
 import shutil
@@ -29,6 +30,7 @@ ROOT = "/usr/aarch64-linux-gnu"  # where Debian has the C library for aarch64
 PROVED = [("px_cli", "aarch64"), ("px_cli", "x86_64"), ("px_c", "aarch64")]
 
 
+@functools.lru_cache(maxsize=None)
 def make(*words: str) -> None:
     """Builds for other machines what is proved for this one. Tests in several processes build it once; the proofs run side by side."""
     for tool in (GCC, QEMU):

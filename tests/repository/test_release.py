@@ -86,9 +86,13 @@ def releases(session_folder):
     other_times_and_modes(other)
     (other / "out/release").mkdir()
     (other / "out/release/exifnorm_0.9-1_all.deb").touch()
-    for folder, mask, more in ((one, 0o022, {}), (other, 0o077, {"TZ": "Asia/Tokyo", "LC_ALL": "C.UTF-8"})):
+    ways = ((one, 0o022, {}), (other, 0o077, {"TZ": "Asia/Tokyo", "LC_ALL": "C.UTF-8"}))
+    for folder, mask, _ in ways:
         (folder / "python/exifnorm" / f"stray_{mask}.py").write_text('"""Not listed."""\n')
-        run("make", "release", cwd=folder, umask=mask, env=environment(**more))
+    with ThreadPoolExecutor() as pool:  # each takes a minute of a processor
+        runs = [pool.submit(run, "make", "release", cwd=folder, umask=mask, env=environment(**more)) for folder, mask, more in ways]
+    for ended in runs:
+        ended.result()
     return [one / "out/release", other / "out/release"]
 
 
