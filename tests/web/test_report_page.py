@@ -232,6 +232,13 @@ def test_each_hit_leads_to_its_place(browser: Browser, report: Path) -> None:
     for link in browser.ask("[...document.querySelectorAll('#found a')].map((it) => it.getAttribute('href'))"):
         name, _, place = link.partition("#")
         assert f'id="{place}"' in (report / "pages" / (name or "index.html")).read_text(encoding="utf-8"), link
+    searched(browser, "new49", "changed")
+    address = browser.ask("location.href")
+    browser.ask("document.querySelector('#found a').click()")
+    browser.wait("location.pathname.endsWith('changed-1.html') && document.querySelector(':target')?.checkVisibility()")
+    browser.open(address)  # where somebody comes back to
+    browser.wait("document.querySelector('#found a') !== null")
+    assert browser.ask(SHOWN) == ["captions/7.jpg"], "the search is gone"
     searched(browser, "trailer.jpg", "unread")
     browser.ask("document.querySelector('#found a').click()")
     browser.wait("document.querySelector(':target')?.checkVisibility()")

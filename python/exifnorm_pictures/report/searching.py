@@ -13,7 +13,7 @@ from .entries import Entry
 from .links import below
 from .lists import Breaking, Contradicting, Folder, Mendable, Same, Unread
 
-_LENGTH = 500_000  # characters of a script; fewer than the longest entry has more
+_LENGTH = 200_000  # characters of a script; fewer than the longest entry has more
 
 
 def name_of(number: int) -> str:

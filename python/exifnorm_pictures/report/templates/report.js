@@ -81,8 +81,10 @@
 
   const search = async () => {
     const words = plain(box.value).split(/\s+/).filter(Boolean), kind = choice ? choice.value : "", run = latest += 1;
-    if (!files) return filterPage(words, kind);
     const is_asked = words.length > 0 || kind !== "";
+    // the address has it, so that somebody who comes back from a picture finds it again
+    history.replaceState(null, "", is_asked ? `#${new URLSearchParams({ find: box.value, kind })}` : location.href.split("#")[0]);
+    if (!files) return filterPage(words, kind);
     main.hidden = is_asked;
     found.hidden = !is_asked;
     said.textContent = is_asked ? "searching" : "";
@@ -105,5 +107,9 @@
     search();
   });
   form.hidden = false;
-  if (box.value || choice?.value) search(); // which the browser has kept
+  const asked = new URLSearchParams(location.hash.slice(1));
+  if (!asked.has("find")) return;
+  box.value = asked.get("find");
+  if (choice) choice.value = asked.get("kind");
+  search();
 })();
