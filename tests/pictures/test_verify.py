@@ -14,6 +14,7 @@ from made_files import A, B, app1, jpeg, title
 from made_more_files import gif
 from studio import SMALL_JPEG, Studio, needs, put, tool
 
+from exifnorm_pictures.catalogue import store
 from exifnorm_pictures.files import opening
 from exifnorm_pictures.scan import hashing, index as scan_index, looking
 
@@ -402,7 +403,17 @@ def test_a_bag(folder, called):
 
 
 @pytest.mark.parametrize(
-    "manifest", [None, b"x  data/a.jpg\n", b"%s  data/../a.jpg\n", b"%s  /etc/passwd\n", b"%s  data/\n", b"%s data\n", b"%s  a.jpg"]
+    "manifest",
+    [
+        None,
+        b"x  data/a.jpg\n",
+        b"%s  data/../a.jpg\n",
+        b"%s  /etc/passwd\n",
+        b"%s  data/\n",
+        b"%s data\n",
+        b"%s  a.jpg",
+        b"%s  data/b\n%s  data/./b\n",
+    ],
 )
 def test_what_is_no_bag(manifest, folder, called):
     put(folder / "bag", {"data/a.jpg": PICTURE})
@@ -410,6 +421,17 @@ def test_what_is_no_bag(manifest, folder, called):
         (folder / "bag/manifest-sha256.txt").write_bytes(manifest.replace(b"%s", b"0" * 64))
     status, printed, messages = called("verify", "--bag", "bag")
     assert (status, printed) == (3, "") and "manifest-sha256.txt" in messages
+
+
+def test_a_manifest_of_many_files_is_no_list_in_memory(folder, called, monkeypatch):
+    """A stranger's manifest can have millions of lines."""
+    bagged(folder / "bag", {b"a.jpg": PICTURE})
+    with open(folder / "bag/manifest-sha256.txt", "ab") as manifest:
+        manifest.writelines(b"%064x  data/%d\n" % (it, it) for it in range(2500))
+    put_rows, most = store.put_rows, []
+    monkeypatch.setattr(store, "put_rows", lambda *of: (most.append(len(of[3])), put_rows(*of))[1])
+    status, printed, _ = called("verify", "--bag", "bag", "--json")
+    assert status == 1 and json.loads(printed.splitlines()[-1])["counts"] == {"as they were": 1, "missing": 2500} and max(most) <= 1000
 
 
 def test_a_hole_of_terabytes(archive, called, verified):

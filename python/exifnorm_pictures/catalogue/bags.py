@@ -2,6 +2,7 @@
 
 from __future__ import annotations
 
+import itertools
 import os
 import re
 from typing import Iterator
@@ -13,6 +14,7 @@ from .store import Catalogue
 
 MANIFEST = "manifest-sha256.txt"
 PAYLOAD = b"data/"
+_AT_ONCE = 1000  # files of a transaction
 _LONGEST = 1 << 31  # bytes of a manifest
 _LONGEST_LINE = 20_000
 _LINE = re.compile(rb"([0-9A-Fa-f]{64})[ \t]+\*?(.+)")
@@ -25,8 +27,13 @@ class NoBag(WrongUse):
 
 def fill(catalogue: Catalogue, bag: str) -> None:
     """Puts the files of a bag's manifest into a new catalogue. Raises `NoBag` and `OSError`."""
-    run = catalogue.begin_run("")
-    catalogue.put(run, _files(os.fsencode(os.path.abspath(bag)), os.path.join(bag, MANIFEST)))
+    run, count, manifest = catalogue.begin_run(""), 0, os.path.join(bag, MANIFEST)
+    files = _files(os.fsencode(os.path.abspath(bag)), manifest)
+    while some := list(itertools.islice(files, _AT_ONCE)):
+        catalogue.put(run, some)
+        count += len(some)
+    if next(catalogue.rows("SELECT count(*) FROM pictures"))[0] < count:
+        raise NoBag(f"{manifest} lists a file twice, perhaps with two digests")
 
 
 def _files(top: bytes, manifest: str) -> Iterator[PictureRecord]:
