@@ -305,6 +305,10 @@ def test_since(folder, called, asked, monkeypatch):
     called("index", "p", "--catalogue", "c", "--quiet")
     assert asked("--since", "1971-01-01")[0] == ["a.jpg"]
     assert asked("--since", "2200-01-01")[0] == []
+    assert "older one" in called("list", "c", "--since", "1971-01-01")[1]
+    for words in (("changed", "2026-11-20", "c"), ("report", "c", "--since", "2026-11-20", "--html", "page")):
+        status, _, messages = called(*words)
+        assert status == 4 and "list CATALOGUE --since 2026-11-20" in messages
 
 
 def test_damage(folder, called, asked):

@@ -180,7 +180,7 @@ def _check_head(name: str, make: bool) -> None:
     except FileNotFoundError:
         if make:
             return
-        raise NoCatalogue(f"there is no catalogue {name}{_of_day(name)}") from None
+        raise NoCatalogue(f"there is no catalogue {name}{of_day(name)}") from None
     if not stat.S_ISREG(kind):
         raise NoCatalogue(f"{name} is no catalogue: it is no regular file")
     log = _mark(f"{name}-wal")
@@ -204,10 +204,10 @@ def _check_head(name: str, make: bool) -> None:
         raise NoCatalogue(f"{name} is a catalogue of a later release (version {version}, here {VERSION})")
 
 
-def _of_day(name: str) -> str:
+def of_day(name: str) -> str:
     """What to do if somebody gives a day in place of a catalogue.
 
-    >>> _of_day("x.catalogue"), len(_of_day("2026-11-20")) > 100
+    >>> of_day("x.catalogue"), len(of_day("2026-11-20")) > 100
     ('', True)
     """
     if not re.fullmatch(r"\d{4}-\d\d-\d\d", name):

@@ -12,7 +12,7 @@ import sys
 from collections import Counter
 from typing import Callable, Iterable, Iterator, List
 
-from ..catalogue.store import Catalogue, NoCatalogue
+from ..catalogue.store import Catalogue, NoCatalogue, of_day
 from ..comparison import changed as changes
 from ..comparison.coded import Coded, sentence_of_coded
 from ..comparison.summary import Summary
@@ -135,7 +135,7 @@ def _refuse_missing(*names: str) -> None:
         try:
             os.stat(name)
         except FileNotFoundError:
-            raise NoCatalogue(f"there is no folder or catalogue {name}") from None
+            raise NoCatalogue(f"there is no folder or catalogue {name}{of_day(name)}") from None
         except OSError:  # it may be there
             pass
 
