@@ -191,6 +191,8 @@ def test_changed(asked, checks, side):
         checks.equal(f"{case}: text", f"{case}: {it['result']}" + (f" ({it['note']})" if it["note"] else "") in text, True)
     summary = "\n".join(asked(*words)[1])
     assert "removed" not in summary and "added" not in summary and "none changed" not in summary, summary
+    word = "damaged" if side == "after" else "damaged before"
+    assert summary.startswith(f"{len(CASES)} pictures compared: {len(CASES)} {word}.\n"), summary
 
 
 @needs("exiftool", "exiv2")

@@ -41,13 +41,20 @@ def rows_of(summary: Summary, fits: Optional[Fits] = None, most_parts: int = PAR
 
 
 def sentence(counts: "Counter[Result]") -> str:
-    """How many pictures were compared, and how many changed."""
+    """How many pictures were compared, and how many changed, or are damaged.
+
+    >>> sentence(Counter({Result.SAME: 5, Result.DAMAGED: 2})), sentence(Counter({Result.DIFFERENT: 1, Result.REFUSED: 1}))
+    ('7 pictures compared: 2 damaged.', '2 pictures compared: 1 changed, 1 not wholly compared.')
+    """
     total, changes, undecided = changed.total(counts), changed.number_changed(counts), changed.number_undecided(counts)
     if not total:
         return "No picture to compare."
     many = ["all changed" if changes == total > 1 else f"{changes:,} changed" if changes else "none changed"]
     if undecided:  # then nobody knows that none changed
-        many = many[: bool(changes)] + [f"{undecided:,} not wholly compared"]
+        damaged = {it: counts[it] for it in (Result.DAMAGED, Result.DAMAGED_BEFORE) if counts[it]}
+        others = undecided - sum(damaged.values())
+        many = many[: bool(changes)] + [f"{count:,} {it}" for it, count in damaged.items()]
+        many += [f"{others:,} not wholly compared"] * bool(others)
     return f"{_pictures(total)} compared: {', '.join(many)}."
 
 
