@@ -5,6 +5,7 @@ import os
 import re
 import shutil
 import socket
+import threading
 
 import pytest
 from made_files import app1, exif, jpeg
@@ -120,6 +121,17 @@ def test_any_value_of_any_argument(command, end, folder, checks):
         for made in {it.name for it in folder.iterdir()} - before - {"kept"}:
             (folder / made).unlink()
     assert 3 in statuses and statuses & {0, 1, 2}, "it never did what it is for"
+
+
+@pytest.mark.parametrize(
+    "option, words, line", zip(LISTS, (["show"], *[["compare", "p/a.jpg", "p/a.jpg"]] * 2), ("p/a.jpg", "Make", "Make"))
+)
+def test_a_list_may_be_a_pipe(option, words, line, end, folder):
+    writing = threading.Thread(target=(folder / "pipe").write_text, args=(f"{line}\n",), daemon=True)
+    writing.start()
+    assert end([*words, option, "pipe"])[0] == 0
+    writing.join(60)
+    assert not writing.is_alive(), "nobody has read it"
 
 
 def test_a_list_without_end(end):

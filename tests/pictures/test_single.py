@@ -330,6 +330,7 @@ class Folders(WithPictures):
         own.start()
         self.addCleanup(own.stop)
         with tempdir.room() as made, open(os.path.join(made, "lock"), "rb") as file:
+            self.assertEqual(os.stat(made).st_mode & 0o777, 0o700)
             self.lock = file.read()
 
     def folder_of_a_run(self, name, lock="lock"):
