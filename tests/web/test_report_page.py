@@ -27,7 +27,8 @@ HOSTILE_TEXT = f"</script><script>{STEERS}</script>]);{STEERS};\u2028//"
 
 def captioned(number: int, text: str) -> bytes:
     title = f"<dc:title><rdf:Alt><rdf:li xml:lang='x-default'>Title {number}</rdf:li></rdf:Alt></dc:title>"
-    record = with_record(data_set(5, f"1998.{number}".encode()), data_set(120, text.encode("latin-1")))
+    creator = b"Anna" if number == 3 and "new" in text else b"Otto"
+    record = with_record(data_set(5, f"1998.{number}".encode()), data_set(80, creator), data_set(120, text.encode("latin-1")))
     return jpeg(app1(exif(b"abc")), record, app1_xmp(xmp(title)))
 
 
@@ -221,6 +222,7 @@ def test_a_search_finds_what_has_the_words(page: str, browser: Browser, report: 
     assert searched(browser, "gefass koln") == sorted(it for at, it in enumerate(names) if at % 4), "accents don't matter"
     assert searched(browser, "caption") == searched(browser, "Caption-Abstract") == sorted(names + [HOSTILE_NAME])
     assert searched(browser, "title") == [HOSTILE_NAME], "no IPTC title has changed"
+    assert searched(browser, "creator") == ["captions/3.jpg", HOSTILE_NAME], "the label of By-line"
     assert searched(browser, "captions/7.jpg") == ["captions/7.jpg"]
     assert searched(browser, "", "changed/different") == sorted(names + [HOSTILE_NAME])
     assert searched(browser, "1 new25 nowhere") == searched(browser, "number", "unread") == []
