@@ -3,7 +3,7 @@
 from __future__ import annotations
 
 import sqlite3
-from typing import Dict
+from typing import Dict, Optional
 
 
 class Numbers:
@@ -38,13 +38,21 @@ class Paths:
     """
 
     def __init__(self) -> None:
-        self._base = sqlite3.connect("", isolation_level=None)
-        self._base.execute("PRAGMA journal_mode = OFF")
-        self._base.execute("CREATE TABLE paths (path BLOB PRIMARY KEY) WITHOUT ROWID")
+        self._opened: Optional[sqlite3.Connection] = None  # most runs have no path to keep
+
+    @property
+    def _base(self) -> sqlite3.Connection:
+        if self._opened is None:
+            self._opened = sqlite3.connect("", isolation_level=None)
+            self._opened.execute("PRAGMA journal_mode = OFF")
+            self._opened.execute("CREATE TABLE paths (path BLOB PRIMARY KEY) WITHOUT ROWID")
+        return self._opened
 
     def add(self, path: bytes) -> bool:
         """Adds a path; whether it wasn't there."""
         return self._base.execute("INSERT OR IGNORE INTO paths VALUES (?)", (path,)).rowcount > 0
 
     def __contains__(self, path: bytes) -> bool:
+        if self._opened is None:
+            return False
         return self._base.execute("SELECT 1 FROM paths WHERE path = ?", (path,)).fetchone() is not None
