@@ -10,7 +10,8 @@ from ..model.budgets import KEPT_BYTES, LINES_BYTES
 from ..model.columns import Damaged
 
 _SHORTEST = 200  # characters that compression makes longer, or hardly shorter
-_SHORT = 4096  # characters that are compressed with small buffers
+_SHORT = 600  # characters for which codes of their own take longer than they spare bytes
+_MIDDLE = 4096  # characters that are compressed with small buffers
 _LEVEL = 3  # of zlib: 6 takes twice as long for texts, and makes them 4 % shorter
 _USUAL = (  # what short ones are compressed with as if it stood before them; the most frequent last
     b'["exif","0132","ASCII",20,"20["exif","927c","UNDEFINED",,["exif","a002","LONG",1,["exif","829a","RATIONAL",1,[1,'
@@ -18,7 +19,8 @@ _USUAL = (  # what short ones are compressed with as if it stood before them; th
     b'["xmp","dc:title","Alt",1,[{"Alt":[["","x-default"]]}]],["xmp","dc:subject","Bag",["iptc","2:120","octets",["iptc","2:25","octets",'
 )
 # zlib's default buffers are made for long texts, and to make and clear them takes longer than compressing a short one
-_FOR_SHORT = zlib.compressobj(_LEVEL, zlib.DEFLATED, 12, 5, zdict=_USUAL)
+_FOR_SHORT = zlib.compressobj(_LEVEL, zlib.DEFLATED, 12, 5, zlib.Z_FIXED, _USUAL)
+_FOR_MIDDLE = zlib.compressobj(_LEVEL, zlib.DEFLATED, 12, 5, zlib.Z_DEFAULT_STRATEGY, _USUAL)
 
 
 def is_short(octets: bytes) -> bool:
@@ -83,5 +85,5 @@ def _lines(cell: bytes) -> List[bytes]:
 def _compressed(text: bytes) -> bytes:
     if len(text) <= _SHORTEST:
         return text
-    compressing = _FOR_SHORT.copy() if len(text) <= _SHORT else zlib.compressobj(_LEVEL)
+    compressing = _FOR_SHORT.copy() if len(text) <= _SHORT else _FOR_MIDDLE.copy() if len(text) <= _MIDDLE else zlib.compressobj(_LEVEL)
     return compressing.compress(text) + compressing.flush()

@@ -104,7 +104,7 @@ def _with_notes(block: BlockRecord, at: FoundBlock, blocks: Blocks) -> BlockReco
 
 def judge_all(blocks: Blocks, packs: bool = False) -> List[BlockRecord]:
     """Judges all blocks of a picture, in their order. Extended XMP is judged with the packet that refers to it. Raises `TooMuch`."""
-    if any(map(_says_nothing, blocks.found)):
+    if any([_says_nothing(it) for it in blocks.found if it.kind != XMP]):
         blocks.found = [it for it in blocks.found if not _says_nothing(it)]
     extended = _Extended(blocks) if any([it.extends for it in blocks.found]) else None
     none = xmp.Extensions({}, blocks.budget)

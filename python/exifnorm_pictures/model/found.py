@@ -163,7 +163,8 @@ class Blocks:
         >>> [it.name for it in blocks.found]
         ['Exif', 'second Exif']
         """
-        self.check()
+        if len(self.found) >= FEW:
+            self.check()
         name = NAMES[kind] + (f" of {part}" if part else "")
         number = self.counts[name] = self.counts.get(name, 0) + 1
         self.found.append(FoundBlock(kind, data, name if number == 1 else f"{ordinal(number)} {name}", where, extractor, note=note))

@@ -182,9 +182,9 @@ class PictureRecord(NamedTuple):
             others["damage"] = fault
         if not problem:  # of one with a problem nothing is known
             others.update(_compared(blocks, unread))
-        others.update(blocks=tuple(blocks), unread=tuple(unread))
         values: List[Any] = list(cls._field_defaults.values())  # in a third of the time of a call with so many names
         values[1:12] = path, root, *(stamp or _NO_STAMP), type, extractor, problem, detail
+        values[_PLACES["blocks"]], values[_PLACES["unread"]] = tuple(blocks), tuple(unread)
         for name, value in others.items():
             values[_PLACES[name]] = value
         return cls._make(values)

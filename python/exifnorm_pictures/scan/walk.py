@@ -83,11 +83,12 @@ def _below(
         except OSError as error:
             unlisted(Unlisted(folder, reason(error)))
             continue
-        waiting += [os.path.join(folder, it) for it in reversed(folders)]
-        files = [it for it in files if os.path.join(folder, it) not in leave_out] if leave_out else files
+        inside = os.path.join(folder, b"")
+        waiting += [inside + it for it in reversed(folders)]
+        files = [it for it in files if inside + it not in leave_out] if leave_out else files
         known = Folder([] if on_sidecar is None else files)
         for name in files:
-            path = os.path.join(folder, name)
+            path = inside + name
             if on_sidecar is not None and name in known.files:
                 on_sidecar(path)
             else:
@@ -98,9 +99,10 @@ def _listed(folder: bytes, head: int, excluded: Excluded) -> Tuple[List[bytes], 
     """The names of the folders and of the files of a folder, without what is excluded; a link to a folder is neither."""
     folders: List[bytes] = []
     files: List[bytes] = []
+    excludes = bool(excluded)
     with os.scandir(folder) as entries:
         for entry in entries:
-            if excluded and excluded.passes_over(entry.path[head:]):
+            if excludes and excluded.passes_over(entry.path[head:]):
                 continue
             if entry.is_dir(follow_symlinks=False):
                 folders.append(entry.name)
