@@ -235,6 +235,27 @@ def test_typed_values_of_xmp(kind, count, shown, value):
     assert typed(field("xmp", "dc:title", kind, count, shown)) == value
 
 
+@pytest.mark.parametrize(
+    "name, text, value",
+    [
+        ("tiff:Orientation", "6", 6),
+        ("tiff:Orientation", "left", "left"),
+        ("xmp:Rating", "3", 3),
+        ("xmp:Rating", "3.5", 3.5),
+        ("exif:ExposureTime", "1/8", 0.125),
+        ("exif:ExposureTime", "1/0", None),
+        ("exif:GPSLatitude", "48,7.5S", -48.125),
+        ("exif:GPSLongitude", "11,30,36E", 11.51),
+        ("xmpRights:Marked", "True", True),
+        ("xmp:CreateDate", "2019-03-12", "2019-03-12"),
+        ("dc:source", "6", "6"),
+    ],
+)
+def test_types_of_xmp(name, text, value):
+    """By the type that the standard gives to a property; dates are texts, as those of Exif are."""
+    assert json.dumps(typed(field("xmp", name, "text", 1, f'"{text}"'))) == json.dumps(value)
+
+
 def test_long_texts_are_whole(objects, folder):
     """In the order of a DataSet that is repeated, and in any character set; other long values are digests."""
     texts = [b"a" * 500, b"b", "ü".encode() * 300, b"\xfc" * 500]

@@ -219,4 +219,6 @@ def _json_of_xmp(field: Field) -> Any:
 
 def _json_of_text(name: str, text: str) -> Any:
     value = object_of(name, text)
+    if isinstance(value, float) and value.is_integer():
+        return int(value)
     return text if isinstance(value, date) else _json_number(value)
