@@ -6,6 +6,7 @@ import io
 import json
 import random
 import re
+import sqlite3
 import struct
 import unicodedata
 
@@ -305,6 +306,15 @@ def test_since(folder, called, asked, monkeypatch):
     called("index", "p", "--catalogue", "c", "--quiet")
     assert asked("--since", "1971-01-01")[0] == ["a.jpg"]
     assert asked("--since", "2200-01-01")[0] == []
+    # a run that reads all again finds nothing new, be it by one process or by several
+    put(folder / "p", {f"{number}.jpg": picture([("title", f"{number}")]) for number in range(70)})
+    called("index", "p", "--catalogue", "c", "--quiet")
+    with sqlite3.connect("c") as base:
+        base.execute("UPDATE runs SET started = '2020-01-01T00:00:00Z'")
+    for jobs, changed in (("1", "1.jpg"), ("2", "2.jpg")):
+        (folder / "p" / changed).write_bytes(picture([("title", "changed")]))
+        called("index", "p", "--catalogue", "c", "--quiet", "--again", "--jobs", jobs)
+        assert asked("--since", "2021-01-01")[0] == [f"{number}.jpg" for number in range(1, int(jobs) + 1)], jobs
     assert "older one" in called("list", "c", "--since", "1971-01-01")[1]
     for words in (("changed", "2026-11-20", "c"), ("report", "c", "--since", "2026-11-20", "--html", "page")):
         status, _, messages = called(*words)

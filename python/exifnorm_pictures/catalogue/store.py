@@ -108,6 +108,8 @@ _ADD_ROWS = (
     "INSERT INTO main.not_read SELECT picture + :pictures, number, what, digest FROM {other}.not_read",
     "INSERT INTO main.maker_notes SELECT picture + :pictures, readings FROM {other}.maker_notes",
 )
+# What is equal of a picture that is read again and is as it was: nobody has written to its file or its sidecars
+_SAME = ("size", "modified", "changed", "inode", "sidecars", "problem", "exif_octets", "iptc_octets", "xmp_octets", "file")
 # The same tables without keys, for rows that are only written and read once
 _ROWS = (
     f"CREATE TABLE pictures ({PICTURE_COLUMNS}, run)",
@@ -418,10 +420,29 @@ class Catalogue:
         with contextlib.ExitStack() as attached:
             names = [attached.enter_context(self.attached(name, f"batch{number}")) for number, name in enumerate(files)]
             with self.transaction():
+                has_some = not self.is_empty()
+                earlier = [row for other in names if has_some for row in self._unchanged(other)]
                 for other in names:
                     self.add_rows(other, run)
                 new = [it for it in {it.path: it for it in entries}.values() if not self._is_kept(run, it)]
+                earlier += filter(None, map(self._earlier, new if has_some else ()))
                 put_rows(self.base, run, 1 + self.last_number(), new)
+                self.base.executemany("UPDATE main.pictures SET run = ? WHERE path = ?", earlier)
+
+    def _unchanged(self, other: str) -> "List[Tuple[int, bytes]]":
+        """The pictures of an attached file that are as they were, as after `index --again`: each with the run in which it was new or changed."""
+        same = " AND ".join(f"o.{column} IS m.{column}" for column in _SAME)
+        query = f"SELECT m.run, m.path FROM {other}.pictures o CROSS JOIN main.pictures m ON m.path = o.path WHERE {same}"
+        return self.base.execute(query).fetchall()
+
+    def _earlier(self, picture: PictureRecord) -> "Optional[Tuple[int, bytes]]":
+        """The same of a picture that was looked at."""
+        same = " AND ".join(f"{column} IS ?" for column in _SAME)
+        values = (picture.path, *(getattr(picture, column) for column in _SAME))
+        found: "Optional[Tuple[int, bytes]]" = self.base.execute(
+            f"SELECT run, path FROM main.pictures WHERE path = ? AND {same}", values
+        ).fetchone()
+        return found
 
     @contextlib.contextmanager
     def attached(self, file: str, other: str) -> Iterator[str]:
