@@ -182,7 +182,7 @@ def test_files_are_found_while_pictures_are_read(tmp_path):
 def equal(work, how):
     """Files that all mean the same, as copies do."""
     for file in work:
-        yield PictureRecord.of(file.path, file.root, file.stamp, "JPEG", not_read="", exif_octets="0" * 64)
+        yield PictureRecord.of(file.path, file.root, file.stamp, "JPEG")._replace(exif_octets="0" * 64)
 
 
 def test_a_picture_moves_to_its_own_name_first(tmp_path):
@@ -193,9 +193,9 @@ def test_a_picture_moves_to_its_own_name_first(tmp_path):
             for name in names:
                 (tmp_path / "p" / name).parent.mkdir(parents=True, exist_ok=True)
                 (tmp_path / "p" / name).write_text(name[:0])
-                os.utime(tmp_path / "p" / name, ns=(ord(name[0]), ord(name[2])))
+                os.utime(tmp_path / "p" / name, ns=(0, 1000 * ord(name[0]) + ord(name[2])))  # a new file may have an earlier inode
             counts = run(catalogue, [os.fsencode(tmp_path / "p")], 50, equal)
-        assert counts == {"accepted": 2, "Moved": 2, "Vanished": 1} or counts == {"no block": 2, "Moved": 2, "Vanished": 1}
+        assert (counts["Moved"], counts["Vanished"]) == (2, 1)
         found = {path: detail for path, *_, problem, detail, _, _ in rows(catalogue) if problem == "Moved"}
         p = os.fsencode(tmp_path / "p")
         assert found == {p + b"/b/x": f"to {tmp_path}/p/e/q", p + b"/c/a": f"to {tmp_path}/p/e/a"}
