@@ -131,7 +131,7 @@ class WhatIsCompared(Promises):
         done = run(
             [sys.executable, "-m", "exifnorm_pictures", "index", "p", "--catalogue", "c", "--quiet"], self.folder, PATH=self.path("none")
         )
-        self.assertEqual(done.stdout.splitlines()[-1], b"4 accepted, 1 BigTIFF that can't be read; 1 cut off or damaged", done)
+        self.assertEqual(done.stdout.splitlines()[-1], b"4 accepted, 1 BigTIFF that can't be read", done)
         query = "SELECT type, name, octets, digest, source FROM pictures JOIN blocks ON picture = pictures.id WHERE kind = 'exif' ORDER BY path, number"
         found = self.rows("c", query)
         form = run(["exifnorm"], self.folder, A).stdout

@@ -52,6 +52,8 @@ class Directories:
 
     def read(self, at: int) -> Directory:
         """The directory at an offset. Raises `Broken`."""
+        if at < self.variant.header:  # as of a file without any
+            raise Broken(f"the directory at {at} shares bytes with another one")
         start = at + self.variant.number
         if self.variant is BIG and start > self.size:  # it may be beyond all that a system can seek
             raise Broken(f"the file ends before the directory at {at}")
