@@ -10,7 +10,7 @@ export const LIMIT = 16_777_216;
 
 // the statuses, kinds and causes of exifnorm.h
 const DONE = 0, REFUSED = 2, TOO_LONG = 3, NO_MEMORY = 4, TOO_LITTLE_ROOM = 5, SECOND_REFUSED = 6, NOT_READ = 7, SECOND_NOT_READ = 8;
-const KINDS = ["", "exif", "iim"], PART_KINDS = ["", "exif", "photoshop", "xmp", "extended xmp"], SAME = [false, true];
+const KINDS = ["", "exif", "iptc"], PART_KINDS = ["", "exif", "photoshop", "xmp", "extended xmp"], SAME = [false, true];
 const IPTC = 0x0404; // Photoshop's resource
 
 // sizes of its structs in bytes; a size_t has 8
@@ -21,19 +21,24 @@ const MOST_KEPT = 1 << 26; // a module with more memory is replaced after the ca
 
 /** A block breaks the rules and has no meaning: its first fault. */
 export class Refused extends Error {
-  constructor(cause, place, side = null, text = "") {
-    super(text || `${cause} at ${place}${side === null ? "" : ` in block ${side}`}`);
+  constructor(cause, offset, side = null, text = "") {
+    super(text || `${cause} at ${offset}${side === null ? "" : ` in block ${side}`}`);
     this.name = new.target.name;
     this.cause = cause;
-    this.place = place;
+    this.offset = offset;
     this.side = side;
+  }
+
+  /** The older name of `offset`. */
+  get place() {
+    return this.offset;
   }
 }
 
 /** The bytes are no head of a JPEG: the first fault, the parts before it, and the blocks that end before it. */
 export class HeadRefused extends Refused {
-  constructor(cause, place, parts = [], blocks = []) {
-    super(cause, place);
+  constructor(cause, offset, parts = [], blocks = []) {
+    super(cause, offset);
     this.parts = parts;
     this.blocks = blocks;
   }
@@ -41,9 +46,9 @@ export class HeadRefused extends Refused {
 
 /** Of two JPEGs one has no head of a JPEG, or a block that is refused: the first fault. */
 export class PictureRefused extends Refused {
-  constructor(cause, place, side, kind = "", index = 0) {
+  constructor(cause, offset, side, kind = "", index = 0) {
     const where = kind === "" ? "the head" : `block ${index + 1} of ${kind === "exif" ? "Exif" : "IPTC"}`;
-    super(cause, place, side, `${cause} at ${place} in ${where}, picture ${side}`);
+    super(cause, offset, side, `${cause} at ${offset} in ${where}, picture ${side}`);
     this.kind = kind;
     this.index = index;
   }
@@ -52,8 +57,8 @@ export class PictureRefused extends Refused {
 /** Two JPEGs have the same Exif and IPTC as far as they are read, and one has a place that isn't read: the first one. */
 export class NotRead extends Error {
   constructor(side, unread) {
-    const place = `${unread.start}${unread.joined ? " of its joined blocks" : ""}`;
-    super(`the same as far as it was read; picture ${side} has a part at ${place} that was not read`);
+    const where = `${unread.start}${unread.joined ? " of its joined blocks" : ""}`;
+    super(`the same as far as it was read; picture ${side} has a part at ${where} that was not read`);
     this.name = new.target.name;
     this.side = side;
     this.unread = unread;
@@ -311,13 +316,13 @@ export class Engine {
       if (kind === "exif") return [{ kind, data }];
       if (kind !== "photoshop") return [];
       const resources = this.photoshopResources(data, most).filter(({ number, size }) => number === IPTC && size > 0);
-      return resources.map(({ start, size }) => ({ kind: "iim", data: data.slice(start, start + size) }));
+      return resources.map(({ start, size }) => ({ kind: "iptc", data: data.slice(start, start + size) }));
     });
     if (isHead) return blocks;
     try {
       this.jpegParts(picture, most); // throws HeadRefused with the parts before the fault
     } catch (error) {
-      throw error instanceof HeadRefused ? new HeadRefused(error.cause, error.place, error.parts, blocks) : error;
+      throw error instanceof HeadRefused ? new HeadRefused(error.cause, error.offset, error.parts, blocks) : error;
     }
     throw new Error("exifnorm refuses a head of which it has all parts");
   }

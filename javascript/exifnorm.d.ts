@@ -1,8 +1,8 @@
 /** The greatest length in bytes of a block, and of a normal form. */
 export const LIMIT: 16777216;
 
-/** "exif": directories in the structure of TIFF 6.0, by CIPA DC-008; "iim": DataSets of IPTC-NAA IIM 4.2. */
-export type Kind = "exif" | "iim";
+/** "exif": directories in the structure of TIFF 6.0, by CIPA DC-008; "iptc": DataSets of IPTC-NAA IIM 4.2. */
+export type Kind = "exif" | "iptc";
 
 /** A part of a JPEG's head: a marker, and where the data of its segment are. */
 export interface JpegPart {
@@ -42,6 +42,8 @@ export class Refused extends Error {
   /** The name of the cause, such as "Overlap". docs/FORMAT.md lists the causes. */
   readonly cause: string;
   /** The byte offset in the block. The six bytes "Exif\0\0" before an Exif block are not counted. */
+  readonly offset: number;
+  /** @deprecated The older name of `offset`. */
   readonly place: number;
   /** For two blocks, the number of the one that is refused; otherwise null. */
   readonly side: 1 | 2 | null;
@@ -58,7 +60,7 @@ export class HeadRefused extends Refused {
 /** Of two JPEGs one has no head of a JPEG, or a block that is refused: the first fault. */
 export class PictureRefused extends Refused {
   readonly side: 1 | 2;
-  /** The kind of the block; "" if the picture has no head. Then `place` counts from the picture's first byte. */
+  /** The kind of the block; "" if the picture has no head. Then `offset` counts from the picture's first byte. */
   readonly kind: "" | Kind;
   /** The index of the block among those of its kind in the picture, from 0. */
   readonly index: number;

@@ -4,7 +4,7 @@
 const PATIENCE = 30_000; // milliseconds for one question
 const ROWS = 300; // of a list, that are shown at once
 const MOST_FILES = 500_000, MOST_REFUSALS = 20;
-const SIDES = ["first", "second"], KINDS = { exif: "Exif", iim: "IPTC" };
+const SIDES = ["first", "second"], KINDS = { exif: "Exif", iptc: "IPTC" };
 const PICTURES = /\.(?:jpe?g|jpe|png|tiff?|webp|hei[cf]|avif|dng|nef|cr[23]|arw|orf|rw2|raf|psd|gif|jp2|jxl|bmp)$/i;
 
 const $ = (id) => document.getElementById(id);
@@ -291,7 +291,7 @@ function unreadOf(look) {
 }
 
 /** Why a picture isn't read, and what helps. */
-function problemOf(name, { name: problem, cause, place, format }) {
+function problemOf(name, { name: problem, cause, offset, format }) {
   const [sentence, remedy] = tables.heads[cause] ?? [], isCut = cause === "JpegCut"; // of which all was given
   const [what, help] = {
     format: [`${name} is ${format ? `of the format ${format}` : "no JPEG"}.`, "This page reads JPEG pictures only. `exifnorm-pictures` reads other formats too."],
@@ -299,17 +299,17 @@ function problemOf(name, { name: problem, cause, place, format }) {
     unreadable: [`${name} can’t be read: the browser gave no bytes of it.`, "Choose it again, or copy it to another folder first."],
     many: [`${name} has more segments than this page reads.`, "No camera writes so many: look where the file comes from."],
     long: [`The metadata of ${name} are longer than this page reads.`, "`exifnorm-pictures` has no such limit."],
-    head: [`${name} is a damaged JPEG. ${sentence} (${cause} at byte ${counted(place ?? 0)})`, isCut ? "The picture isn’t whole: use another copy." : remedy ?? ""],
+    head: [`${name} is a damaged JPEG. ${sentence} (${cause} at byte ${counted(offset ?? 0)})`, isCut ? "The picture isn’t whole: use another copy." : remedy ?? ""],
   }[problem];
   return element("p", "", what, " ", ...withCode(help));
 }
 
 /** Why a block is refused, and what helps. */
-function refusalOf(name, { kind, index, size, refusal: { cause, place, about: [sentence, meaning, remedy, cost] } }, areSeveral) {
+function refusalOf(name, { kind, index, size, refusal: { cause, offset, about: [sentence, meaning, remedy, cost] } }, areSeveral) {
   return element("div", "refusal", element("h3", "", `${KINDS[kind]}${areSeveral ? ` (block ${index + 1})` : ""} of ${name}: ${sentence}`),
     element("p", "", ...withCode(meaning)), element("p", "", element("strong", "", "What helps: "), ...withCode(remedy)),
     cost && element("p", "", element("strong", "", "What it costs: "), ...withCode(cost)),
-    element("p", "small", `${cause} at byte ${counted(place)} of ${counted(size)}.`));
+    element("p", "small", `${cause} at byte ${counted(offset)} of ${counted(size)}.`));
 }
 
 const WAYS = "The touch: ExifTool adds a field and removes it. The rebuild: ExifTool writes all fields that it knows into a new block. “4 of 6” counts real pictures with this fault.";
@@ -329,11 +329,10 @@ function faultsOf(look, names) {
   return [...shown, left > 0 && element("p", "", `${many(left, "further refusal")}.`), hasWays && element("p", "small", WAYS)];
 }
 
-const ENDINGS = { exif: "exif", iim: "iptc" };
 async function download(file, { kind, index }) {
   try {
     const form = await ask("form", file, kind, index), stem = file.name.replace(/\.[^.]*$/, "");
-    if (form) save(`${stem}.${ENDINGS[kind]}${index ? `.${index + 1}` : ""}`, form, "application/octet-stream");
+    if (form) save(`${stem}.${kind}${index ? `.${index + 1}` : ""}`, form, "application/octet-stream");
     else say("Its normal form is longer than 16,777,216 bytes.");
   } catch (error) {
     say(`There is no normal form: ${error.message}.`);

@@ -14,7 +14,7 @@ const MOST_PARTS = 100_000; // of a head
 const MOST_FIELDS = 20_000; // of a block, that are listed; so many captions, too
 const MOST_ROWS = 3_000, MOST_NAMES = 6; // that are sent to the page
 const LONGEST = 2_000; // characters of a value
-const KINDS = ["exif", "iim"], NAMES = { exif: "Exif", iim: "IPTC" };
+const KINDS = ["exif", "iptc"], NAMES = { exif: "Exif", iptc: "IPTC" };
 const FORMATS = [
   [/^\x89PNG/, "PNG"], [/^RIFF[^]{4}WEBP/, "WebP"], [/^(?:II\*\0|MM\0\*)/, "TIFF or raw"], [/^(?:II\+\0|MM\0\+)/, "BigTIFF"], [/^GIF8/, "GIF"],
   [/^8BPS/, "Photoshop"], [/^[^]{4}ftyp(?:hei|hev|mif1|msf1|avi)/, "HEIC or AVIF"], [/^[^]{4}ftypcrx/, "CR3"],
@@ -38,7 +38,7 @@ function headOf(bytes) {
       return { kind, data, refusal: null };
     } catch (error) {
       if (!(error instanceof Refused)) throw error;
-      return { kind, data, refusal: { cause: error.cause, place: error.place } };
+      return { kind, data, refusal: { cause: error.cause, offset: error.offset } };
     }
   });
   for (const kind of KINDS) blocks.filter((block) => block.kind === kind).forEach((block, index) => { block.index = index; });
@@ -67,7 +67,7 @@ async function read(file) {
         if (size < MOST_READ) continue;
         return problem("long");
       }
-      if (error.cause !== "JpegNoStart") return problem("head", { cause: error.cause, place: error.place });
+      if (error.cause !== "JpegNoStart") return problem("head", { cause: error.cause, offset: error.offset });
       const start = String.fromCharCode(...bytes.subarray(0, 16));
       return problem(file.size ? "format" : "empty", { format: FORMATS.find(([pattern]) => pattern.test(start))?.[1] ?? "" });
     }
@@ -212,9 +212,9 @@ function identity(head) {
 function reason({ problem: why, blocks, unread }) {
   if (why) {
     const words = { format: why.format || "no JPEG", empty: "empty", unreadable: "can't be read", many: "too many segments", long: "its head is too long" };
-    return words[why.name] ?? `damaged JPEG: ${why.cause} at ${why.place}`;
+    return words[why.name] ?? `damaged JPEG: ${why.cause} at ${why.offset}`;
   }
-  const refused = blocks.filter(({ refusal }) => refusal).map(({ kind, refusal: { cause, place } }) => `${NAMES[kind]}: ${tables.causes[cause][0]} (${cause} at ${place})`);
+  const refused = blocks.filter(({ refusal }) => refusal).map(({ kind, refusal: { cause, offset } }) => `${NAMES[kind]}: ${tables.causes[cause][0]} (${cause} at ${offset})`);
   return [...refused, unread ? "more metadata that isn't read" : ""].filter(Boolean).join("; ");
 }
 

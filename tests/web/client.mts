@@ -2,7 +2,7 @@
 import * as exifnorm from "./exifnorm.js";
 import { Engine, load } from "./engine.js";
 
-const bytes: Uint8Array = new Uint8Array(2), kind: "exif" | "iim" = exifnorm.check(bytes), limit: 16777216 = exifnorm.LIMIT;
+const bytes: Uint8Array = new Uint8Array(2), kind: "exif" | "iptc" = exifnorm.check(bytes), limit: 16777216 = exifnorm.LIMIT;
 const texts: string[] = [exifnorm.show(bytes), exifnorm.captions(bytes), exifnorm.version()], form: Uint8Array = exifnorm.normalise(bytes);
 const same: boolean = exifnorm.compare(bytes, form) && exifnorm.jpegSame(bytes, form);
 const numbers: number[] = exifnorm.jpegParts(bytes, 5).map((part) => part.marker + part.start + part.size);
@@ -14,7 +14,7 @@ try {
 } catch (error) {
   if (error instanceof exifnorm.PictureRefused) texts.push(error.kind, `${error.index}`);
   else if (error instanceof exifnorm.HeadRefused) numbers.push(error.parts.length, ...error.blocks.map(({ data }) => data.length));
-  else if (error instanceof exifnorm.Refused) texts.push(error.cause, `${error.place} ${error.side ?? 0}`);
+  else if (error instanceof exifnorm.Refused) texts.push(error.cause, `${error.offset} ${error.side ?? 0}`);
   else if (error instanceof exifnorm.NotRead) numbers.push(error.side, error.unread.start);
   else if (error instanceof exifnorm.TooMany) numbers.push(error.most);
   else if (error instanceof exifnorm.NormalTooLong || error instanceof exifnorm.OutOfMemory) texts.push(error.message);

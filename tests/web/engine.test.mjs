@@ -18,21 +18,21 @@ function longForm() {
   return block;
 }
 
-test("errors have a cause, a place, and what else belongs to them", () => {
-  assert.throws(() => exifnorm.check(bytes("")), { name: "Refused", cause: "UnknownKind", place: 0, side: null });
-  assert.throws(() => exifnorm.compare(ONE, ONE.subarray(0, 25)), { cause: "DirectoryOutside", place: 8 - 4, side: 2 });
+test("errors have a cause, an offset, and what else belongs to them", () => {
+  assert.throws(() => exifnorm.check(bytes("")), { name: "Refused", cause: "UnknownKind", offset: 0, place: 0, side: null });
+  assert.throws(() => exifnorm.compare(ONE, ONE.subarray(0, 25)), { cause: "DirectoryOutside", offset: 8 - 4, side: 2 });
   assert.throws(() => exifnorm.jpegBlocks(bytes("ffd8 fffe0004 4142 ffe1")), (error) => {
     assert.ok(error instanceof exifnorm.HeadRefused && error instanceof exifnorm.Refused);
-    assert.deepEqual([error.cause, error.place, error.parts.map(({ marker }) => marker), error.blocks], ["JpegCut", 8, [0xfe], []]);
+    assert.deepEqual([error.cause, error.offset, error.parts.map(({ marker }) => marker), error.blocks], ["JpegCut", 8, [0xfe], []]);
     return true;
   });
   const cut = bytes("ffd8 ffe1000c 457869660000 4d4d002a ffe1000a 457869660000 0008 ffdb");
   const blocks = [{ kind: "exif", data: bytes("4d4d002a 0008") }];
-  assert.throws(() => exifnorm.jpegBlocks(cut), { name: "HeadRefused", cause: "JpegCut", place: 28, blocks });
+  assert.throws(() => exifnorm.jpegBlocks(cut), { name: "HeadRefused", cause: "JpegCut", offset: 28, blocks });
   assert.throws(() => exifnorm.jpegParts(cut), { name: "HeadRefused", blocks: [] });
   const broken = bytes("ffd8 ffe1000a 457869660000 4d4d ffd9");
   assert.throws(() => exifnorm.jpegSame(bytes("ffd8 ffd9"), broken), {
-    name: "PictureRefused", cause: "HeaderCut", place: 2, side: 2, kind: "exif", index: 0,
+    name: "PictureRefused", cause: "HeaderCut", offset: 2, side: 2, kind: "exif", index: 0,
   });
   const more = bytes("ffd8 ffe1000a 457869660001 4d4d ffd9");
   assert.throws(() => exifnorm.jpegSame(bytes("ffd8 ffd9"), more), { name: "NotRead", side: 2, unread: { joined: false, start: 6 } });
@@ -54,7 +54,7 @@ test("a form that is too long is an error, and its memory is not kept", () => {
   assert.equal(engine.check(block), "exif");
   assert.throws(() => engine.normalise(block), { name: "NormalTooLong" });
   assert.equal(engine.compare(block, block), true);
-  assert.throws(() => engine.check(new Uint8Array(1 << 27)), { cause: "TooLong", place: exifnorm.LIMIT });
+  assert.throws(() => engine.check(new Uint8Array(1 << 27)), { cause: "TooLong", offset: exifnorm.LIMIT });
   assert.ok(engine.memory <= 1 << 26, `${engine.memory} bytes`);
   assert.equal(engine.check(ONE), "exif");
 });

@@ -32,17 +32,12 @@ def digest(octets):
     return hashlib.sha256(octets).hexdigest()
 
 
-def word(kind):
-    """A kind as JavaScript has it, in the words of the engine."""
-    return str(kind).replace("iptc", "iim")
-
-
 def digests(blocks):
-    return [[word(kind), digest(data)] for kind, data in blocks]
+    return [[str(kind), digest(data)] for kind, data in blocks]
 
 
 CALLS = {
-    "check": lambda block: word(exifnorm.kind(block)),
+    "check": lambda block: str(exifnorm.kind(block)),
     "normalise": lambda block: digest(exifnorm.normal(block)),
     "show": lambda block: digest(exifnorm.show(block).encode()),
     "captions": lambda block: digest(exifnorm._calls.captions_text(block).encode()),
