@@ -317,11 +317,11 @@ def test_explanations_and_copies(objects, folder, tmp_path):
 
 # Every command
 
-EVERY = {  # what is run of each command that the parser has
+EVERY = {  # what is run of each command that the parser has, in any order
     "index": ["index after --catalogue c.catalogue --pixels", "index after nothing --catalogue c.catalogue"],
     "merge": ["merge a.catalogue b.catalogue --catalogue all.catalogue"],
-    "forget": ["forget before --catalogue all.catalogue"],
-    "relocate": ["relocate before after --catalogue a.catalogue"],
+    "forget": ["forget before --catalogue forgotten.catalogue"],
+    "relocate": ["relocate before after --catalogue elsewhere.catalogue"],
     "verify": ["verify --catalogue p.catalogue", "verify --catalogue p.catalogue --list damaged"],
     "same": [
         "same --catalogue p.catalogue",
@@ -372,6 +372,8 @@ def nights(session_folder):
     try:
         for words in ("before --catalogue a.catalogue", "after --catalogue b.catalogue", "after --catalogue p.catalogue --pixels"):
             main._run(["index", *words.split(), "--quiet"])
+        for name in ("forgotten", "elsewhere"):
+            shutil.copy("a.catalogue", f"{name}.catalogue")
         main._run(["nightly", "after", "--catalogue", "night.catalogue"])
     finally:
         os.chdir(here)
