@@ -276,7 +276,8 @@ def counted(monkeypatch):
 
 def test_cost_of_a_small_picture(counted, folder):
     calls, reads = counted
-    for octets, number in ((jpeg(app1(A), app13(resource(0x0404, K)), app1_xmp(T)), 3), (jpeg(app1(A)), 2), (SMALL_JPEG, 1)):
+    whole, pieces = jpeg(app1(A), app13(resource(0x0404, K)), app1_xmp(T)), jpeg(app1(A[:8]), app1(A[8:]))
+    for octets, number in ((whole, 2), (pieces, 2), (jpeg(app1(A)), 1), (SMALL_JPEG, 1)):
         del calls[:], reads[:]
         (folder / "a.jpg").write_bytes(octets)
         assert extraction.blocks_of_file(os.fsencode(folder / "a.jpg")).problem is None
@@ -301,7 +302,7 @@ def test_cost_of_further_pictures(counted):
     octets = mpf(app1(A), jpeg(app1(B)), jpeg(app1(B)), jpeg(app1(B)))
     stream = Counting(octets)
     assert len(jpeg_.read(stream).found) == 4
-    assert len(calls) == 2 * 4 and stream.octets < 5 * len(octets)
+    assert len(calls) == 4 and stream.octets < 5 * len(octets)
 
 
 # ---- a library that fails
@@ -325,7 +326,7 @@ class Failing(Counted):
 )
 def test_a_fault_of_the_library_is_none_of_the_picture(monkeypatch, folder, call, more, outcome):
     path = os.fsencode(folder / "a.jpg")
-    (folder / "a.jpg").write_bytes(jpeg(app1(A), app13(resource(0x0404, K))))
+    (folder / "a.jpg").write_bytes(jpeg(app1(A[:8]), app1(A[8:]), app13(resource(0x0404, K))))
     library = Failing(call, outcome + more)
     monkeypatch.setattr(_jpeg, "library", lambda: library)
     found = looking.look(FoundFile(path, os.fsencode(folder), None), How(), Session())
