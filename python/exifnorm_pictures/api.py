@@ -494,8 +494,9 @@ class Comparison(NamedTuple):
     - `result`: the word that `changed` prints
     - `note`: a sentence about each kind of block
     - `differences`: the fields that differ
-    - `picture`: "the same", "other", "damaged", "damaged before" or "damaged before and after", by the data from which the pixels are decoded;
-      "not compared" if there is no reader for these, the formats differ, or the file isn't there any more
+    - `picture`: "the same", "the same but for colour profiles or comments", "other", "damaged", "damaged before" or "damaged before and after",
+      by the data from which the pixels are decoded; "not compared" if there is no reader for these, the formats differ, or the file isn't there
+      any more
     - `proved`: what the proved comparison of `exifnorm.jpeg_same` says of the Exif and IPTC in the heads of two JPEGs: "same", "different", or
       "not wholly read" (the same as far as they were read); None if it has no answer, because one is no JPEG, its head is damaged, or a block
       is refused, or if a file isn't there any more

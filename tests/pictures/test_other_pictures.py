@@ -3,7 +3,7 @@
 import json
 
 import pytest
-from made_files import A, B, app1, jpeg
+from made_files import A, B, app1, jpeg, segment
 from made_more_files import gif
 from studio import SMALL_JPEG, put
 
@@ -47,6 +47,20 @@ def test_changed(name, folder, called):
     found, printed, _ = called("compare", "a/x.jpg", "b/x.jpg", "--json", "--no-exiftool")
     it = json.loads(printed)
     assert (found, it["result"]) == (statuses[1], result) and it["coded_picture"] in (coded, "the same")
+
+
+@pytest.mark.parametrize(
+    "part", [segment(0xE2, b"ICC_PROFILE\0\1\1other colours"), segment(0xFE, b"a comment")], ids=["profile", "comment"]
+)
+def test_a_picture_that_lost_its_profile_or_comment(folder, called, part):
+    """Its pixels may look otherwise, so it is never only counted as the same."""
+    put(folder / "a", {"x.jpg": MASTER[:2] + part + MASTER[2:], "y.jpg": MASTER})
+    put(folder / "b", {"x.jpg": MASTER, "y.jpg": MASTER})
+    expected = {"the same": 1, "the same but for colour profiles or comments": 1}
+    printed = called("changed", "a", "b", "--pixels")[1]
+    assert f"The coded pictures: {', '.join(f'{count} {it}' for it, count in expected.items())}." in printed
+    *pictures, summary = map(json.loads, called("changed", "a", "b", "--pixels", "--all", "--json")[1].splitlines())
+    assert summary["coded_pictures"] == expected and sorted(it["coded_picture"] for it in pictures) == sorted(expected)
 
 
 def test_what_the_report_says(folder, called):

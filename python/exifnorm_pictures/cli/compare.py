@@ -121,16 +121,7 @@ def _of_pictures(comparison: ComparedPair, names: Sequence[bytes]) -> str:
     if comparison.found.picture == Coded.UNKNOWN and len({it.type for it in comparison.records}) > 1:
         return "Only metadata was compared: the pictures are in two formats."
     damages = [f"{shown_path(name)} is damaged: {it.damage}." for name, it in zip(names, comparison.records) if it.damage]
-    return " ".join(damages) or comparison.found.picture.sentence + f" {_BESIDE[0].upper()}{_BESIDE[1:]}." * _differ_beside(comparison)
-
-
-_BESIDE = "their colour profiles or comments differ"
-
-
-def _differ_beside(comparison: ComparedPair) -> bool:
-    """Whether equal pictures have other colour profiles or comments."""
-    picture, other = comparison.records
-    return comparison.found.picture == Coded.SAME and not comparison.is_identical and picture.beside != other.beside
+    return " ".join(damages) or comparison.found.picture.sentence
 
 
 def _heads(names: Sequence[bytes]) -> List[str]:
@@ -191,7 +182,7 @@ def _members(comparison: ComparedPair, rows: Sequence[FieldRow], names: Sequence
     kinds = {it.kind: it.result for it in comparison.found.verdicts}
     return {
         **whole,
-        "note": "; ".join(filter(None, [comparison.found.note, _BESIDE * _differ_beside(comparison)])) or None,
+        "note": comparison.found.note or None,
         "kinds": kinds,
         "proved": comparison.proved,
         "fields": [_row_members(it) for it in rows],

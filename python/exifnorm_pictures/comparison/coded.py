@@ -27,6 +27,7 @@ class Coded(Word):
         return self in (Coded.DAMAGED, Coded.DAMAGED_BEFORE, Coded.DAMAGED_BOTH)
 
     SAME = ("the same", "The pictures are the same: the data from which their pixels are decoded are equal.")
+    BESIDE = ("the same but for colour profiles or comments", f"{SAME[1]} Their colour profiles or comments differ.")
     OTHER = (
         "other",
         "The pictures differ in the data from which their pixels are decoded: one may be edited, smaller, or only saved again.",
@@ -40,7 +41,7 @@ class Coded(Word):
 # The same as `coded_result`, for the rows `old` and `new` of two catalogues
 SQL = f"""CASE WHEN new.damage != '' AND old.damage = '' THEN '{Coded.DAMAGED}' WHEN new.damage != '' THEN '{Coded.DAMAGED_BOTH}'
     WHEN old.damage != '' THEN '{Coded.DAMAGED_BEFORE}' WHEN old.type != new.type THEN '{Coded.UNKNOWN}' WHEN old.coded_picture != '' AND new.coded_picture != ''
-    THEN CASE WHEN old.coded_picture = new.coded_picture THEN '{Coded.SAME}' ELSE '{Coded.OTHER}' END
+    THEN CASE WHEN old.coded_picture != new.coded_picture THEN '{Coded.OTHER}' WHEN old.beside = new.beside THEN '{Coded.SAME}' ELSE '{Coded.BESIDE}' END
     WHEN old.sha256 != '' AND old.sha256 = new.sha256 THEN '{Coded.SAME}' ELSE '{Coded.UNKNOWN}' END"""
 
 
@@ -67,7 +68,8 @@ def coded_result(picture: Optional[PictureRecord], other: Optional[PictureRecord
     if picture.type != other.type:  # the data of two formats can't be equal, even if the pictures are
         return CodedResult()
     if picture.coded_picture and other.coded_picture:
-        return CodedResult(Coded.SAME if picture.coded_picture == other.coded_picture else Coded.OTHER)
+        same = Coded.SAME if picture.beside == other.beside else Coded.BESIDE
+        return CodedResult(same if picture.coded_picture == other.coded_picture else Coded.OTHER)
     return CodedResult(Coded.SAME if picture.sha256 and picture.sha256 == other.sha256 else Coded.UNKNOWN)
 
 
@@ -75,7 +77,7 @@ def sentence_of_coded(counts: "Counter[Coded]", pixels: str = "index --pixels") 
     """What was compared of some pictures, in a sentence; nothing without any."""
     if not sum(counts.values()):
         return ""
-    if not counts[Coded.SAME] + counts[Coded.OTHER]:
+    if not counts[Coded.SAME] + counts[Coded.BESIDE] + counts[Coded.OTHER]:
         damaged = ", ".join(f"{count:,} {it}" for it, count in counts.items() if it != Coded.UNKNOWN and count)
         only = f"Only metadata was compared: {pixels} compares the pictures, too." if counts[Coded.UNKNOWN] else ""
         return " ".join(filter(None, [f"The files: {damaged}." if damaged else "", only]))
