@@ -118,7 +118,6 @@ FOR_TESTS = ("px_calls", "px_devices", "px_picture_calls")  # crates
 # program's arguments, and the one of the files with known bytes, which the program never calls.
 GROWERS = {
     "crates/px_cli/src/main.rt: given",
-    "crates/px_runs/src/named.rt: make_beside",
     "crates/px_words/src/grammar.rt: bare",
     "crates/px_words/src/grammar.rt: joined",
     "crates/px_words/src/grammar.rt: of_one",

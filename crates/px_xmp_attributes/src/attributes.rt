@@ -19,7 +19,8 @@ fn is_same(a: Name, b: Name) -> bool
 // Whether one of the attributes at the start has a name.
 fn has_name(octets: &[u8], name: Name) -> bool
     ensures among { (attributes : List Attr) → AreListed attributes octets.now → result ≡ true → IsAmong (name_view name.entry) attributes }
-    ensures none { (attributes : List Attr) → AreListed attributes octets.now → result ≡ false → IsAmong (name_view name.entry) attributes → ⊥ }
+    ensures none { (attributes : List Attr) → AreListed attributes octets.now → result ≡ false
+        → IsAmong (name_view name.entry) attributes → ⊥ }
 {
     let mut rest = octets;
     while let Some(next) = next_attribute(rest) {

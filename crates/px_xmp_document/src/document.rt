@@ -33,7 +33,8 @@ fn is_read(encoding: Option<&[u8]>) -> bool
 
 // The XML declaration at the start. It is empty if there is none.
 fn read_start<'a>(octets: &'a [u8]) -> Declaration<'a>
-    ensures parts { IsSplit octets.now (take result.size octets.now) (option_map (λ e. e.now) result.encoding) (drop result.size octets.now) }
+    ensures parts { IsSplit octets.now (take result.size octets.now) (option_map (λ e. e.now) result.encoding)
+        (drop result.size octets.now) }
     ensures within { result.size ≤ length octets.now }
 {
     px_xmp_marks::laws::declarations_are_read();

@@ -1,5 +1,5 @@
 -- The first fault: octets with one are no tree, and have no other.
-use Rattle.std.proofs.Common.{◌≡◌, ◌≢◌, ◌≤◌, ◌⊎◌, ℕ, List, [], ◌∷◌, ◌++◌, length, drop, Some, None, refl, sym, ap, subst, ◌∙◌, inl, inr, arith, length-append, length-drop}
+use Rattle.std.proofs.Common.{◌≡◌, ◌≢◌, ◌≤◌, ◌⊎◌, ℕ, List, [], ◌∷◌, ◌++◌, length, drop, Some, refl, sym, ap, subst, ◌∙◌, inl, inr, arith, length-append, length-drop}
 use Rattle.std.proofs.lemmas.List.{drop_at}
 use Rattle.px_xmp_tree.specs.declared.faults.Cause.{Cause}
 use Rattle.px_xmp_tree.specs.Kinds.{Kind, Opening, Closing, Alone, Misc, Data, Marked, mark, IsKind, AreKinds, Begins, KindsAreRead, OnlyKindsAreRead}
@@ -160,9 +160,6 @@ one_more law x y p q m (ks, a, l) e s =
     let left : drop m.size y ≡ rest = ap (drop m.size) w ∙ drop_at n rest m.size (sym size) in
     (ks ++ m.kind ∷ [], subst (AreKinds (ks ++ m.kind ∷ []) x) (sym left) (row_more ks x y m.kind n rest a w i), step_leads m.kind p q ks l s)
 
--- what is read here begins here, and what is not read does not
+-- what is read here begins here
 pub read_begins : OnlyKindsAreRead → (y : List ℕ) (m : Marked) → mark y ≡ Some m → Begins m.kind y
 read_begins law y m e = let (n, rest, w, size, i) = law y m e in (n, rest, i, w)
-
-pub none_begins : KindsAreRead → (y : List ℕ) → mark y ≡ None → (k : Kind) → Begins k y → ⊥
-none_begins law y e k (m, rest, i, w) = let g = sym e ∙ ap mark w ∙ law k m rest i in absurd (cc)

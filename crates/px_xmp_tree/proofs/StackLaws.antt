@@ -5,8 +5,8 @@ use Rattle.px_xmp_marks.specs.Reading.{name_view}
 use Rattle.px_xmp_marks.specs.declared.names.Name.{Name}
 use Rattle.px_xmp_tree.specs.calls.Stacks.{stack_of}
 
-pub length-stack_of : (n : ℕ) (names : List Name) → n ≤ length names → length (stack_of n names) ≡ n
-length-stack_of n names h = length-reverse (map name_view (take n names)) ∙ length-map (take n names) name_view ∙ length-take-le n names h
+pub length_stack_of : (n : ℕ) (names : List Name) → n ≤ length names → length (stack_of n names) ≡ n
+length_stack_of n names h = length-reverse (map name_view (take n names)) ∙ length-map (take n names) name_view ∙ length-take-le n names h
 
 one_last : (names : List Name) (m : Name) → reverse (map name_view (names ++ m ∷ [])) ≡ name_view m ∷ reverse (map name_view names)
 one_last names m = ap reverse (map-append name_view names (m ∷ [])) ∙ reverse-append (map name_view names) (name_view m ∷ [])

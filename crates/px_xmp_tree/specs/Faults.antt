@@ -3,7 +3,8 @@ use Rattle.std.specs.Prelude.{◌≡◌, ◌≢◌, ◌≤◌, ◌⊎◌, ℕ, n
 use Rattle.std.specs.List.{starts_with}
 use Rattle.px_xmp_marks.specs.Reading.{Named}
 use Rattle.px_xmp_tree.specs.declared.faults.Cause.{Cause}
-use Rattle.px_xmp_tree.specs.declared.faults.Cause.TheVariants.{NoMark, DocumentType, OtherEnd, TooDeep, OutsideRoot, SecondRoot, NoRoot, NoEnd}
+use Rattle.px_xmp_tree.specs.declared.faults.Cause.TheVariants.{NoMark, DocumentType, OtherEnd, TooDeep, OutsideRoot, SecondRoot, NoRoot}
+use Rattle.px_xmp_tree.specs.declared.faults.Cause.TheVariants.{NoEnd}
 use Rattle.px_xmp_tree.specs.Kinds.{Kind, Opening, Closing, Alone, Misc, Data, AreKinds, Begins}
 use Rattle.px_xmp_tree.specs.Nesting.{limit, Place, Among, After, LeadTo}
 

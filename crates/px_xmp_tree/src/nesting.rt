@@ -139,7 +139,8 @@ impl<'a> Nesting<'a> {
     }
 
     fn close(&mut self, name: Name<'a>) -> Option<Cause>
-        ensures { MatchOption result (Step (Closing (name_view name.entry)) self.old self.new) (λ c. IsWrongEnd (name_view name.entry) self.old c) }
+        ensures { MatchOption result (Step (Closing (name_view name.entry)) self.old self.new)
+            (λ c. IsWrongEnd (name_view name.entry) self.old c) }
     {
         if self.has_ended {
             return Some(Cause::OtherEnd);
