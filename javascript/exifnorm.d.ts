@@ -44,7 +44,7 @@ export class Refused extends Error {
   /** The byte offset in the block. The six bytes "Exif\0\0" before an Exif block are not counted. */
   readonly offset: number;
   /** @deprecated The older name of `offset`. */
-  readonly place: number;
+  get place(): number;
   /** For two blocks, the number of the one that is refused; otherwise null. */
   readonly side: 1 | 2 | null;
 }

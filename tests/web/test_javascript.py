@@ -152,8 +152,8 @@ def declared(text):
     for name, parameters in re.findall(r"export function (\w+)\((.*?)\): ", plain):
         found[name] = ["function", parameters.count(":")]
     for name, body in re.findall(r"export class (\w+)[^{]*\{(.*?)\}", plain, re.S):
-        methods = re.findall(r"(?m)^  (?!constructor)(\w+)\(", body)
-        found[name] = ["class", sorted([*methods, *(re.findall(r"readonly (\w+)", body) if methods else [])])]
+        methods, getters = re.findall(r"(?m)^  (?!constructor)(\w+)\(", body), re.findall(r"(?m)^  get (\w+)\(", body)
+        found[name] = ["class", sorted([*methods, *getters, *(re.findall(r"readonly (\w+)", body) if methods else [])])]
     return found
 
 

@@ -57,7 +57,7 @@ impl<'a> Stack<'a> {
         self.len
     }
 
-    fn push(&mut self, name: Name<'a>)
+    fn put(&mut self, name: Name<'a>)
         requires { length self.old < limit }
         ensures { self.new ≡ name_view name.entry ∷ self.old }
     {
@@ -118,7 +118,7 @@ impl<'a> Nesting<'a> {
         if self.names.len() == LIMIT {
             return Some(Cause::TooDeep);
         }
-        self.names.push(name);
+        self.names.put(name);
         None
     }
 

@@ -2,7 +2,7 @@ use Rattle.std.proofs.Common.{length, ap, ◌∙◌, ◌∷◌, arith}
 use Rattle.std.proofs.lemmas.List.{length-set}
 use Rattle.px_xmp_marks.specs.Reading.{name_view}
 use Rattle.px_xmp_tree.proofs.StackLaws.{length_stack_of, stack_push}
-use Rattle.px_xmp_tree.proofs.nesting.Stack.push.Goals as goal
+use Rattle.px_xmp_tree.proofs.nesting.Stack.put.Goals as goal
 
 pub bounds-self-inside-self-inside : goal.bounds-self-inside-self-inside
 bounds-self-inside-self-inside c =
