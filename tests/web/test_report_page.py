@@ -76,10 +76,17 @@ def report(tmp_path_factory: pytest.TempPathFactory, library: Path) -> Path:
 
 
 @pytest.fixture(scope="module")
-def browser(report: Path) -> Iterator[Browser]:
-    started = Browser(report)
-    yield started
-    started.end()
+def started(report: Path) -> Iterator[Browser]:
+    browser = Browser(report)
+    yield browser
+    browser.end()
+
+
+@pytest.fixture
+def browser(started: Browser) -> Browser:
+    """In a wide window: other tests may have made it as narrow as a telephone, where heads of tables are hidden."""
+    started.show()
+    return started
 
 
 def opened(browser: Browser, report: Path, **words: Any) -> Browser:
