@@ -70,7 +70,7 @@ class Columns(Generic[Record]):
         return self._made(row + self._others)
 
     def _shortness(self, kinds: Tuple[type, ...]) -> _IsShort:
-        """The function that tells of a row with values of these types whether none is as long as the longest value of any column."""
+        """For rows with values of these types: whether all texts and bytes of a row are short enough for each of its columns."""
         sized = [at for at, kind in enumerate(kinds) if kind in (str, bytes)]
         most = min((self.longest[at] for at in sized), default=0)
         if len(sized) < 2:
