@@ -98,14 +98,14 @@ def test_structures_are_those_of_exiftool(tmp_path):
     words = [
         "-XMP-xmpMM:DerivedFrom={DocumentID=xmp.did:1,InstanceID=xmp.iid:2}",
         "-XMP-xmpMM:History=[{Action=created,SoftwareAgent=A},{Action=saved,Changed=/}]",
-        "-XMP-iptcExt:LocationCreated={City=Bern,LocationName=Kirche}",
-        "-XMP-iptcExt:LocationCreated-de={LocationName=Kirche auf dem Berg}",
+        "-XMP-iptcExt:LocationCreated={City=Bern,LocationName=Kirche,LocationName-de=Kirche auf dem Berg}",
         "-XMP-mwg-rs:RegionInfo={AppliedToDimensions={W=3,H=2,Unit=pixel},RegionList=[{Name=Anna,Type=Face}]}",
     ]
     subprocess.run(["exiftool", "-q", "-config", "", "-overwrite_original", *words, tmp_path / "a.jpg"], check=True)
     ask = ["exiftool", "-q", "-config", "", "-json", "-struct", "-n", "-XMP:all", tmp_path / "a.jpg"]
     (theirs,) = json.loads(subprocess.run(ask, stdout=subprocess.PIPE, check=True).stdout)
     ours = pictures.read(tmp_path / "a.jpg")
+    assert theirs["LocationCreated"][0].pop("LocationName-de") == "Kirche auf dem Berg"
     for name, word in (*zip(*[("DerivedFrom", "History", "LocationCreated")] * 2), ("Regions", "RegionInfo")):
         (key,) = (it for it in ours.names if it.endswith(f":{name}"))
         expected = json.loads(json.dumps(theirs[word]), object_hook=lambda it: {one.casefold(): value for one, value in it.items()})

@@ -168,6 +168,7 @@ def test_a_report_of_a_damaged_catalogue(command, values):
         b'[["xmp","dc:title","text",1,[{"fields":[["a"]]}]]]',
         b'[["xmp","dc:title","text",1,[{}]]]',
         pytest.param(b"[" * 100_000, id="100,000 brackets"),
+        pytest.param(b'[["xmp","a","Bag",1,[' + b'{"Bag":[' * 200 + b"]}" * 200 + b"]]]", id="200 lists in one another"),
         b"\0\x11",
         zlib.compress(b"7"),
         zlib.compress(b"\xff"),

@@ -230,6 +230,21 @@ def test_fields_of_each_standard(folder, called, asked):
     assert json.loads(called("list", "c", "--geojson", "--where", "title = none")[1]) == {"type": "FeatureCollection", "features": []}
 
 
+def test_structures_are_asked_for_by_their_plain_words(folder, called, asked):
+    """Also in a list in which one member is a text."""
+    structure = "<rdf:li rdf:parseType='Resource'><dc:source>Attic</dc:source></rdf:li>"
+    packets = {
+        "a": f"<dc:relation><rdf:Seq>{structure}<rdf:li>vase</rdf:li></rdf:Seq></dc:relation>",
+        "b": "<dc:relation><rdf:Seq><rdf:li>vase</rdf:li></rdf:Seq></dc:relation>",
+        "c": f"<dc:relation><rdf:Bag>{structure}</rdf:Bag></dc:relation>",
+    }
+    put(folder / "p", {f"{name}.jpg": jpeg(app1_xmp(xmp(packet))) for name, packet in packets.items()})
+    called("index", "p", "--catalogue", "c", "--quiet")
+    assert asked("--where", "XMP-dc:relation has attic")[0] == ["a.jpg", "c.jpg"]
+    assert asked("--where", "XMP-dc:relation has vase")[0] == ["a.jpg", "b.jpg"]
+    assert asked("--where", "XMP-dc:relation = vase")[0] == ["b.jpg"]
+
+
 @needs("exiftool")
 def test_owners_in_maker_notes(folder, called, asked):
     """A MakerNote may have a serial number or an owner: where ExifTool wasn't asked, that isn't known."""

@@ -71,15 +71,21 @@ def texts_of_field(field: Field) -> List[str]:
     >>> texts_of_field(Field("exif", "829a", "RATIONAL", 1, ((10, 1250),))), texts_of_field(Field("main", "013b", "ASCII", 5, b"Otto\\0"))
     (['0.008'], ['Otto'])
     """
-    value = typed(field)
-    texts = [_text(it) for it in (value if isinstance(value, list) else [value])]
-    known = [it for it in texts if it and len(it) <= LONGEST_TEXT]
-    return known or [plain(field)[:LONGEST_TEXT]]
+    values = list(_members(typed(field)))
+    known = [text for text in map(_text, values) if text and len(text) <= LONGEST_TEXT]
+    return known if known and not any(isinstance(value, dict) for value in values) else [plain(field)[:LONGEST_TEXT]]
+
+
+def _members(value: Any) -> Iterator[Any]:
+    """The members of a list, of lists in it too; of a text with its language the text."""
+    if isinstance(value, list):
+        for member in value:
+            yield from _members(member)
+    else:
+        yield value["text"] if isinstance(value, dict) and "text" in value else value
 
 
 def _text(value: Any) -> str:
-    if isinstance(value, dict):
-        return str(value.get("text", "")).strip()
     if isinstance(value, float):
         return format(Decimal(repr(value)).normalize(), "f")
     return "" if value is None else str(value).strip()

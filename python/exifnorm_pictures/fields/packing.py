@@ -17,7 +17,7 @@ import json
 from itertools import starmap
 from typing import Any, Callable, Iterable, List, NamedTuple, Optional, Sequence
 
-from ..model.budgets import FIELD_BYTES
+from ..model.budgets import FIELD_BYTES, NESTED
 from ..model.columns import Damaged
 from ..model.xmp_values import Array, Literal, Long, Uri, Structure, XmpValue
 from .field import Content, Field, Identity
@@ -186,23 +186,25 @@ def _value(where: str, kind: str, count: int, value: Any) -> Content:
     return tuple(zip(numbers[0::2], numbers[1::2]))
 
 
-def _property(value: Any) -> XmpValue:
+def _property(value: Any, depth: int = 0) -> XmpValue:
     if isinstance(value, str):
         return Literal(value)
     if isinstance(value, list):
         return Literal(*map(_text, value))
     if not isinstance(value, dict):
         raise ValueError("a value of another type")
+    if depth > NESTED:
+        raise ValueError("a value that is nested too deep")
     (word, *more), (first, *others) = value, value.values()
     if word == "fields":
-        return Structure(tuple([(_text(name), _property(one)) for name, one in first]))
+        return Structure(tuple([(_text(name), _property(member, depth + 1)) for name, member in first]))
     if word == "uri":
         return Uri(_text(first))
     if word == "sha256":
         return Long(_text(first), _text(*others))
     if word not in ("Alt", "Bag", "Seq") or more:
         raise ValueError("a value of another form")
-    return Array(word, tuple([_property(it) for it in _list(first)]))
+    return Array(word, tuple([_property(member, depth + 1) for member in _list(first)]))
 
 
 def _text(value: Any) -> str:

@@ -8,10 +8,10 @@ from datetime import date, datetime, time
 from fractions import Fraction
 from typing import Any, Dict, List, Optional, Sequence, Tuple, Union
 
-from ..model.xmp_values import Array, Literal, Long, LongStructure, Structure, Uri, XmpValue
+from ..model.xmp_values import Array, Literal, Long, LongStructure, Structure, Uri, XmpValue, exact
 from .field import Field
-from .listing import is_comment, is_wide_text, kept_value, marked_text
-from .plain_texts import comment, is_utf8, xmp_texts
+from .listing import LONGEST_TEXT, is_comment, is_wide_text, kept_value, marked_text
+from .plain_texts import comment, is_utf8
 from .xmp_types import object_of
 
 Value = Union[str, int, float, bool, Fraction, datetime, date, time, bytes, None, Tuple[Any, ...], Dict[str, Any]]
@@ -52,7 +52,7 @@ def value_of(field: Field) -> Value:
 
 
 def typed(field: Field) -> Any:
-    """The value of a field as JSON has it; None for a structure of XMP.
+    """The value of a field as JSON has it: the same in catalogues, but for structures of XMP that these don't keep whole.
 
     >>> typed(Field("main", "0112", "SHORT", 1, (6,))), typed(Field("exif", "829a", "RATIONAL", 1, ((10, 1250),)))
     (6, 0.008)
@@ -177,10 +177,7 @@ def _one_of_xmp(name: str, value: XmpValue) -> Value:
     if isinstance(value, LongStructure):
         return _one_of_xmp(name, value.value)
     if isinstance(value, Structure):
-        by_name: Dict[str, List[XmpValue]] = {}
-        for member_name, member in value.members:
-            by_name.setdefault(member_name, []).append(member)
-        return {member_name: _of_xmp(member_name, values) for member_name, values in by_name.items()}
+        return {member_name: _of_xmp(member_name, values) for member_name, values in _by_name(value).items()}
     if not isinstance(value, Array):
         return None
     members = value.members
@@ -206,15 +203,47 @@ def languages_of(field: Field) -> Dict[str, str]:
 
 
 def _json_of_xmp(field: Field) -> Any:
-    """The value of a property as JSON has it: by its type, but dates are texts; a list; or a list of texts with their languages."""
-    pairs = xmp_texts(field.with_content(kept_value(field)))
-    if pairs is None:
-        long = [one for one in kept_value(field) if isinstance(one, Long)]
-        return {"sha256": long[0].digest, "count": field.count} if long else None
-    if any(language for _, language in pairs):
-        return [{"text": text, "language": language or None} for text, language in pairs]
-    values = [_json_of_text(field.tag, text) for text, _ in pairs]
-    return values[0] if field.type in ("text", "URI") and len(values) == 1 else values
+    """The value of a property as JSON has it: of one that isn't kept whole its digest, and of a long structure that was read just now itself."""
+    values = [_whole_structure(it) for it in kept_value(field)]
+    long = [it for it in values if isinstance(it, Long)]
+    return {"sha256": long[0].digest, "count": field.count} if long else _json_of_values(field.tag, values)
+
+
+def _whole_structure(value: Any) -> Any:
+    is_short = isinstance(value, LongStructure) and len(exact(value.value).encode("utf-8", "surrogatepass")) <= LONGEST_TEXT
+    return value.value if is_short else value
+
+
+def _json_of_values(name: str, values: Sequence[XmpValue]) -> Any:
+    """The values of a property, or of a field of a structure: one of them, or all as a list; a text that has a language is in a list, too.
+
+    >>> _json_of_values("xmpMM:History", [Array("Seq", (Structure((("stEvt:action", Literal("saved")),)),))])
+    [{'stEvt:action': 'saved'}]
+    """
+    has_language = any(isinstance(it, Literal) and it.language for it in values)
+    members = [_json_of_value(name, it, has_language) for it in values]
+    return members[0] if len(members) == 1 and not has_language else members
+
+
+def _json_of_value(name: str, value: XmpValue, has_language: bool) -> Any:
+    """A text by its type, but dates are texts, and as an object if its list has a language; a list; or a structure's fields by their names."""
+    if isinstance(value, Literal):
+        return {"text": value.text, "language": value.language or None} if has_language else _json_of_text(name, value.text)
+    if isinstance(value, Uri):
+        return {"text": value.uri, "language": None} if has_language else _json_of_text(name, value.uri)
+    if isinstance(value, Array):
+        with_language = any(isinstance(it, Literal) and it.language for it in value.members)
+        return [_json_of_value(name, it, with_language) for it in value.ordered()]
+    if isinstance(value, Structure):
+        return {member_name: _json_of_values(member_name, values) for member_name, values in _by_name(value).items()}
+    return None
+
+
+def _by_name(structure: Structure) -> Dict[str, List[XmpValue]]:
+    by_name: Dict[str, List[XmpValue]] = {}
+    for name, value in structure.members:
+        by_name.setdefault(name, []).append(value)
+    return by_name
 
 
 def _json_of_text(name: str, text: str) -> Any:
