@@ -81,7 +81,7 @@ def ended(folder, monkeypatch):
             raise
 
     monkeypatch.setenv("PATH", "/nowhere")
-    monkeypatch.setattr(thumbnails.Shrinker, "small", lambda *_: b"")
+    monkeypatch.setattr(thumbnails.Shrinker, "_answer", lambda *_: b"")
     monkeypatch.setattr(budgets.time, "thread_time", lambda: next(seconds))
     monkeypatch.setattr(budgets.Budget, "check_time", check)
     return budgets_ended

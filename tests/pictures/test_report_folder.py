@@ -72,8 +72,8 @@ def test_every_picture_is_there_on_pages_of_at_most_200(archive: Path, called: C
 
 
 def is_page(address: str) -> bool:
-    """Whether an address is a page's of the same folder."""
-    return re.fullmatch(r"[a-z]+(-\d+)?\.html(#[a-z]+(-\d+|-title)?)?", address) is not None
+    """Whether an address is that of a page or a small picture of the same folder."""
+    return re.fullmatch(r"[a-z]+(-\d+)?\.html(#[a-z]+(-\d+|-title)?)?|small-[0-9a-f]{64}-[1-8]\.jpg", address) is not None
 
 
 def test_each_link_leads_to_a_page_and_a_place_of_the_report(archive: Path, called: Called) -> None:
@@ -193,6 +193,7 @@ def test_what_a_killed_run_left_is_removed_by_the_next_one(small: Path, called: 
 
     killed()
     assert len(left()) == 1
+    put(str(small / left()[0]), {f"small-{number:064x}-1.jpg": b"x" for number in range(2_500)})
     shutil.copytree(small / left()[0], small / ".exifnorm-abcd_123.part")
     (small / ".exifnorm-abcd_123.part" / "mine.txt").write_text("mine")
     with folders.replaced(os.fsencode(small / "other"), "exifnorm-report", ["c"]) as living:
@@ -202,6 +203,33 @@ def test_what_a_killed_run_left_is_removed_by_the_next_one(small: Path, called: 
     killed()
     assert called("report", "c", "--html", "report/")[0] == 0
     assert left() == [".exifnorm-abcd_123.part"] and pages_of(small / "other").keys() == {"index.html"}
+
+
+def test_what_is_put_into_the_earlier_folder_meanwhile_stays(small: Path, called: Called, monkeypatch: pytest.MonkeyPatch) -> None:
+    """Also at the last moment, when the names are exchanged: then it stays in the folder that is left."""
+    assert called("report", "c", "--html", "report/", "--title", "One")[0] == 0
+    written = folders.NewFolder.write
+    note = small / "report" / "note.txt"
+
+    def write(folder: folders.NewFolder, *words: Any) -> None:
+        written(folder, *words)
+        note.write_text("mine")
+
+    with monkeypatch.context() as patched:
+        patched.setattr(folders.NewFolder, "write", write)
+        status, _, messages = called("report", "c", "--html", "report/")
+        assert status == 4 and "note.txt" in messages and note.read_text() == "mine"
+    note.unlink()
+    exchanged = folders._put
+
+    def put_late(*paths: bytes) -> None:
+        note.write_text("mine")
+        exchanged(*paths)
+
+    monkeypatch.setattr(folders, "_put", put_late)
+    assert called("report", "c", "--html", "report/", "--title", "Two")[0] == 0
+    (left,) = small.glob(".exifnorm-*.part")
+    assert "<h1>Two</h1>" in pages_of(small / "report")["index.html"] and [it.name for it in left.iterdir()] == ["note.txt"]
 
 
 def test_without_an_exchange_of_names(small: Path, called: Called, monkeypatch: pytest.MonkeyPatch) -> None:
@@ -249,7 +277,7 @@ def test_another_picture_is_shown_beside_the_earlier_one(is_replaced: bool, fold
     (pair,) = re.findall(r'<ul class="small pair">(.*?)</ul>', (folder / "page.html").read_text(encoding="utf-8"), re.S)
     before, after = pair.split("<li>")[1:]
     assert [os.path.dirname(it) for it in files_of(re.findall('href="([^"]*)"', before))] == [os.fsencode(folder / "x")] * (not is_replaced)
-    assert ("<img" in before, "earlier report" in before) == (not is_replaced, is_replaced)
+    assert ("<img" in before, "the earlier file is gone" in before) == (not is_replaced, is_replaced)
     assert files_of(re.findall('href="([^"]*)"', after)) == {os.fsencode(folder / sides[1] / "a.jpg")} and "<img" in after
 
 

@@ -4,24 +4,35 @@ import base64
 import contextlib
 import io
 import os
+import re
 import struct
 from pathlib import Path
-from typing import Any, Dict, Iterator
+from typing import Any, Callable, Dict, Iterator, List, Sequence
+from unittest import mock
 
 import pytest
+from made_files import app1
 from studio import SMALL_JPEG
 
-from exifnorm_pictures.report import shrinking, thumbnails
+from exifnorm_pictures.report import shrinking, small_pictures, thumbnails
 
 Image = pytest.importorskip("PIL.Image")
 LARGEST = 10_000
 RED, BLUE = (255, 0, 0), (0, 0, 255)
+Called = Callable[..., Any]
 
 
 @pytest.fixture
 def shrinker() -> Iterator[thumbnails.Shrinker]:
     with contextlib.closing(thumbnails.Shrinker()) as process:
         yield process
+
+
+def small(paths: Sequence[bytes], shrinker: thumbnails.Shrinker) -> Dict[bytes, str]:
+    """The addresses of the small pictures of some files, on one page."""
+    pictures = small_pictures.SmallPictures([], small_pictures.InPage())
+    pictures._shrinker = shrinker
+    return pictures.of(paths)
 
 
 def half_red(size: Any = (800, 400), mode: str = "RGB") -> Any:
@@ -52,7 +63,7 @@ def is_red(colour: Any) -> bool:
 )
 def test_each_format_has_one(name: str, mode: str, tmp_path: Path, shrinker: thumbnails.Shrinker) -> None:
     path = saved(half_red(mode=mode), tmp_path / name)
-    picture = shown(thumbnails.small_pictures([path], shrinker), path)
+    picture = shown(small([path], shrinker), path)
     assert max(picture.size) <= 300 and abs(picture.size[0] / picture.size[1] - 2) < 0.05
     if mode != "L":
         assert is_red(picture.getpixel((picture.width // 2, 5))) and not is_red(picture.getpixel((picture.width // 2, picture.height - 5)))
@@ -60,7 +71,7 @@ def test_each_format_has_one(name: str, mode: str, tmp_path: Path, shrinker: thu
 
 def test_noise_is_small_too(tmp_path: Path, shrinker: thumbnails.Shrinker) -> None:
     path = saved(Image.frombytes("RGB", (900, 600), os.urandom(900 * 600 * 3)), tmp_path / "noise.png")
-    shown(thumbnails.small_pictures([path], shrinker), path)
+    shown(small([path], shrinker), path)
 
 
 # CIPA DC-008, 4.6.5: where the stored first row and first column are shown
@@ -76,6 +87,7 @@ def test_it_is_the_right_way_up(orientation: int, side: str, with_thumbnail: boo
     embedded = io.BytesIO()
     half_red((160, 80)).save(embedded, "JPEG")
     octets = shrinker.small(path, embedded.getvalue() if with_thumbnail else b"")
+    assert shrinker.orientation(path) == orientation
     picture = Image.open(io.BytesIO(octets))
     width, height = picture.size
     points = {"top": (width // 2, 3), "bottom": (width // 2, height - 4), "left": (3, height // 2), "right": (width - 4, height // 2)}
@@ -96,7 +108,7 @@ def test_hostile_pictures_cost_their_tile(tmp_path: Path, shrinker: thumbnails.S
         files[name] = os.fsencode(tmp_path / name)
     os.mkfifo(tmp_path / "pipe")
     files.update({"pipe": os.fsencode(tmp_path / "pipe"), "gone": b"/no such file", "3.jpg": saved(half_red(), tmp_path / "3.jpg")})
-    uris = thumbnails.small_pictures([*files.values()], shrinker)
+    uris = small([*files.values()], shrinker)
     assert {name for name, path in files.items() if path in uris} - {"bomb.png"} == {"1.jpg", "2.jpg", "3.jpg"}
 
 
@@ -112,7 +124,7 @@ def test_no_program_is_run(octets: bytes, tmp_path: Path, shrinker: thumbnails.S
     monkeypatch.setenv("PATH", f"{tmp_path}:{os.environ['PATH']}")
     (tmp_path / "a.eps").write_bytes(octets)
     paths = [os.fsencode(tmp_path / "a.eps"), saved(half_red(), tmp_path / "b.jpg")]
-    assert [*thumbnails.small_pictures(paths, shrinker)] == paths[1:]
+    assert [*small(paths, shrinker)] == paths[1:]
     assert not (tmp_path / "taken").exists()
 
 
@@ -131,8 +143,8 @@ def test_what_ends_the_process_costs_a_tile(
     assert faulty != source
     (tmp_path / "shrinking.py").write_text(faulty.replace("SECONDS, MEMORY = 10,", "SECONDS, MEMORY = 0,"))
     monkeypatch.setattr(shrinking, "__file__", str(tmp_path / "shrinking.py"))
-    paths = [saved(half_red(), tmp_path / name) for name in ("1.jpg", "bad.jpg", "2.jpg")]
-    made = [*thumbnails.small_pictures(paths, shrinker)]
+    paths = [saved(half_red((800, height)), tmp_path / name) for name, height in (("1.jpg", 400), ("bad.jpg", 410), ("2.jpg", 420))]
+    made = [*small(paths, shrinker)]
     assert made == (paths if "abcdefgh" in what or "255" in what else [paths[0], paths[2]])  # what is printed changes nothing
 
 
@@ -141,6 +153,134 @@ def test_without_pillow_there_are_thumbnails(tmp_path: Path) -> None:
     shrinker.is_there = False
     exif = Image.Exif()
     path = saved(half_red(), tmp_path / "a.jpg", exif=exif)
-    assert thumbnails.small_pictures([path], shrinker) == {}
+    assert small([path], shrinker) == {}
     sample = os.fsencode(Path(__file__).resolve().parents[2] / "samples/before/ceramics/1998-7-vase.jpg")
-    assert shown(thumbnails.small_pictures([sample], shrinker), sample).size[0] <= 300
+    assert shown(small([sample], shrinker), sample).size[0] <= 300
+
+
+# Each is made once for one coded picture, and kept
+
+
+@pytest.fixture
+def made(monkeypatch: pytest.MonkeyPatch) -> List[str]:
+    """The names of the files that are decoded."""
+    names: List[str] = []
+    small = thumbnails.Shrinker.small
+
+    def counted(shrinker: thumbnails.Shrinker, path: bytes, *words: Any) -> bytes:
+        names.append(os.path.basename(os.fsdecode(path)))
+        return small(shrinker, path, *words)
+
+    monkeypatch.setattr(thumbnails.Shrinker, "small", counted)
+    return names
+
+
+def captioned(picture: Any, path: Path, text: str, orientation: int = 1) -> None:
+    exif = Image.Exif()
+    exif[0x010E], exif[0x0112] = text, orientation
+    path.parent.mkdir(exist_ok=True)
+    saved(picture, path, exif=exif)
+
+
+def kept(report: Path) -> List[str]:
+    return sorted(it.name for it in report.glob("*.jpg"))
+
+
+def sources(report: Path) -> List[str]:
+    """The small pictures that the pages show."""
+    pages = "".join(it.read_text(encoding="utf-8") for it in report.glob("*.html"))
+    return re.findall(r'<img src="([^"]*)"', pages)
+
+
+@pytest.mark.parametrize("words", [[], ["--pixels"]])
+@pytest.mark.parametrize("ending, copies", [("jpg", 1), ("gif", 20)])
+def test_copies_are_decoded_once_and_a_second_report_decodes_nothing(
+    words: List[str], ending: str, copies: int, folder: Path, called: Called, made: List[str]
+) -> None:
+    """20 copies, of JPEGs each with its own caption, are one small picture; one that is turned is another one, as is a new picture."""
+    for number in range(20):
+        captioned(half_red(), folder / "p" / f"{number}.{ending}", str(number // copies))
+    captioned(half_red(), folder / "p" / "turned.jpg", "turned", 6)
+    called("index", "p", "--catalogue", "c", "--quiet", *words)
+    assert called("report", "c", "--html", "report/")[0] == 0
+    assert len(made) == 2 and len(kept(folder / "report")) == 2, "made more than once"
+    assert len(sources(folder / "report")) >= 21 and set(sources(folder / "report")) == set(kept(folder / "report"))
+    before = {it: (folder / "report" / it).read_bytes() for it in kept(folder / "report")}
+    made.clear()
+    assert called("report", "c", "--html", "report/")[0] == 0
+    assert made == [] and {it: (folder / "report" / it).read_bytes() for it in kept(folder / "report")} == before
+    captioned(half_red((600, 400)), folder / "p" / "new.jpg", "new")
+    (folder / "p" / "turned.jpg").unlink()
+    called("index", "p", "--catalogue", "c", "--quiet", *words)
+    assert called("report", "c", "--html", "report/")[0] == 0
+    assert made == ["new.jpg"] and len(kept(folder / "report")) == 2, "one that no page shows is kept"
+
+
+def test_one_page_decodes_each_picture_once(folder: Path, called: Called, made: List[str]) -> None:
+    """Though it is in several lists, and though another one can't be decoded."""
+    for number in range(3):
+        captioned(half_red(), folder / "p" / f"{number}.jpg", "the same")
+    (folder / "p" / "cut.jpg").write_bytes((folder / "p" / "0.jpg").read_bytes()[:-900])
+    called("index", "p", "--catalogue", "c", "--quiet")
+    called("report", "c", "--html", "page.html")
+    assert sorted(made) == ["0.jpg", "cut.jpg"]
+    assert (folder / "page.html").read_text(encoding="utf-8").count('<img src="data:') == 6
+
+
+def test_the_earlier_picture_of_a_file_that_was_replaced(folder: Path, called: Called) -> None:
+    """It is in the report that is replaced, from which the new one takes it. The thumbnail within, which shows the earlier picture still, is
+    shown on neither side."""
+    thumbnail = io.BytesIO()
+    half_red((160, 80)).save(thumbnail, "JPEG")
+    path = folder / "p" / "a.jpg"
+    path.parent.mkdir()
+    for name, picture in (("old", half_red()), ("c", Image.new("RGB", (800, 400), BLUE))):
+        plain = io.BytesIO()
+        picture.save(plain, "JPEG")
+        path.write_bytes(plain.getvalue()[:2] + app1(with_thumbnail(thumbnail.getvalue())) + plain.getvalue()[2:])
+        assert thumbnails.thumbnail_of(os.fsencode(path)) == thumbnail.getvalue()
+        called("index", "p", "--catalogue", name, "--quiet", "--pixels")
+        words = ["--since", "old"] if name == "c" else []
+        assert called("report", name, *words, "--html", "report/")[0] == 0
+    page = (folder / "report" / "index.html").read_text(encoding="utf-8")
+    before, after = re.findall(r'<li>(?:<a[^>]*>)?<img src="([^"]*)" alt="">(?:before|after)', page)
+    shades = [is_red(Image.open(folder / "report" / it).getpixel((100, 20))) for it in (before, after)]
+    assert shades == [True, False]
+    assert "the earlier file is gone" not in page and "as the last report kept it" in page
+
+
+def with_thumbnail(octets: bytes) -> bytes:
+    """An Exif block with a thumbnail (CIPA DC-008, 4.5.5)."""
+    entries = [(0x0103, 3, 1, 6), (0x0201, 4, 1, 68), (0x0202, 4, 1, len(octets))]
+    first = struct.pack("<HHHIII", 1, 0x0112, 3, 1, 1, 26)
+    second = struct.pack("<H", 3) + b"".join(struct.pack("<HHII", *it) for it in entries) + bytes(4)
+    return b"II*\0\x08\0\0\0" + first + second + octets
+
+
+@pytest.mark.parametrize("what", ["no links", "a folder", "a link", "too long", "empty"])
+def test_what_is_taken_of_an_earlier_report(
+    what: str, folder: Path, called: Called, made: List[str], monkeypatch: pytest.MonkeyPatch
+) -> None:
+    """A small file, by another way if there are no links; nothing else that has its name, and nothing where that leads to."""
+    captioned(half_red(), folder / "p" / "a.jpg", "a")
+    called("index", "p", "--catalogue", "c", "--quiet")
+    called("report", "c", "--html", "report/")
+    (name,) = kept(folder / "report")
+    octets = (folder / "report" / name).read_bytes()
+    (folder / "other.jpg").write_bytes(b"other")
+    (folder / "report" / name).unlink()
+    if what == "a folder":
+        (folder / "report" / name).mkdir()
+    elif what == "a link":
+        (folder / "report" / name).symlink_to(folder / "other.jpg")
+    else:
+        (folder / "report" / name).write_bytes({"no links": octets, "too long": b"x" * 10_001, "empty": b""}[what])
+    if what == "no links":
+        monkeypatch.setattr(os, "link", mock.Mock(side_effect=PermissionError))
+    made.clear()
+    status, _, messages = called("report", "c", "--html", "report/")
+    if what in ("a folder", "a link"):
+        assert status == 4 and name in messages and (folder / "report" / name).exists(), "something else is replaced"
+    else:
+        assert (folder / "report" / name).read_bytes() == octets and made == ["a.jpg"] * (what != "no links")
+    assert (folder / "other.jpg").read_bytes() == b"other"

@@ -267,6 +267,19 @@ def test_without_scripts_everything_is_there(page: str, browser: Browser, report
         browser.call("Emulation.setScriptExecutionDisabled", value=False)
 
 
+@pytest.mark.parametrize("pages", ["page.html", "pages/*.html"])
+def test_small_pictures_are_shown(pages: str, browser: Browser, report: Path) -> None:
+    """The policy allows those of the page or the folder, where they are opened as files."""
+    browser.log.clear()
+    shown = 0
+    for page in sorted(report.glob(pages)):
+        browser.open(f"file://{page}")
+        widths = browser.ask("[...document.images].map((it) => it.naturalWidth)")
+        assert 0 not in widths, f"{page.name} has pictures that nobody sees"
+        shown += len(widths)
+    assert shown > 1 and browser.log == []
+
+
 @pytest.mark.parametrize("page", [*PAGES, "pages/changed-1.html"])
 def test_names_and_texts_run_nothing(page: str, browser: Browser, report: Path) -> None:
     """Neither what is on the page nor what is found."""

@@ -4,7 +4,7 @@ from __future__ import annotations
 
 import os
 import sys
-from typing import TYPE_CHECKING, BinaryIO, Callable, Optional, Sequence
+from typing import TYPE_CHECKING, BinaryIO, Optional, Sequence
 
 from ..files import atomic, folders
 from ..scan.progress import Progress
@@ -22,7 +22,7 @@ def write_report(about: About, name: str, kept: Sequence[str]) -> None:
     try:
         if name.endswith("/") or os.path.isdir(out):
             with folders.replaced(out, MARK, kept) as folder:
-                folder.write("index.html", _octets(_shown(about, lambda page, text: folder.write(page, _octets(text)))))
+                folder.write("index.html", _octets(_shown(about, folder)))
         else:
             octets = _octets(_shown(about, None))
             atomic.replace(out, lambda file: _write(file, octets), _is_page, tuple(kept))
@@ -30,11 +30,15 @@ def write_report(about: About, name: str, kept: Sequence[str]) -> None:
         raise atomic.NotReplaced(atomic.not_written(name, error)) from None
 
 
-def _shown(about: About, put: Optional[Callable[[str, str], None]]) -> str:
-    """The first page, after all others were written."""
-    from ..report.book import Book  # which takes long to import
+def _shown(about: About, folder: Optional[folders.NewFolder]) -> str:
+    """The first page, after all others were written in a folder."""
+    from ..report import book as books, small_pictures  # which take long to import
 
-    book = Book(about, put)
+    def put(page: str, text: str) -> None:
+        assert folder
+        folder.write(page, _octets(text))
+
+    book = books.Book(about, put, small_pictures.InFolder(folder)) if folder else books.Book(about)
     progress = Progress(book.counts.total, quiet=not sys.stderr.isatty())
     book.done = progress.done
     progress.start()

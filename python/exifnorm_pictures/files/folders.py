@@ -12,27 +12,30 @@ import errno
 import fcntl
 import os
 import re
-import shutil
 import stat
 import tempfile
-from typing import Iterator, List, Optional, Sequence, Tuple
+from itertools import islice
+from typing import Any, Iterator, List, Optional, Sequence, Tuple
 
 from ..model.texts import reason, shown_path
 from . import opening, rights, signals
 from .atomic import NotReplaced
 
 _LONGEST = 64 << 20  # bytes of a list of names
+_AT_ONCE = 1000  # files that are removed
 _HERE, _EXCHANGE = -100, 2  # AT_FDCWD and RENAME_EXCHANGE of Linux
 _PREFIX, _SUFFIX = b".exifnorm-", b".part"
 _NAME = re.compile(re.escape(_PREFIX) + rb"[a-z0-9_]{8}" + re.escape(_SUFFIX))  # as mkdtemp makes it
-_FILE = re.compile(r"[a-z]+(-\d+)?\.(html|js)")  # of a report
+_PAGE = re.compile(r"[a-z]+(-\d+)?\.(html|js)")  # of a report
+_PICTURE = re.compile(r"small-[0-9a-f]{64}-[1-8]\.jpg")  # of a report that has many: the list doesn't name them
+_LARGEST_PICTURE = 10_000  # bytes
 
 
 class NewFolder:
-    """A folder that is being written, flat, with a list of its files."""
+    """A folder that is being written, flat, with a list of its files. `earlier` is the one that it replaces."""
 
-    def __init__(self, path: bytes, allowed: Optional[rights.Rights], sources: Sequence[str]) -> None:
-        self.path, self._allowed, self._sources = path, allowed, sources
+    def __init__(self, path: bytes, earlier: bytes, allowed: Optional[rights.Rights], sources: Sequence[str]) -> None:
+        self.path, self._earlier, self._allowed, self._sources = path, earlier, allowed, sources
         self.names: List[str] = []
 
     def write(self, name: str, octets: bytes) -> None:
@@ -46,7 +49,34 @@ class NewFolder:
             file.write(octets)
             file.flush()
             os.fsync(number)
-        self.names.append(name)
+        if not _PICTURE.fullmatch(name):
+            self.names.append(name)
+
+    def has(self, picture: str) -> bool:
+        """Whether it has a small picture, which is taken from the folder that it replaces, if that has one. Raises `OSError`."""
+        path, earlier = (os.path.join(it, os.fsencode(picture)) for it in (self.path, self._earlier))
+        if os.path.lexists(path):
+            return True
+        try:
+            now = os.lstat(earlier)
+        except OSError:
+            return False
+        if not stat.S_ISREG(now.st_mode) or not 0 < now.st_size <= _LARGEST_PICTURE:
+            return False
+        try:
+            os.link(earlier, path, follow_symlinks=False)
+        except OSError:  # it is another user's, or the file system has no links
+            return self._has_copied(picture, earlier)
+        return True
+
+    def _has_copied(self, picture: str, earlier: bytes) -> bool:
+        try:
+            with opening.reading(earlier) as file:
+                octets = file.read(_LARGEST_PICTURE)
+        except OSError:
+            return False
+        self.write(picture, octets)
+        return True
 
 
 @contextlib.contextmanager
@@ -62,16 +92,17 @@ def replaced(out: bytes, mark: str, sources: Sequence[str]) -> Iterator[NewFolde
         raise NotReplaced(reason(error)) from None
     try:
         try:
-            folder = NewFolder(room, before and before[1], sources)
+            folder = NewFolder(room, there, before and before[1], sources)
             yield folder
             folder.write(mark, "".join(f"{name}\n" for name in [_FIRST, *folder.names]).encode())
             _give(room, mark, before and before[0])
+            _rights_of_earlier(there, mark)  # something may have been put there meanwhile
             _put(room, there)
         except OSError as error:
             raise NotReplaced(reason(error)) from None
     finally:
         with signals.signals_held():
-            shutil.rmtree(room, ignore_errors=True)  # of an earlier one, if all went well
+            _remove(room, mark)  # an earlier one, if all went well
         os.close(lock)
 
 
@@ -102,11 +133,30 @@ def _remove_dead(folder: bytes, mark: str) -> None:
         if os.fstat(lock).st_uid != os.geteuid():
             return
         fcntl.flock(lock, fcntl.LOCK_EX | fcntl.LOCK_NB)
-        names = os.listdir(lock)
-        if all(name == mark or _FILE.fullmatch(name) for name in names):
-            shutil.rmtree(folder, ignore_errors=True)
+        with os.scandir(lock) as entries:
+            is_ours = all(_is_ours(entry, mark) for entry in entries)
+        if is_ours:
+            _remove(folder, mark)
     finally:
         os.close(lock)
+
+
+def _is_ours(entry: "os.DirEntry[Any]", mark: str) -> bool:
+    """Whether a file has a name that only files of a report have."""
+    name = os.fsdecode(entry.name)
+    return (name == mark or bool(_PAGE.fullmatch(name) or _PICTURE.fullmatch(name))) and not entry.is_dir(follow_symlinks=False)
+
+
+def _remove(folder: bytes, mark: str) -> None:
+    """Removes a report, however many files it has, and nothing that is in it besides."""
+    with contextlib.suppress(OSError):
+        while True:
+            with os.scandir(folder) as entries:
+                paths = [entry.path for entry in islice((it for it in entries if _is_ours(it, mark)), _AT_ONCE)]
+            if not paths:
+                os.rmdir(folder)
+            for path in paths:
+                os.unlink(path)
 
 
 _FIRST = "The pages of a report by exifnorm-pictures, which a new one replaces:"
@@ -120,8 +170,9 @@ def _rights_of_earlier(there: bytes, mark: str) -> Optional[Tuple[rights.Rights,
         return None
     if not stat.S_ISDIR(now.st_mode):
         raise NotReplaced("it is there, and is no folder")
-    names = os.listdir(there)
-    if not names:
+    with os.scandir(there) as entries:
+        names = {it.name for it in entries if not (_PICTURE.fullmatch(os.fsdecode(it.name)) and it.is_file(follow_symlinks=False))}
+    if not names:  # small pictures alone are no report, and nothing else is lost with them
         return None
     listed = os.path.join(there, os.fsencode(mark))
     try:
@@ -131,7 +182,7 @@ def _rights_of_earlier(there: bytes, mark: str) -> Optional[Tuple[rights.Rights,
         lines = []
     if lines[:1] != [_FIRST]:
         raise NotReplaced(f"it is a folder with other files, such as {shown_path(min(names))}")
-    others = sorted(set(names) - {os.fsencode(line) for line in [mark, *lines]})
+    others = sorted(names - {os.fsencode(line) for line in [mark, *lines]})
     if others:
         raise NotReplaced(f"the earlier report has files that are none of its pages, such as {shown_path(others[0])}")
     return rights.rights_of(there), rights.rights_of(listed)

@@ -15,6 +15,7 @@ from .entries import Entry, pages_of
 from .marks import Marks
 from .rendering import Renderer
 from .searching import SearchIndex
+from .small_pictures import InPage, Kept
 
 INDEX = "index.html"
 MOST_OF_A_PAGE = 2_000  # files of a report that is one page
@@ -62,15 +63,15 @@ class Written:
 class Book:
     """Writes the lists of a report, and then its first page."""
 
-    def __init__(self, about: About, put: Optional[Put] = None) -> None:
-        """`put` writes the further pages of a folder; without it there is one page. Raises `TooLarge`."""
+    def __init__(self, about: About, put: Optional[Put] = None, kept: Optional[Kept] = None) -> None:
+        """`put` writes the further pages of a folder, and small pictures are `kept` there; without these there is one page. Raises `TooLarge`."""
         self.about, self._put = about, put
         self.done: Callable[[int], None] = lambda count: None  # gets the number of pictures that are shown
         self.counts = lists.counts_of(about)
         if not put and self.counts.total > MOST_OF_A_PAGE:
             raise TooLarge(f"{self.counts.total:,} files are too many")
         self._marks = Marks()
-        self._renderer = Renderer(about, self._marks)
+        self._renderer = Renderer(about, self._marks, kept or InPage())
         self._search = SearchIndex(put, about.catalogue.roots()) if put else None
         self._size = self._shown = 0
 
@@ -84,7 +85,7 @@ class Book:
             return self._renderer.index(self.counts, shown, changes, rules, self._files(written))
         finally:
             self._marks.close()
-            self._renderer.shrinker.close()
+            self._renderer.small_pictures.close()
             if changes:
                 changes.close()
 

@@ -7,6 +7,7 @@ import os
 from collections import Counter
 from typing import Iterator, List, NamedTuple, Optional, Tuple
 
+from ..catalogue.store import Known
 from ..comparison import changed
 from ..comparison.coded import Coded, sentence_of_coded
 from ..comparison.pairs import AFTER, BEFORE, heads_of
@@ -41,6 +42,7 @@ class ChangedPicture(NamedTuple):
     before: Optional[bytes]
     after: Optional[bytes]
     earlier: Optional[bytes] = None  # the earlier file, if it is there as it was, and the picture is another one
+    digest: str = ""  # of the earlier coded picture, if its file isn't there as it was, and the picture is another one
 
 
 class Difference(NamedTuple):
@@ -142,16 +144,20 @@ class Changes:
         before, _, place = name.partition(_NUL)
         old = None if result == Result.MISSING_BEFORE else _path(self._heads[BEFORE], before)
         new = None if result == Result.MISSING_AFTER else _path(self._heads[AFTER], place or before)
-        earlier = old if is_other and old and old != new and self._is_as_it_was(old) else None
-        return ChangedPicture(before, old, new, earlier)
+        known = self._old.known(old) if is_other and old else None
+        if not known:
+            return ChangedPicture(before, old, new)
+        if old != new and _is_as_it_was(old, known):
+            return ChangedPicture(before, old, new, earlier=old)
+        return ChangedPicture(before, old, new, digest=known.coded_picture or "")
 
-    def _is_as_it_was(self, path: bytes) -> bool:
-        """Whether an earlier file is there, as the older catalogue has it."""
-        known = self._old.known(path)
-        try:
-            return bool(known and known.stamp and is_as_before(Stamp.of(os.stat(path)), known.stamp))
-        except OSError:
-            return False
+
+def _is_as_it_was(path: Optional[bytes], known: Known) -> bool:
+    """Whether a file is there, as a catalogue knows it."""
+    try:
+        return bool(path and known.stamp and is_as_before(Stamp.of(os.stat(path)), known.stamp))
+    except OSError:
+        return False
 
 
 def _path(head: bytes, name: bytes) -> bytes:

@@ -19,7 +19,7 @@ from .lists import Counts, mending_all
 from .marks import Marks
 from .searching import kinds_of
 from .templating import TEMPLATES, environment
-from .thumbnails import Shrinker, small_pictures
+from .small_pictures import Kept, SmallPictures
 
 if TYPE_CHECKING:
     from .book import Section, Written
@@ -28,12 +28,12 @@ if TYPE_CHECKING:
 class Renderer:
     """Makes HTML of what a report is about."""
 
-    def __init__(self, about: About, marks: Marks) -> None:
+    def __init__(self, about: About, marks: Marks, kept: Kept) -> None:
         from markupsafe import Markup  # of Jinja2
 
         self._html = Markup
-        self.shrinker = Shrinker()
-        self._look, self._session = about.look, about.session
+        self.small_pictures = SmallPictures([one for one in (about.catalogue, about.old) if one], kept, about.session)
+        self._look = about.look
         roots, runs = about.catalogue.roots(), about.catalogue.runs()
         filters = {"address": Links(about.link_to, roots).of, "below": lambda path: below(path, roots), "marks": marks.of}
         self._templates = environment(filters)
@@ -53,6 +53,7 @@ class Renderer:
             "script": self._html(script),
             "script_digest": digest(script),
             "files": 0,
+            "of_pictures": kept.SOURCES,
             "mend_all": mending_all(about.catalogue.name),
         }
 
@@ -62,14 +63,17 @@ class Renderer:
         template: Any = self._templates.get_template(f"{key}.html")
         return template.make_module({**self._shared, "pictures": pictures}).entries(entries, first)
 
-    def _small_pictures(self, key: str, entries: Sequence[Entry]) -> Dict[bytes, str]:
-        """The small pictures of those lists that show them."""
+    def _small_pictures(self, key: str, entries: Sequence[Entry]) -> Dict[Any, str]:
+        """The small pictures of those lists that show them, by paths; and those of earlier files, by the digests of their coded pictures."""
         if not self._look or key not in ("changed", "same", "folders"):
             return {}
         paths = [path for entry in entries for path in entry.pictures]
-        if key == "changed":
-            paths += [one.earlier for entry in entries for one in entry.data.pictures if one.earlier]
-        return small_pictures(paths, self.shrinker, self._session)
+        others = [one for entry in entries if key == "changed" and entry.data.is_other for one in entry.data.pictures]
+        compared = [path for one in others for path in (one.after, one.earlier) if path]
+        digests = {one.digest for one in others if one.digest}
+        pictures: Dict[Any, str] = {**self.small_pictures.of(paths, compared)}
+        pictures.update((digest, address) for digest in digests if (address := self.small_pictures.of_digest(digest)))
+        return pictures
 
     def page(self, section: "Section", number: int, has_next: bool, body: Any) -> str:
         """A further page: a part of a list."""

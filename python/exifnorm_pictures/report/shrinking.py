@@ -1,7 +1,7 @@
 """Makes small pictures by Pillow, in a process of its own with little memory and time: what a stranger's picture does to Pillow costs its tile.
 
-It reads requests from standard input and writes answers to standard output, each with its length in front. A request is the path of a picture,
-NUL, and perhaps the thumbnail that it has. An answer is a JPEG, or empty.
+It reads requests from standard input and writes answers to standard output, each with its length in front. A request is a letter, the path of a
+picture, NUL, and perhaps the thumbnail that it has. An answer is the Orientation as a byte, or a JPEG, or empty.
 """
 
 from __future__ import annotations
@@ -14,18 +14,22 @@ import sys
 from typing import Any, BinaryIO, Optional, Sequence
 
 LARGEST = 10_000  # bytes of a small picture
+ORIENTATION, EMBEDDED, WHOLE = b"o", b"e", b"w"  # what is asked: the Orientation, or a small picture, first from one of these
 # What Pillow reads by itself: for EPS it would start Ghostscript, which runs what a picture says
 _FORMATS = ("JPEG", "MPO", "PNG", "GIF", "BMP", "DIB", "PPM", "TIFF", "WEBP", "AVIF", "JPEG2000", "PSD", "ICO", "TGA", "PCX")
 SECONDS, MEMORY = 10, 256 << 20  # that one picture may take
 _WIDEST = (300, 220, 150, 100)  # points, each smaller than the one before, until a picture is small enough
-_ORIENTATION = 0x0112
+_TAG = 0x0112  # Orientation
 
 
-def _small(image_module: Any, path: bytes, embedded: bytes) -> bytes:
-    """The small picture of a picture, the right way up."""
+def _answer(image_module: Any, asked: bytes, path: bytes, embedded: bytes) -> bytes:
+    """The Orientation of a picture, or a small picture, the right way up."""
     with open(path, "rb") as file:
         turned = _orientation(image_module, file)
-        for source in [io.BytesIO(embedded)] * bool(embedded) + [file]:
+        if asked == ORIENTATION:
+            return bytes([turned])
+        sources = [io.BytesIO(embedded)] * bool(embedded) + [file]
+        for source in reversed(sources) if asked == WHOLE else sources:
             source.seek(0)
             octets = _shrunk(image_module, source, turned)
             if octets:
@@ -40,9 +44,10 @@ def _formats(image_module: Any) -> Sequence[str]:
 
 def _orientation(image_module: Any, file: BinaryIO) -> int:
     try:
-        return int(image_module.open(file, formats=_formats(image_module)).getexif().get(_ORIENTATION, 1))
+        turned = int(image_module.open(file, formats=_formats(image_module)).getexif().get(_TAG, 1))
     except Exception:  # Pillow raises many kinds
         return 1
+    return turned if turned in range(1, 9) else 1
 
 
 def _shrunk(image_module: Any, source: Any, orientation: int) -> Optional[bytes]:
@@ -90,10 +95,10 @@ def main() -> None:
     requests, answers = sys.stdin.buffer, open(os.dup(1), "wb")
     os.dup2(os.open(os.devnull, os.O_WRONLY), 1)  # whatever else is printed is no answer
     while len(head := requests.read(4)) == 4:
-        path, _, embedded = requests.read(struct.unpack(">I", head)[0]).partition(b"\0")
+        request, _, embedded = requests.read(struct.unpack(">I", head)[0]).partition(b"\0")
         _limit_time()
         try:
-            octets = _small(Image, path, embedded)
+            octets = _answer(Image, request[:1], request[1:], embedded)
         except OSError:
             octets = b""
         answers.write(struct.pack(">I", len(octets)) + octets)

@@ -1,19 +1,17 @@
-"""Small pictures for the report, as data URIs: the thumbnails that pictures have, and others made by Pillow in a process of its own."""
+"""Where small pictures come from: the thumbnails that pictures have, and Pillow, which makes others in a process of its own."""
 
 from __future__ import annotations
 
-import base64
 import importlib.util
 import select
 import struct
 import subprocess
 import sys
-from typing import Dict, Optional, Sequence
+from typing import Optional
 
 import exifnorm
 
 from ..extract import extraction, programs
-from ..files import opening
 from ..files.session import Session
 from ..model.budgets import TooMuch
 from ..model.found import EXIF
@@ -37,15 +35,25 @@ class Shrinker:
             self._process.communicate()
             self._process = None
 
-    def small(self, path: bytes, embedded: bytes) -> bytes:
-        """A small picture as JPEG; empty if there is none."""
+    def orientation(self, path: bytes) -> int:
+        """How a picture is turned, from 1 to 8; 1 if that isn't known, and 0 if there is no answer."""
+        answer = self._answer(shrinking.ORIENTATION + path + b"\0") if self.is_there else b"\1"
+        return answer[0] if len(answer) == 1 else 0
+
+    def small(self, path: bytes, embedded: bytes, whole: bool = False) -> bytes:
+        """A small picture as JPEG; empty if there is none. It is made from the embedded thumbnail, or if it should be `whole` from the picture,
+        and from the other one only if that can't be done."""
         if not self.is_there:
-            return b""
+            return embedded if embedded.startswith(_JPEG) and len(embedded) <= shrinking.LARGEST else b""
+        return self._answer((shrinking.WHOLE if whole else shrinking.EMBEDDED) + path + b"\0" + embedded)
+
+    def _answer(self, request: bytes) -> bytes:
+        """The answer to a request; empty if there is none."""
         if self._process is None:
             words = [sys.executable, "-E", shrinking.__file__]
             self._process = subprocess.Popen(words, stdin=subprocess.PIPE, stdout=subprocess.PIPE, stderr=subprocess.DEVNULL)
         try:
-            return self._asked(self._process, path + b"\0" + embedded)
+            return self._asked(self._process, request)
         except (OSError, EOFError):
             self.close()
             return b""
@@ -65,41 +73,11 @@ class Shrinker:
         return process.stdout.read(length)
 
 
-def small_pictures(paths: Sequence[bytes], shrinker: Shrinker, session: Optional[Session] = None) -> Dict[bytes, str]:
-    """A data URI for each of these pictures of which there is a small one. The pictures are read again."""
-    uris: Dict[bytes, str] = {}
-    for path in dict.fromkeys(paths):
-        octets = _small(path, shrinker, session)
-        if octets:
-            uris[path] = f"data:image/jpeg;base64,{base64.b64encode(octets).decode('ascii')}"
-    return uris
-
-
-def _small(path: bytes, shrinker: Shrinker, session: Optional[Session]) -> bytes:
+def thumbnail_of(path: bytes, session: Optional[Session] = None) -> bytes:
+    """The thumbnail in the first Exif block of a picture, as far as that can be read; empty without any."""
     try:
-        with opening.reading(path):
-            pass
-        embedded = _embedded(_exif(session, path)) or b""
-    except OSError:  # it isn't there, or is no regular file
+        block = next((it.data for it in extraction.blocks_of_file(path, session=session).of_kind(EXIF)), None)
+        fields = exifnorm.fields(block) if block else []
+        return next((it.values for it in fields if it.type == "JPEG" and isinstance(it.values, bytes)), b"")
+    except (programs.Missing, programs.Failed, TooMuch, exifnorm.Refused, exifnorm.NormalTooLong, MemoryError):
         return b""
-    if not shrinker.is_there:
-        return embedded if embedded.startswith(_JPEG) and len(embedded) <= shrinking.LARGEST else b""
-    return shrinker.small(path, embedded)
-
-
-def _exif(session: Optional[Session], path: bytes) -> Optional[bytes]:
-    """The first Exif block of a picture, as far as it can be read."""
-    try:
-        return next((it.data for it in extraction.blocks_of_file(path, session=session).of_kind(EXIF)), None)
-    except (programs.Missing, programs.Failed, TooMuch):
-        return None
-
-
-def _embedded(block: Optional[bytes]) -> Optional[bytes]:
-    """The thumbnail of an Exif block."""
-    if not block:
-        return None
-    try:
-        return next((it.values for it in exifnorm.fields(block) if it.type == "JPEG" and isinstance(it.values, bytes)), None)
-    except (exifnorm.Refused, exifnorm.NormalTooLong, MemoryError):
-        return None

@@ -1,0 +1,147 @@
+"""The small pictures of a report. Each is made once for one coded picture, and has its digest and its Orientation as a name: so copies have one
+together, and a report takes those that are in the folder of the earlier one."""
+
+from __future__ import annotations
+
+import base64
+import hashlib
+import os
+from itertools import islice
+from typing import Dict, Iterable, NamedTuple, Optional, Protocol, Sequence, Set
+
+from ..catalogue.store import Catalogue
+from ..extract import coded_picture
+from ..files import opening
+from ..files.folders import NewFolder
+from ..files.session import Session
+from ..model.budgets import Budget
+from ..model.records import Stamp, is_as_before
+from .thumbnails import Shrinker, thumbnail_of
+
+_PIECE, _MOST_PIECES = 1 << 20, 64  # bytes of a file at a time, and how many such pieces are compared
+_MOST_FAILED = 10_000  # names that are kept in memory
+_ORIENTATIONS = range(1, 9)
+
+
+class Kept(Protocol):
+    """Where small pictures are kept."""
+
+    SOURCES: str  # what a content security policy has to allow
+
+    def address(self, name: str) -> str:
+        """The address of a small picture; empty if it isn't there yet. Raises `OSError`."""
+
+    def put(self, name: str, octets: bytes) -> str:
+        """Keeps a small picture, and returns its address. Raises `OSError`."""
+
+
+class InPage:
+    """Small pictures as data of the page itself."""
+
+    SOURCES = "data:"
+
+    def __init__(self) -> None:
+        self._addresses: Dict[str, str] = {}  # of the pictures of one page, which are few
+
+    def address(self, name: str) -> str:
+        return self._addresses.get(name, "")
+
+    def put(self, name: str, octets: bytes) -> str:
+        return self._addresses.setdefault(name, f"data:image/jpeg;base64,{base64.b64encode(octets).decode('ascii')}")
+
+
+class InFolder:
+    """Small pictures as files of a folder, beside its pages."""
+
+    SOURCES = "'self' file:"  # a page that is opened as a file has no origin in some browsers
+
+    def __init__(self, folder: NewFolder) -> None:
+        self._folder = folder
+
+    def address(self, name: str) -> str:
+        return name if self._folder.has(name) else ""
+
+    def put(self, name: str, octets: bytes) -> str:
+        self._folder.write(name, octets)
+        return name
+
+
+class _Source(NamedTuple):
+    """What a small picture is made from: its digest, and the embedded thumbnail if that was looked for."""
+
+    digest: str
+    embedded: Optional[bytes] = None
+
+
+class SmallPictures:
+    """Makes and finds small pictures. Close it."""
+
+    def __init__(self, catalogues: Sequence[Catalogue], kept: Kept, session: Optional[Session] = None) -> None:
+        """`catalogues` may know the digests of coded pictures."""
+        self._catalogues, self._kept, self._session = catalogues, kept, session
+        self._shrinker = Shrinker()
+        self._failed: Set[str] = set()
+
+    def close(self) -> None:
+        """Ends the process that makes them."""
+        self._shrinker.close()
+
+    def of(self, paths: Iterable[bytes], compared: Iterable[bytes] = ()) -> Dict[bytes, str]:
+        """The addresses of the small pictures of these files, as far as there are any. Those that are `compared` with another are made from the
+        picture: the thumbnail that a file has may be older."""
+        whole = set(compared)
+        addresses = ((path, self._address(path, path in whole)) for path in dict.fromkeys((*whole, *paths)))
+        return {path: address for path, address in addresses if address}
+
+    def of_digest(self, digest: str) -> str:
+        """The address of a small picture that an earlier report has of a coded picture that is gone; empty without any."""
+        addresses = (self._kept.address(_name(digest, turned)) for turned in _ORIENTATIONS)
+        return next(filter(None, addresses), "") if digest else ""
+
+    def _address(self, path: bytes, whole: bool) -> str:
+        try:
+            source = self._source(path, whole)
+        except OSError:  # it isn't there, or is no regular file
+            return ""
+        if source.digest in self._failed:
+            return ""
+        turned = self._shrinker.orientation(path)
+        name = _name(source.digest, turned)
+        address = (self._kept.address(name) or self._made(path, source, name, whole)) if turned else ""
+        if not address and len(self._failed) < _MOST_FAILED:
+            self._failed.add(source.digest)
+        return address
+
+    def _made(self, path: bytes, source: _Source, name: str, whole: bool) -> str:
+        """The address of a new small picture."""
+        embedded = thumbnail_of(path, self._session) if source.embedded is None else source.embedded
+        octets = self._shrinker.small(path, embedded, whole)
+        return self._kept.put(name, octets) if octets else ""
+
+    def _source(self, path: bytes, whole: bool) -> _Source:
+        """The coded picture of a file, as a catalogue has it; else its thumbnail, which is read sooner; else what is read of the file."""
+        with opening.reading(path) as file:
+            now = Stamp.of(os.fstat(file.fileno()))
+        for catalogue in self._catalogues:
+            known = catalogue.known(path)
+            if known and known.coded_picture and known.stamp and is_as_before(known.stamp, now):
+                return _Source(known.coded_picture)
+        embedded = thumbnail_of(path, self._session)
+        if embedded and not whole:
+            return _Source(hashlib.blake2b(embedded, digest_size=32, person=b"thumbnail").hexdigest(), embedded)
+        return _Source(coded_picture.of_file(path, Budget()).digest or _digest_of_file(path, now), embedded)
+
+
+def _name(digest: str, orientation: int) -> str:
+    return f"small-{digest}-{orientation}.jpg"
+
+
+def _digest_of_file(path: bytes, stamp: Stamp) -> str:
+    """The digest of all bytes of a file. One that is too long is like no other."""
+    digest = hashlib.blake2b(digest_size=32, person=b"file")
+    with opening.reading(path) as file:
+        for octets in islice(iter(lambda: file.read(_PIECE), b""), _MOST_PIECES):
+            digest.update(octets)
+        if file.read(1):
+            digest.update(repr((path, stamp)).encode())
+    return digest.hexdigest()
