@@ -206,7 +206,7 @@ class _Whole(NamedTuple):
 class Picture:
     """The metadata of a picture, as they were when it was read. `picture[name]` is the value of the first field with this name."""
 
-    __slots__ = ("_name", "_reading", "_path", "_stamp", "_whole", "_blocks", "_names", "_made")
+    __slots__ = ("_name", "_reading", "_path", "_stamp", "_whole", "_blocks", "_names", "_known")
 
     def __init__(
         self, name: str, reading: Reading, path: bytes = b"", stamp: Optional[Stamp] = None, whole: Optional[_Whole] = None
@@ -214,7 +214,7 @@ class Picture:
         self._name, self._reading, self._path, self._stamp, self._whole = name, reading, path, stamp, whole
         self._blocks: Optional[Tuple[Block, ...]] = None
         self._names: Optional[Dict[str, List[Field]]] = None
-        self._made: Optional[PictureRecord] = None
+        self._known: Optional[PictureRecord] = None
 
     @property
     def name(self) -> str:
@@ -241,7 +241,7 @@ class Picture:
     def blocks(self) -> Tuple[Block, ...]:
         """The blocks, in the order of the file."""
         if self._blocks is None:
-            data = {it.name: it.data for it in self._reading.read.found}
+            data = {it.name: it.data for it in self._reading.read.blocks}
             self._blocks = tuple(Block(it, data.get(it.name, b"")) for it in self._reading.blocks)
         return self._blocks
 
@@ -272,12 +272,12 @@ class Picture:
 
     def _record(self) -> PictureRecord:
         """The picture as the commands have it."""
-        if self._made is None:
+        if self._known is None:
             reading = self._reading
-            self._made = PictureRecord.found(
+            self._known = PictureRecord.of_blocks(
                 os.path.abspath(self._path) if self._path else b"", b"", self._stamp, reading.read, reading.blocks
             )
-        return self._made
+        return self._known
 
     def _whole_record(self) -> PictureRecord:
         """The same with the digests of the coded picture and of the file, if the file is still the one that was read."""
@@ -530,7 +530,7 @@ def compare(before: Union[Picture, Source], after: Union[Picture, Source], *, as
     heads = first._whole and first._whole.head, second._whole and second._whole.head
     with Session() as session:
         comparison = two_pictures.compare(*records, session if ask_exiftool and first._path and second._path else None, heads=heads)
-    compared, proved = comparison.found, comparison.proved and str(comparison.proved)
+    compared, proved = comparison.compared, comparison.proved and str(comparison.proved)
     if comparison.is_identical:
         return Comparison(True, str(Result.SAME), "the two files are identical, byte for byte", (), str(Coded.SAME), proved)
     differences = tuple(map(_difference, compared.changes))

@@ -17,7 +17,7 @@ def stream_of(octets):
 
 def blocks_of(found):
     """The kind, the name and the bytes of each block."""
-    return [(it.kind, it.name, it.data) for it in found.found]
+    return [(it.kind, it.name, it.data) for it in found.blocks]
 
 
 def check_left(found, parts):
@@ -36,11 +36,11 @@ def check_broken(read, octets, why):
 def check_limit(read, octets, what, spent=None):
     """A file that needs just as much as a limit allows is read, and with one less it is not. `spent` is what the file needs, if that is known."""
     stream = stream_of(octets)
-    found = read(stream).found
+    found = read(stream).blocks
     needed = budgets.LIMITS[what] - stream.budget.left[what]
     assert needed and spent in (needed, None), (what, needed)
     with mock.patch.dict(budgets.LIMITS, {what: needed}):
-        assert read(stream_of(octets)).found == found
+        assert read(stream_of(octets)).blocks == found
     with mock.patch.dict(budgets.LIMITS, {what: needed - 1}):
         with pytest.raises(budgets.TooMuch, match=f"more than {needed - 1} {what}"):
             read(stream_of(octets))
@@ -49,6 +49,6 @@ def check_limit(read, octets, what, spent=None):
 def blocks_in(read, octets):
     """The blocks that a reader finds in a file with changed bytes; none where it gives a reason."""
     try:
-        return [it.data for it in read(io.BytesIO(octets)).found]
+        return [it.data for it in read(io.BytesIO(octets)).blocks]
     except (Broken, LeftToOthers, budgets.TooMuch):
         return []

@@ -55,7 +55,7 @@ def seen(octets):
         found = None
     if found is None:
         return None
-    return [(it.kind, it.name, it.data) for it in found.found], [tuple(it) for it in found.not_read]
+    return [(it.kind, it.name, it.data) for it in found.blocks], [tuple(it) for it in found.not_read]
 
 
 def hidden_by_one_byte(octets, folder, number):

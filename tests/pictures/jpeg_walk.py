@@ -106,7 +106,7 @@ class Walk:
             title = ("extended XMP" if number == 1 else f"{ordinal(number)} extended XMP") + self.of
             offsets, data = sorted(pieces), b"".join(pieces[it] for it in sorted(pieces))
             if offsets == [0, *(it + len(pieces[it]) for it in offsets[:-1])] and len(data) == total:
-                self.blocks.found.append(FoundBlock(XMP, data, title, place, extends=name.decode("latin-1").upper()))
+                self.blocks.blocks.append(FoundBlock(XMP, data, title, place, extends=name.decode("latin-1").upper()))
             else:
                 self.blocks.leave(f"{title}, of which pieces are missing or overlap", data)
 

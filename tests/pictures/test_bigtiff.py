@@ -120,7 +120,7 @@ BROKEN = {
 def test_broken(octets):
     """A line with the reason, and no blocks."""
     found = bigtiff.read(io.BytesIO(octets))
-    assert (found.type, found.problem, found.found) == ("BigTIFF", "BigTIFF", []) and "can't be read: " in found.detail
+    assert (found.type, found.problem, found.blocks) == ("BigTIFF", "BigTIFF", []) and "can't be read: " in found.detail
 
 
 def test_a_file_with_a_hole(tmp_path):
@@ -136,7 +136,7 @@ def test_a_file_with_a_hole(tmp_path):
     from exifnorm_pictures.extract import extraction
 
     found = extraction.blocks_of_file(os.fsencode(name))
-    assert [it.name for it in found.found] == ["Exif"] and b"Anna\0" in found.found[0].data and at
+    assert [it.name for it in found.blocks] == ["Exif"] and b"Anna\0" in found.blocks[0].data and at
     assert coded_picture.of_file(os.fsencode(name), budgets.Budget()).digest != ""
 
 
@@ -158,7 +158,7 @@ def test_damaged(data):
         with_ = data.draw(st.one_of(st.binary(min_size=1, max_size=8), st.sampled_from((b"\xff" * 8, bytes(8), struct.pack("<Q", at)))))
         octets[at : at + len(with_)] = with_
     found = bigtiff.read(io.BytesIO(bytes(octets)))
-    for it in found.found:
+    for it in found.blocks:
         values = values_of(it.data) if it.kind == "exif" else [it.data]
         assert all(value in octets for value in values), it
 
@@ -179,7 +179,7 @@ def values_of(block):
 def test_beside_exiftool(tmp_path):
     """ExifTool shows the same tags of a BigTIFF and of its block."""
     octets, shown = big(fields((0x011A, 5, struct.pack("<II", 300, 1)), (0x0100, LONG8, 1))), []
-    for name, data in (("a.btf", octets), ("a.tif", next(it.data for it in bigtiff.read(io.BytesIO(octets)).found if it.kind == "exif"))):
+    for name, data in (("a.btf", octets), ("a.tif", next(it.data for it in bigtiff.read(io.BytesIO(octets)).blocks if it.kind == "exif"))):
         write(tmp_path / name, data)
         said = run(["exiftool", "-config", "", "-q", "-q", "-m", "-G1", "-s", "-IFD0:all", "-ExifIFD:all", name], tmp_path).stdout.decode()
         shown.append({it for it in said.splitlines() if not any(word in it for word in ("Strip", "ApplicationNotes", "IPTC-NAA"))})

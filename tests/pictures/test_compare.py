@@ -62,7 +62,7 @@ def test_the_proved_comparison_says_the_same(folder):
             (folder / name).write_bytes(octets)
             sides.append(read(os.fsencode(folder / name), How(1), Session()))
         found = compare(*sides, None, heads=tuple(head_of_file(it.path) for it in sides))
-        results = [it.result for it in found.found.verdicts if it.kind in (EXIF, IPTC)]
+        results = [it.result for it in found.compared.verdicts if it.kind in (EXIF, IPTC)]
         met[found.proved] += 1
         if found.proved == "different":
             assert any(map(is_other, results)), (before.hex(), after.hex())

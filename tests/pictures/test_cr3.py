@@ -141,8 +141,8 @@ def test_one_block(name):
     """All structures are one block, which means the same as that of a JPEG with these fields."""
     octets, other = ONE[name]
     found = found_in(octets)
-    assert [(it.kind, it.name) for it in found.found] == [("exif", "Exif")]
-    assert found.found[0].where.startswith("boxes CMT1, CMT2")
+    assert [(it.kind, it.name) for it in found.blocks] == [("exif", "Exif")]
+    assert found.blocks[0].where.startswith("boxes CMT1, CMT2")
     digests = [judge.judge_all(it)[0].digest for it in (found, jpeg_.read(io.BytesIO(other)))]
     assert digests[0] and digests[0] == digests[1]
 
@@ -151,7 +151,7 @@ def test_one_block(name):
 def test_several_blocks(name):
     boxes, names = SEVERAL[name]
     found = found_in(cr3(*boxes))
-    assert sorted((it.name, it.data) for it in found.found) == sorted(zip(names, [boxes[number][8:] for number in _in_order(boxes)]))
+    assert sorted((it.name, it.data) for it in found.blocks) == sorted(zip(names, [boxes[number][8:] for number in _in_order(boxes)]))
 
 
 def _in_order(boxes):
@@ -163,7 +163,7 @@ def test_a_value_out_of_its_box():
     """It isn't taken out of the next box: the engine refuses the block."""
     main = structures()[0].replace(struct.pack("<HHI", 0x013B, ASCII, 12), struct.pack("<HHI", 0x013B, ASCII, 99))
     found = found_in(cr3(main, *structures()[1:]))
-    assert [(it.name, judge.judge_all(found)[0].cause) for it in found.found] == [("Exif", "ValueOutside")]
+    assert [(it.name, judge.judge_all(found)[0].cause) for it in found.blocks] == [("Exif", "ValueOutside")]
 
 
 @pytest.mark.parametrize("name", LEFT)
@@ -171,8 +171,8 @@ def test_what_is_left(name):
     octets, parts = LEFT[name]
     found = found_in(octets)
     check_left(found, parts)
-    assert [(it.kind, it.name) for it in found.found] == [("exif", "Exif"), ("xmp", "XMP")]
-    assert found.found[1].data == T
+    assert [(it.kind, it.name) for it in found.blocks] == [("exif", "Exif"), ("xmp", "XMP")]
+    assert found.blocks[1].data == T
 
 
 @pytest.mark.parametrize("name", BROKEN)
@@ -181,7 +181,7 @@ def test_broken(name):
 
 
 def test_room_for_xmp():
-    assert [it.name for it in found_in(cr3(*structures(), packet=bytes(65536))).found] == ["Exif"]
+    assert [it.name for it in found_in(cr3(*structures(), packet=bytes(65536))).blocks] == ["Exif"]
 
 
 def test_chunks_of_several_samples():
@@ -199,14 +199,14 @@ def test_films(tmp_path):
     for octets in (film, BROKEN["CMT1 twice"][0]):
         (tmp_path / "a.crm").write_bytes(octets)
         found = extraction.blocks_of_file(os.fsencode(tmp_path / "a.crm"))
-        assert (found.problem, found.found) == ("SeveralBlocks", [])
+        assert (found.problem, found.blocks) == ("SeveralBlocks", [])
 
 
 @needs("exiftool")
 def test_exiftools_tags(tmp_path):
     """ExifTool reads the same tags of the CR3 and of the one block, in the same groups, and the same XMP."""
     (tmp_path / "a.cr3").write_bytes(WHOLE)
-    found = found_in(WHOLE).found
+    found = found_in(WHOLE).blocks
     (tmp_path / "b.exif").write_bytes(found[0].data)
     tags = tags_of_exiftool(tmp_path)
     exif = {name: value for name, value in tags["a.cr3"].items() if not name.startswith("XMP")}

@@ -28,7 +28,7 @@ CUT = "the rest of a damaged file (the file ends before its first scan, at {})"
 
 
 def named(blocks):
-    return [(it.kind, it.name, it.data) for it in blocks.found]
+    return [(it.kind, it.name, it.data) for it in blocks.blocks]
 
 
 class Found(unittest.TestCase):
@@ -151,7 +151,7 @@ class Found(unittest.TestCase):
         doubled = found_in(jpeg(pieces[0], *pieces))
         self.assertEqual((named(doubled), len(doubled.not_read)), ([("xmp", "extended XMP", T)], 1))
         small = found_in(jpeg(*extension(T, name=name.lower().encode())[0]))
-        self.assertEqual([it.extends for it in small.found], [name])
+        self.assertEqual([it.extends for it in small.blocks], [name])
 
     def test_padding_of_chunks(self):
         odd = T if len(T) % 2 else T + b" "
@@ -178,7 +178,7 @@ class Found(unittest.TestCase):
         for said in (len(A) - 1, len(A) + 1):
             text = b"\nexif\n%8d\n" % said + A.hex().encode() + b"\n"
             found = found_in(png(chunk(b"tEXt", b"Raw profile type exif\0" + text)))
-            self.assertEqual((found.found, len(found.not_read)), ([], 1))
+            self.assertEqual((found.blocks, len(found.not_read)), ([], 1))
         for kind in (b"icc", b"icm"):
             self.assertEqual(found_in(png(profile(kind, A))).not_read, [])
 
@@ -202,11 +202,11 @@ class Found(unittest.TestCase):
         octets = tiff(page((0x010F, ASCII, b"Maker one\0"), (0x014A, LONG, page((0x010F, ASCII, b"below\0")))), page())
         found = found_in(octets)
         self.assertEqual([it[1] for it in named(found)], ["Exif", "Exif of SubIFD 1 of page 1", "Exif of page 2"])
-        where = [it.where for it in found.found]
+        where = [it.where for it in found.blocks]
         self.assertRegex(where[0], r"^directory at \d+, without StripByteCounts, StripOffsets, SubIFDs$")
-        tags = [struct.unpack_from(">H", found.found[0].data, at)[0] for at in range(10, 10 + 12 * 8, 12)]
+        tags = [struct.unpack_from(">H", found.blocks[0].data, at)[0] for at in range(10, 10 + 12 * 8, 12)]
         self.assertEqual(tags, [0x100, 0x101, 0x102, 0x103, 0x106, 0x10F, 0x115, 0x116])
-        self.assertIn(b"Maker one\0", found.found[0].data)
+        self.assertIn(b"Maker one\0", found.blocks[0].data)
 
     def test_engine_refuses_in_the_page_what_it_refuses_in_the_file(self):
         from exifnorm_pictures.judge import judge
@@ -424,7 +424,7 @@ class Damaged(unittest.TestCase):
 
     def check(self, octets, found):
         sources = None
-        for it in found.found:
+        for it in found.blocks:
             data = it.data
             if data in octets:
                 continue
@@ -542,7 +542,7 @@ class Harm(unittest.TestCase):
         below = page()
         for _ in range(10):
             below = page((0x014A, LONG, below))
-        self.assertEqual(len(found_in(tiff(below)).found), 11)
+        self.assertEqual(len(found_in(tiff(below)).blocks), 11)
         self.assertIn("below one another", self.broken(tiff(page((0x014A, LONG, below)))))
 
     def test_many_markers(self):
@@ -554,7 +554,7 @@ class Harm(unittest.TestCase):
             self.too_much(b"\xff\xd8" + b"\xff" * 200_000, budgets.SEGMENT_BYTES)
         many = SMALL_JPEG[:-2] + b"\xff\xc0\0\2" * 200_000
         stream = Counting(many)
-        self.assertEqual(reader_of(many)(stream, True).found, [])
+        self.assertEqual(reader_of(many)(stream, True).blocks, [])
         self.assertLess(stream.octets, 3 * len(many))
         self.too_much(SMALL_JPEG[:-2] + b"\xff\xe1\0\2" * 1001, "metadata segments after the first scan")
 
@@ -568,7 +568,7 @@ class Harm(unittest.TestCase):
                 octets += struct.pack(">HHHIII", 1, tag, 2 if tag == 0x010F else 1, len(value), 8, following)
             if tag == 0x02BC:
                 stream = Counting(bytes(octets))
-                self.assertEqual(len(reader_of(octets)(stream, True).found), 400)
+                self.assertEqual(len(reader_of(octets)(stream, True).blocks), 400)
                 self.assertLess(stream.octets, 2 * len(octets))
             else:
                 self.too_much(bytes(octets), budgets.VALUE_BYTES, most=130 << 20)
@@ -638,7 +638,7 @@ class Kept(unittest.TestCase):
         """By default the head and the tail of a long picture are read, and not what is between."""
         long = SMALL_JPEG[:-2] + b"\x11" * 4_000_000 + SMALL_JPEG[-2:]
         stream = Counting(jpeg(app1(A), base=long))
-        self.assertEqual(len(reader_of(long)(stream, False).found), 1)
+        self.assertEqual(len(reader_of(long)(stream, False).blocks), 1)
         self.assertLess(stream.octets, 2 * 65_536 + 4096)
         whole = Counting(jpeg(app1(A), base=long))
         reader_of(long)(whole, True)

@@ -199,7 +199,7 @@ def test_items_without_lengths():
     """They are the whole file, or all from an offset on."""
     found = heif_.read(io.BytesIO(heif(*ONE, lengths=False)))
     words = ["Exif item, protected or kept elsewhere", "mime item application/rdf+xml, protected or kept elsewhere"]
-    assert (found.found, [tuple(it) for it in found.not_read]) == ([], [(it, "") for it in words])
+    assert (found.blocks, [tuple(it) for it in found.not_read]) == ([], [(it, "") for it in words])
 
 
 def test_offsets_past_4_gb(tmp_path):

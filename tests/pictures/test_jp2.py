@@ -81,8 +81,8 @@ def test_blocks(name):
 def test_geotiff():
     """It is a TIFF of its own, and its Exif isn't that of the picture."""
     found = jp2_.read(io.BytesIO(jp2(uuid(GEOTIFF, GEO), E)))
-    assert ([it.name for it in found.found], found.not_read) == (["Exif of GeoTIFF", "Exif"], [])
-    assert b"\x87\xaf\0\3\0\0\0\1\0\1" in found.found[0].data
+    assert ([it.name for it in found.blocks], found.not_read) == (["Exif of GeoTIFF", "Exif"], [])
+    assert b"\x87\xaf\0\3\0\0\0\1\0\1" in found.blocks[0].data
     found = jp2_.read(io.BytesIO(jp2(uuid(GEOTIFF, GEO + b"more"))))
     assert [(it.what, it.digest) for it in found.not_read] == [("trailer of 4 bytes of GeoTIFF", hashlib.sha256(b"more").hexdigest())]
 
@@ -96,7 +96,7 @@ def test_what_is_left(name):
 
 
 def test_the_greatest_depth():
-    assert [it.name for it in jp2_.read(io.BytesIO(jp2(DEEP))).found] == ["Exif"]
+    assert [it.name for it in jp2_.read(io.BytesIO(jp2(DEEP))).blocks] == ["Exif"]
 
 
 @pytest.mark.parametrize("name", BROKEN)

@@ -64,7 +64,7 @@ HEADS = [b"\xff\xd8" + b"".join(pieces) + end for pieces in PIECES.values() for 
 
 def by_walk(octets):
     it = Walk(octets)
-    return it.blocks.found, it.blocks.not_read, it.indexes, it.fault or (it.end, it.has_scan)
+    return it.blocks.blocks, it.blocks.not_read, it.indexes, it.fault or (it.end, it.has_scan)
 
 
 def by_library(octets):
@@ -74,7 +74,7 @@ def by_library(octets):
         head.read(io.BytesIO(octets), 0, Budget())
     except Broken as why:
         fault = str(why)
-    return blocks.found, blocks.not_read, head.indexes, fault or (head.end, head.has_scan)
+    return blocks.blocks, blocks.not_read, head.indexes, fault or (head.end, head.has_scan)
 
 
 @pytest.mark.parametrize("pieces", PIECES.values(), ids=PIECES)
@@ -166,7 +166,7 @@ def test_further_pictures():
         start = octets.index(further)
         there = Walk(octets, start, "MPF picture 2").blocks
         found = jpeg_.read(io.BytesIO(octets))
-        assert found.found[1:] == there.found and found.not_read == there.not_read, pieces
+        assert found.blocks[1:] == there.blocks and found.not_read == there.not_read, pieces
 
 
 def test_what_ends_as_a_picture_does():
@@ -292,7 +292,7 @@ def test_cost_of_a_long_picture(counted, folder):
         filler = [segment(0xFE, bytes(50_000 - 4))] * (size // 50_000) + [segment(0xFE, bytes(size % 50_000))]
         octets = jpeg(*filler, app1(A), base=SMALL_JPEG[:-2] + b"\x11" * 4_000_000 + SMALL_JPEG[-2:])
         (folder / "a.jpg").write_bytes(octets)
-        assert [it.data for it in extraction.blocks_of_file(os.fsencode(folder / "a.jpg")).found] == [A]
+        assert [it.data for it in extraction.blocks_of_file(os.fsencode(folder / "a.jpg")).blocks] == [A]
         assert [it for it in calls if it[0] == "parts"] == [("parts", 65_536 << number) for number in range(expected)]
         assert sum(reads) == (65_536 << expected - 1) + 65_536 + 1
 
@@ -301,7 +301,7 @@ def test_cost_of_further_pictures(counted):
     calls, _ = counted
     octets = mpf(app1(A), jpeg(app1(B)), jpeg(app1(B)), jpeg(app1(B)))
     stream = Counting(octets)
-    assert len(jpeg_.read(stream).found) == 4
+    assert len(jpeg_.read(stream).blocks) == 4
     assert len(calls) == 4 and stream.octets < 5 * len(octets)
 
 

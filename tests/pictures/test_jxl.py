@@ -82,7 +82,7 @@ def test_compressed_blocks():
         ("exif", "unreadable: Compressed", None),
         ("xmp", "unreadable: Compressed", None),
     ]
-    for it in found.found:
+    for it in found.blocks:
         assert "compressed by Brotli" in "".join(explain.explain(it.kind, it.data).lines())
 
 

@@ -412,7 +412,7 @@ class Messages(WithPictures):
         )
         for name, problem, detail in ((self.folder, "NotAFile", TEXTS["NotAFile"]), (self.path("a"), "NoFile", TEXTS["NoFile"])):
             it = extraction.blocks_of_file(os.fsencode(name))
-            self.assertEqual((it.problem, it.detail, it.found, it.not_read), (problem, detail, [], []))
+            self.assertEqual((it.problem, it.detail, it.blocks, it.not_read), (problem, detail, [], []))
 
     def test_streams_that_are_closed(self):
         """Each gets /dev/null, so that no file gets its number; without standard output nothing can be done."""

@@ -218,12 +218,12 @@ class Extracted(WithPictures):
     def test_a_damaged_chunk(self):
         good = png(chunk(b"eXIf", exif(b"Abc")))
         at = good.index(b"eXIf")
-        self.assertEqual(len(png_.read(io.BytesIO(good)).found), 1)
+        self.assertEqual(len(png_.read(io.BytesIO(good)).blocks), 1)
         for place in (at, at + 10, at + 4 + len(exif(b"Abc"))):
             damaged = bytearray(good)
             damaged[place] ^= 0x20
             if place == at:  # another kind, which is not read
-                self.assertEqual(png_.read(io.BytesIO(bytes(damaged))).found, [])
+                self.assertEqual(png_.read(io.BytesIO(bytes(damaged))).blocks, [])
             else:
                 with self.assertRaisesRegex(Broken, "check sum"):
                     png_.read(io.BytesIO(bytes(damaged)))

@@ -21,7 +21,7 @@ RAW = "TIFF DNG NEF NRW CR2 ARW ARQ SR2 SRF SRW ORF PEF RW2 RWL 3FR IIQ ERF MEF 
 
 
 def seen(blocks):
-    return [(it.kind, it.name, it.data, it.where, it.extractor) for it in blocks.found]
+    return [(it.kind, it.name, it.data, it.where, it.extractor) for it in blocks.blocks]
 
 
 class Answers(unittest.TestCase):
@@ -56,9 +56,9 @@ class Answers(unittest.TestCase):
             *(({"FileType": it, "MIMEType": "image/x", "EXIF": "MM"}, (it, "SeveralBlocks", several)) for it in ("CR3", "CRX", "CRM")),
         ):
             found = exiftool._blocks(answer)
-            self.assertEqual((found.type, found.problem, found.detail, found.found, found.extractor), (*expected, [], "exiftool"), answer)
+            self.assertEqual((found.type, found.problem, found.detail, found.blocks, found.extractor), (*expected, [], "exiftool"), answer)
         found = exiftool._blocks({"FileType": "PDF", "MIMEType": "application/pdf", "XMP": "<x>"})
-        self.assertEqual((found.problem, len(found.found)), (None, 1))
+        self.assertEqual((found.problem, len(found.blocks)), (None, 1))
 
     def test_names_of_raw_pictures(self):
         """Those that only other programs read, in letters of either kind. Other files in the structure of TIFF are read here."""
@@ -137,12 +137,12 @@ class Files(WithPictures):
         answer = {"FileType": "NEF", "MIMEType": "image/x"}
         failed = ("ToolFailed", "exiv2 extracted no Exif block from this file", [])
         found = self.read([answer], run=lambda *_: None)
-        self.assertEqual((found.problem, found.detail, found.found), failed)
+        self.assertEqual((found.problem, found.detail, found.blocks), failed)
         for octets in (b"", b"\xff\1Exiv2", b"\xff\1Exiv2" + app13(b"other") + b"\xff\xd9", b"\xff\1Exiv2\xff\xe1\xff\xffExif\0\0MM"):
             found = self.read([answer], run=lambda words, _, folder: write(os.path.join(folder, "picture.exv"), octets))
-            self.assertEqual((found.problem, found.detail, found.found), failed, octets)
+            self.assertEqual((found.problem, found.detail, found.blocks), failed, octets)
         found = self.read([answer], has_exiv2=False)
-        self.assertEqual((found.problem, found.detail, found.found), ("NeedsExiv2", TEXTS["NeedsExiv2"], []))
+        self.assertEqual((found.problem, found.detail, found.blocks), ("NeedsExiv2", TEXTS["NeedsExiv2"], []))
 
     def test_trailers(self):
         """What ExifTool finds and the file's reader didn't; an Exif block of a trailer is none of the picture."""
@@ -168,9 +168,9 @@ class Files(WithPictures):
         )
         self.assertEqual((blocks.extractor, blocks.not_read), ("exiftool", []))
         blocks = added(lambda *_: {"IPTC": "known"})
-        self.assertEqual((blocks.extractor, len(blocks.found)), ("own", 1))
+        self.assertEqual((blocks.extractor, len(blocks.blocks)), ("own", 1))
         for why in (programs.Missing("exiftool"), programs.Failed("exiftool took longer than 1 seconds")):
             blocks = added(mock.Mock(side_effect=why))
             self.assertEqual(
-                (blocks.not_read, len(blocks.found)), ([NotRead("blocks of the trailer, for which ExifTool is needed", "")], 1)
+                (blocks.not_read, len(blocks.blocks)), ([NotRead("blocks of the trailer, for which ExifTool is needed", "")], 1)
             )

@@ -292,7 +292,7 @@ class Tiff(Pairs):
 
         write(self.path("big.tif"), b"II+\0\x08\0\0\0" + bytes(24))
         found = extraction.blocks_of_file(os.fsencode(self.path("big.tif")))
-        self.assertEqual((found.problem, found.found), ("BigTIFF", []))
+        self.assertEqual((found.problem, found.blocks), ("BigTIFF", []))
 
 
 @needs("exiftool")

@@ -128,7 +128,7 @@ def test_exiv2(tmp_path):
 def test_a_picture_without_metadata(tmp_path):
     (tmp_path / "a").write_bytes(psd(OTHER))
     found = extraction.blocks_of_file(os.fsencode(tmp_path / "a"))
-    assert (found.problem, found.found, found.not_read) == (None, [], [])
+    assert (found.problem, found.blocks, found.not_read) == (None, [], [])
 
 
 def test_layers_past_4_gb(tmp_path):

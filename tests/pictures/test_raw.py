@@ -194,5 +194,5 @@ def test_numbers_of_head(tmp_path):
         for name in (f"a.{kind}", "a.tif"):
             write(tmp_path / name, MAKERS[kind]())
             blocks = extraction.blocks_of_file(bytes(tmp_path / name))
-            found.append((blocks.type, blocks.found, blocks.not_read))
+            found.append((blocks.type, blocks.blocks, blocks.not_read))
         assert found[0] == found[1], kind

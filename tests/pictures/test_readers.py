@@ -32,10 +32,10 @@ class Readers(unittest.TestCase):
     def seen(self, octets, blocks, parts=(), whole=False):
         """Compares what is found in a file: (kind, name, position, bytes) of each block, and (part, bytes) of what isn't read."""
         found = found_in(octets, whole)
-        self.assertEqual([(it.kind, it.name, it.where, it.data) for it in found.found], list(blocks))
+        self.assertEqual([(it.kind, it.name, it.where, it.data) for it in found.blocks], list(blocks))
         self.assertEqual([tuple(it) for it in found.not_read], left(*parts))
         self.assertEqual(
-            (found.problem, found.detail, found.extractor, {it.extractor for it in found.found} | {"own"}), (None, "", "own", {"own"})
+            (found.problem, found.detail, found.extractor, {it.extractor for it in found.blocks} | {"own"}), (None, "", "own", {"own"})
         )
         return found
 
@@ -91,7 +91,7 @@ class Readers(unittest.TestCase):
                 (f"bytes behind the Photoshop resources in the APP13 segment at {at[13]}", b"rest"),
             ],
         )
-        self.assertEqual((found.type, found.has_more, found.found[-1].extends), ("JPEG", False, name))
+        self.assertEqual((found.type, found.has_more, found.blocks[-1].extends), ("JPEG", False, name))
 
     def test_what_is_after_resources(self):
         """Zeros are padding; anything else, and a resource that is cut, is named with all that follows."""
@@ -129,7 +129,7 @@ class Readers(unittest.TestCase):
             [("piece of extended XMP that does not fit the others", it[4:]) for it in (short, wrong, two[0])]
             + [("third extended XMP, of which pieces are missing or overlap", b"EFGH")],
         )
-        self.assertEqual([it.extends for it in found.found], ["A" * 32, "B" * 32, "D" * 32])
+        self.assertEqual([it.extends for it in found.blocks], ["A" * 32, "B" * 32, "D" * 32])
 
     def test_pictures_of_an_index(self):
         further = jpeg(app1(B), segment(0xE1, b"other"), app13(resource(0x0423, b"more") + b"rest"))
@@ -218,7 +218,7 @@ class Readers(unittest.TestCase):
                 self.too_much(b"\xff\xd8" + it * 6 + b"\xff\xd9", "more than 5 segments")
         whole = b"\xff\xd8" + app1(A) + app1(B)
         with mock.patch.dict(budgets.LIMITS, {budgets.SEGMENT_BYTES: len(whole) + 2}):
-            self.assertEqual(len(found_in(whole + b"\xff\xd9").found), 2)
+            self.assertEqual(len(found_in(whole + b"\xff\xd9").blocks), 2)
             self.too_much(whole + segment(0xFE, b"") + b"\xff\xd9", f"more than {len(whole) + 2:,} bytes of segments")
         with mock.patch.dict(budgets.LIMITS, {budgets.SEGMENTS: 13}):  # the pictures of an index have one budget
             self.assertEqual(len(found_in(mpf(app1(A), MIN, MIN)).not_read), 0)
@@ -229,11 +229,11 @@ class Readers(unittest.TestCase):
         for what, one in ((budgets.BLOCKS, app1(A) + b"\xff\x01"), (budgets.NOT_READ, segment(0xE1, b"unknown"))):
             with mock.patch.dict(budgets.LIMITS, {what: 2}):
                 found = found_in(jpeg(*[one] * 10))
-                self.assertEqual(len(found.found) + len(found.not_read), 10)
+                self.assertEqual(len(found.blocks) + len(found.not_read), 10)
                 self.too_much(jpeg(*[one] * 11), f"more than 2 {what}")
         many = [resource(0x0425, b"")] * 20
         with mock.patch.dict(budgets.LIMITS, {budgets.RESOURCES: 20}):
-            self.assertEqual(found_in(jpeg(app13(*many))).found, [])
+            self.assertEqual(found_in(jpeg(app13(*many))).blocks, [])
             self.too_much(jpeg(app13(*many, *many)), "more than 20 Photoshop resources")
             self.too_much(png(profile(b"8bim", b"".join(many)), profile(b"8bim", b"".join(many))), "more than 20 Photoshop resources")
 
@@ -355,10 +355,10 @@ class Readers(unittest.TestCase):
         ):
             self.broken(octets, why)
         with mock.patch.dict(budgets.LIMITS, {budgets.CHUNKS: 4, budgets.CHUNK_BYTES: 1000}):
-            self.assertEqual(len(found_in(whole).found), 1)
+            self.assertEqual(len(found_in(whole).blocks), 1)
             self.too_much(png(chunk(b"aaaa", b""), chunk(b"bbbb", b"")), "more than 4 chunks")
             self.too_much(png(chunk(b"eXIf", bytes(1001))), "more than 1,000 bytes of chunks")
-            self.assertEqual(len(found_in(png(chunk(b"eXIf", bytes(1000)))).found), 1)
+            self.assertEqual(len(found_in(png(chunk(b"eXIf", bytes(1000)))).blocks), 1)
             packed = chunk(b"zTXt", b"xml:com.adobe.xmp\0\0" + zlib.compress(bytes(2000)))
             self.too_much(png(packed), "more than 1,000 bytes of chunks")
 
@@ -391,9 +391,9 @@ class Readers(unittest.TestCase):
             self.broken(whole[:16] + struct.pack("<I", len(A) + 1) + whole[20:] + behind, "the chunk at 12 is longer than the file")
         with mock.patch.dict(budgets.LIMITS, {budgets.CHUNKS: 3, budgets.CHUNK_BYTES: 100}):
             self.too_much(webp(*[(b"VP8 ", b"")] * 3), "more than 3 chunks")
-            self.assertEqual(len(found_in(webp(*[(b"EXIF", b"")] * 2)).found), 2)
+            self.assertEqual(len(found_in(webp(*[(b"EXIF", b"")] * 2)).blocks), 2)
             self.too_much(webp((b"EXIF", bytes(101))), "more than 100 bytes of chunks")
-            self.assertEqual(len(found_in(webp((b"EXIF", bytes(100)))).found), 1)
+            self.assertEqual(len(found_in(webp((b"EXIF", bytes(100)))).blocks), 1)
 
     def test_pages_of_a_tiff(self):
         below = [(0x010F, ASCII, b"below\0"), (0x014A, LONG, [(0x0110, ASCII, b"deep\0\0")])]
@@ -412,9 +412,9 @@ class Readers(unittest.TestCase):
         ):
             found = found_in(octets)
         kept = [0x100, 0x101, 0x102, 0x103, 0x106, 0x10F, 0x115, 0x116, 0x8606]
-        places = [it.where.partition(",")[0] for it in found.found if it.kind == "exif"]
+        places = [it.where.partition(",")[0] for it in found.blocks if it.kind == "exif"]
         self.assertEqual(
-            [(it.kind, it.name, it.where, it.data) for it in found.found],
+            [(it.kind, it.name, it.where, it.data) for it in found.blocks],
             [
                 ("xmp", "XMP", "tag 02bc of page 1", T),
                 ("iptc", "IPTC", "tag 83bb of page 1", K),
@@ -513,7 +513,7 @@ class Readers(unittest.TestCase):
             [("exif", "Exif", "EXIF chunk at 12", long), ("xmp", "XMP", f"XMP chunk at {20 + len(long)}", many)],
         )
         found = found_in(tiff([(0x02BC, 1, many), (0x83BB, 7, K), (0x010F, ASCII, b"x" * 1_000_000)]))
-        self.assertEqual([(it.kind, len(it.data)) for it in found.found], [("xmp", len(many)), ("iptc", len(K)), ("exif", 26 + 1_000_000)])
+        self.assertEqual([(it.kind, len(it.data)) for it in found.blocks], [("xmp", len(many)), ("iptc", len(K)), ("exif", 26 + 1_000_000)])
 
     def test_where_a_tiff_ends(self):
         """After its last directory, value or strip, wherever that is: what follows is a trailer."""
@@ -559,20 +559,20 @@ class Readers(unittest.TestCase):
         with mock.patch.dict(budgets.LIMITS, {budgets.VALUE_BYTES: 100}):
             self.too_much(tiff(page((0x02BC, 1, b"x" * 101))), "more than 100 bytes of values")
             self.too_much(tiff([(0x02BC, 1, b"x" * 60), (0x83BB, 1, b"x" * 41)]), "more than 100 bytes of values")
-            self.assertEqual(len(found_in(tiff(page((0x02BC, 1, b"x" * 100)))).found), 2)
+            self.assertEqual(len(found_in(tiff(page((0x02BC, 1, b"x" * 100)))).blocks), 2)
         three = tiff(*[[(0x100, LONG, 1), (0x101, LONG, 1)]] * 3)
         named = b"MM\0*" + struct.pack(">IHHHII", 8, 1, 0x014A, LONG, 8, 26) + bytes(4 + 32)
         for what, most in ((budgets.DIRECTORIES, 3), (budgets.ENTRIES, 6)):
             with mock.patch.dict(budgets.LIMITS, {what: most - 1}):
                 self.too_much(three, f"more than {most - 1} {what}")
             with mock.patch.dict(budgets.LIMITS, {what: most}):
-                self.assertEqual(len(found_in(three).found), 3)
+                self.assertEqual(len(found_in(three).blocks), 3)
         with mock.patch.dict(budgets.LIMITS, {budgets.DIRECTORIES: 7}):  # SubIFDs count before any of them is read
             self.too_much(named, "more than 7 directories")
         with mock.patch.object(tiff_, "LIMIT", 33):
             self.broken(tiff([], [(0x010F, ASCII, b"12345678")]), "page 2 has more than 33 bytes of values")
         with mock.patch.object(tiff_, "LIMIT", 34):
-            self.assertEqual(len(found_in(tiff([(0x010F, ASCII, b"12345678")])).found), 1)
+            self.assertEqual(len(found_in(tiff([(0x010F, ASCII, b"12345678")])).blocks), 1)
 
     def test_ordinals(self):
         words = ["first", "second", "third", "fourth", "fifth", "sixth", "seventh", "eighth", "ninth", "10th", "11th"]
@@ -580,4 +580,4 @@ class Readers(unittest.TestCase):
         some = Blocks()
         for kind, part in (("xmp", ""), ("xmp", "page 2"), ("xmp", "page 2"), ("iptc", "")):
             some.add(kind, b"", "", part)
-        self.assertEqual([it.name for it in some.found], ["XMP", "XMP of page 2", "second XMP of page 2", "IPTC"])
+        self.assertEqual([it.name for it in some.blocks], ["XMP", "XMP of page 2", "second XMP of page 2", "IPTC"])

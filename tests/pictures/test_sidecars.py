@@ -257,7 +257,7 @@ def test_the_bytes_of_all_sidecars_are_limited(tmp_path):
     many = [sidecars.Sidecar(f"XMP sidecar of version {it}", b"big.xmp") for it in range(10)]
     sidecars.add(blocks, bytes(tmp_path / "a.jpg"), [sidecars.Sidecar("XMP sidecar", b"too-big.xmp"), *many])
     most = LIMITS[XMP_BYTES] // PACKET_BYTES
-    assert (len(blocks.found), len(blocks.not_read)) == (most, 11 - most)
+    assert (len(blocks.blocks), len(blocks.not_read)) == (most, 11 - most)
     assert not any(it.digest for it in blocks.not_read)
 
 

@@ -317,7 +317,7 @@ class Problems(unittest.TestCase):
         for raised, problem in ((programs.Failed("it ended"), "ToolFailed"), (missing, "NeedsExifTool")):
             with mock.patch.object(named.extraction, "blocks_of_file", mock.Mock(side_effect=raised)):
                 found = named.blocks_of_named(b"a.gif", Session())
-            self.assertEqual((found.problem, found.detail, found.found), (problem, str(raised), []))
+            self.assertEqual((found.problem, found.detail, found.blocks), (problem, str(raised), []))
             self.assertIn(problem, index.NOT_READABLE)
 
 

@@ -205,7 +205,7 @@ def test_a_catalogue_that_is_gone_before_the_end(asked, folder, harm, monkeypatc
 
     def close(catalogue):
         whole(catalogue)
-        if catalogue.name == "c" and catalogue._made:
+        if catalogue.name == "c" and catalogue._is_written:
             harm(folder / "c")
 
     monkeypatch.setattr(Catalogue, "close", close)

@@ -174,7 +174,7 @@ class SingleBlocks(unittest.TestCase):
         ):
             some = found_.Blocks()
             some.add(found_.XMP, packet, "somewhere")
-            some.found += [found_.FoundBlock(found_.XMP, data, it, "somewhere", extends=name) for it, data in zip((first, second), pieces)]
+            some.blocks += [found_.FoundBlock(found_.XMP, data, it, "somewhere", extends=name) for it, data in zip((first, second), pieces)]
             judged = judge.judge_all(some)
             self.assertEqual([(it.name, it.status, it.cause) for it in judged], expected)
             used = pieces[0] if packet == asking and pieces else b""
@@ -187,7 +187,7 @@ class SingleBlocks(unittest.TestCase):
         packet = xmp(notes)
         some = found_.Blocks()
         some.add(found_.XMP, packet, "somewhere")
-        some.found += [found_.FoundBlock(found_.XMP, data, "extended XMP", "somewhere", extends=it) for it, data in pieces.items()]
+        some.blocks += [found_.FoundBlock(found_.XMP, data, "extended XMP", "somewhere", extends=it) for it, data in pieces.items()]
         judged = judge.judge_all(some)
         self.assertEqual([(it.status, it.cause) for it in judged], [("accepted", None)])
         self.assertEqual(judged[0].octets, hashlib.sha256(packet + b"".join(pieces[it] for it in sorted(pieces))).hexdigest())
@@ -198,7 +198,7 @@ class SingleBlocks(unittest.TestCase):
         octets = [bytes([it]) for it in range(256)]
         for head in (*(it + b"Exif\0\0" for it in octets), *(b"Exif\0" + it for it in octets), *(it * 4 + b"eXIF\0" + it for it in octets)):
             found = jpeg_.read(io.BytesIO(jpeg(segment(0xE1, head + one))))
-            self.assertEqual([(it.kind, it.name, it.data) for it in found.found], [("exif", "Exif", one)], head)
+            self.assertEqual([(it.kind, it.name, it.data) for it in found.blocks], [("exif", "Exif", one)], head)
             self.assertEqual(found.not_read, [], head)
 
     def test_segments_that_begin_as_kodaks(self):
@@ -207,7 +207,7 @@ class SingleBlocks(unittest.TestCase):
             data = head + b"abc"
             for marker in [it for it in range(0xE0, 0xF0) if it not in (0xE1, 0xED)]:
                 found = jpeg_.read(io.BytesIO(jpeg(segment(marker, data))))
-                self.assertEqual((found.found, found.not_read), ([], [NotRead.of(mock.ANY, data)]), marker)
+                self.assertEqual((found.blocks, found.not_read), ([], [NotRead.of(mock.ANY, data)]), marker)
 
 
 class LookedAtAgain(unittest.TestCase):

@@ -55,7 +55,7 @@ def _joined(word: str, parts: Sequence[_Part]) -> _Part:
     return _Part("(" + f" {word} ".join(part.sql for part in parts) + ")", tuple(value for part in parts for value in part.values))
 
 
-class _Found:
+class _Tables:
     """The pictures with the texts of each condition, each in a temporary table: several queries use them, and find them once."""
 
     _numbers = itertools.count()
@@ -215,8 +215,8 @@ class Answer:
         self._catalogue = catalogue
         self.labels = labels_of(question) if question else []  # that are asked for
         self._scope = scope.condition()
-        self._found = _Found(catalogue)
-        sure, may = ([_Part(self._found.condition(question, is_sure))] if question else [] for is_sure in (True, False))
+        self._tables_of_texts = _Tables(catalogue)
+        sure, may = ([_Part(self._tables_of_texts.condition(question, is_sure))] if question else [] for is_sure in (True, False))
         self._sure, self._may = _joined("AND", [self._scope, *sure]), _joined("AND", [self._scope, *may])
         self._not_known: Optional[int] = None
         self._open_for: Optional[str] = None  # the label for which `may_have` has a table
@@ -237,7 +237,7 @@ class Answer:
         """Of the pictures that fit: how many have a text of a label, how many have none, and of how many that isn't known."""
         if self._are_all:
             return self._having_of_all(label)
-        fits, table = self._of_fitting(), self._found.table(With(label))
+        fits, table = self._of_fitting(), self._tables_of_texts.table(With(label))
         having = int(next(self._catalogue.rows(f"SELECT count(*) FROM {table} WHERE {fits.sql}", fits.values))[0])
         without = _Part(f"p.id NOT IN (SELECT picture FROM {table})")
         not_known = self._count(_joined("AND", [_Part(unread([label])), self._sure, without]))

@@ -29,9 +29,9 @@ def fill(catalogue: Catalogue, bag: str) -> None:
     """Puts the files of a bag's manifest into a new catalogue. Raises `NoBag` and `OSError`."""
     run, count, manifest = catalogue.begin_run(""), 0, os.path.join(bag, MANIFEST)
     files = _files(os.fsencode(os.path.abspath(bag)), manifest)
-    while some := list(itertools.islice(files, _AT_ONCE)):
-        catalogue.put(run, some)
-        count += len(some)
+    while pictures := list(itertools.islice(files, _AT_ONCE)):
+        catalogue.put(run, pictures)
+        count += len(pictures)
     if next(catalogue.rows("SELECT count(*) FROM pictures"))[0] < count:
         raise NoBag(f"{manifest} lists a file twice, perhaps with two digests")
 

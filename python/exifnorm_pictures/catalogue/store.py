@@ -287,7 +287,7 @@ class Catalogue:
         """Opens a catalogue to read it, or with `make` to write to it; then a missing one is made. With `adds` one that is there is written to,
         if other runs that have it open allow it within `SHORT_WAIT`. Raises `NoCatalogue`."""
         self.name = name
-        self._made = make or adds
+        self._is_written = make or adds
         self._was_cut = False
         _check_head(name, make)
         with self.guarded():
@@ -354,7 +354,7 @@ class Catalogue:
 
     def __exit__(self, kind: Optional[Type[BaseException]], *_: object) -> None:
         self.close()
-        if self._made and kind is None:
+        if self._is_written and kind is None:
             self._check_place()
 
     def _check_place(self) -> None:
@@ -369,7 +369,7 @@ class Catalogue:
 
     def close(self) -> None:
         """Closes the catalogue. All committed data are then in its one file, which can be read in a read-only folder."""
-        if self._made:
+        if self._is_written:
             with contextlib.suppress(OSError):  # before the log is written back, which makes a file longer again that was cut
                 self._was_cut = os.stat(self.name).st_size < self._least
             with contextlib.suppress(sqlite3.Error):  # another program has it open, or the disk is full
@@ -439,10 +439,10 @@ class Catalogue:
         """The same of a picture that was looked at."""
         same = " AND ".join(f"{column} IS ?" for column in _SAME)
         values = (picture.path, *(getattr(picture, column) for column in _SAME))
-        found: "Optional[Tuple[int, bytes]]" = self.base.execute(
+        row: "Optional[Tuple[int, bytes]]" = self.base.execute(
             f"SELECT run, path FROM main.pictures WHERE path = ? AND {same}", values
         ).fetchone()
-        return found
+        return row
 
     @contextlib.contextmanager
     def attached(self, file: str, other: str) -> Iterator[str]:

@@ -81,13 +81,15 @@ def _lines(comparison: ComparedPair, rows: Sequence[FieldRow], names: Sequence[b
         yield from notes
         return
     if comparison.is_empty:
-        yield from [_of_pictures(comparison, names)] * (comparison.found.picture != Coded.UNKNOWN)
+        yield from [_of_pictures(comparison, names)] * (comparison.compared.picture != Coded.UNKNOWN)
         yield from notes
         return
     if any(it.problem for it in comparison.records):
         yield from (f"{shown_path(name)}: {it.problem}: {it.detail}" for name, it in zip(names, comparison.records) if it.problem)
         return
-    note = comparison.found.note.removeprefix(f"{coded_result(*comparison.records).note}; ")  # which `_of_pictures` says of a damaged file
+    note = comparison.compared.note.removeprefix(
+        f"{coded_result(*comparison.records).note}; "
+    )  # which `_of_pictures` says of a damaged file
     yield f"{note[:1].upper()}{note[1:]}. {_of_pictures(comparison, names)}".rstrip()
     if any(not it.is_accepted for record in comparison.records for it in record.blocks):
         yield "More about a block that isn't accepted: exifnorm-pictures explain PICTURE"
@@ -118,10 +120,10 @@ def _of_pictures(comparison: ComparedPair, names: Sequence[bytes]) -> str:
     """What is known of the coded pictures; nothing if only some fields are compared."""
     if comparison.has_only_fields:
         return "Only these fields were compared."
-    if comparison.found.picture == Coded.UNKNOWN and len({it.type for it in comparison.records}) > 1:
+    if comparison.compared.picture == Coded.UNKNOWN and len({it.type for it in comparison.records}) > 1:
         return "Only metadata was compared: the pictures are in two formats."
     damages = [f"{shown_path(name)} is damaged: {it.damage}." for name, it in zip(names, comparison.records) if it.damage]
-    return " ".join(damages) or comparison.found.picture.sentence
+    return " ".join(damages) or comparison.compared.picture.sentence
 
 
 def _heads(names: Sequence[bytes]) -> List[str]:
@@ -162,7 +164,7 @@ def _print_table(table: Table, comparison: ComparedPair, rows: Sequence[FieldRow
     for row in rows:
         table.row(row.name, *row.plain, *row.exact, row.note or ("equal number" if row.is_equal_number else None))
     problems = [f"{shown_path(name)}: {it.problem}: {it.detail}" for name, it in zip(names, comparison.records) if it.problem]
-    note = "" if problems or not comparison.found.note else f" ({comparison.found.note})"
+    note = "" if problems or not comparison.compared.note else f" ({comparison.compared.note})"
     for text in notes:
         table.row(None, None, None, None, None, text)
     if _status(comparison) == UNKNOWN:
@@ -178,11 +180,11 @@ def _members(comparison: ComparedPair, rows: Sequence[FieldRow], names: Sequence
         about = {"type": picture.type or None, **unread_members(picture)}
         pictures.append({**picture_object(name, picture.problem, picture.detail), **about})
     whole: Members = {"pictures": pictures, "result": comparison.result, "identical_files": comparison.is_identical}
-    whole["coded_picture"] = Coded.SAME if comparison.is_identical else comparison.found.picture
-    kinds = {it.kind: it.result for it in comparison.found.verdicts}
+    whole["coded_picture"] = Coded.SAME if comparison.is_identical else comparison.compared.picture
+    kinds = {it.kind: it.result for it in comparison.compared.verdicts}
     return {
         **whole,
-        "note": comparison.found.note or None,
+        "note": comparison.compared.note or None,
         "kinds": kinds,
         "proved": comparison.proved,
         "fields": [_row_members(it) for it in rows],

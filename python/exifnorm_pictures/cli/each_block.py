@@ -57,14 +57,14 @@ def _print(arguments: argparse.Namespace, reading: Reading, head: List[str], des
         line = _of_folder(arguments.command, reading.name) if os.path.isdir(reading.name) else f"{read.problem}: {read.detail}"
         _print_lines([*head, line])
         return
-    data = {one.name: one for one in read.found}
+    data = {one.name: one for one in read.blocks}
     for block in reading.blocks:
         is_described = block.is_accepted or block.repair or refused_too
         lines = describe(reading.name, data[block.name], block) if is_described else [f"{block.name}: {block.line}"]
         if lines:
             _print_lines([*head, *lines])
             head = []
-    if not read.found:
+    if not read.blocks:
         _print_lines([*head, no_block(reading)])
 
 

@@ -88,7 +88,7 @@ def _print_objects(arguments: argparse.Namespace, tried: Try) -> int:
         worst = max(worst, status_of_reading(reading, True))
         for block in reading.blocks:
             mended = None if block.is_accepted else tried(reading.name)
-            print_object("explain", "block", {**path_members(reading.name), **_block_members(reading.found(block), block, mended)})
+            print_object("explain", "block", {**path_members(reading.name), **_block_members(reading.found_block(block), block, mended)})
         if reading.problem or reading.not_read or reading.damage or not reading.blocks:
             print_object("explain", "picture", _picture_members(reading))
     return worst

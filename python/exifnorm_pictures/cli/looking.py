@@ -27,17 +27,17 @@ def catalogue_of(name: str, arguments: argparse.Namespace) -> Catalogue:
     if not os.path.isdir(name):
         return Catalogue(name)
     room = tempfile.mkdtemp(dir=arguments.session.room)
-    made = Catalogue(os.path.join(room, "catalogue"), make=True)
+    catalogue = Catalogue(os.path.join(room, "catalogue"), make=True)
     try:
         closed: List[str] = []
         how = how_of(arguments, room, closed_folder)
-        index(IndexOptions([os.fsencode(name)], quiet=_is_quiet(arguments), how=how, print_line=closed.append), made)
+        index(IndexOptions([os.fsencode(name)], quiet=_is_quiet(arguments), how=how, print_line=closed.append), catalogue)
         if closed:  # its pictures would seem to be missing
             raise NoCatalogue("; ".join(closed))
     except BaseException:
-        made.close()
+        catalogue.close()
         raise
-    return made
+    return catalogue
 
 
 def _is_quiet(arguments: argparse.Namespace) -> bool:

@@ -134,7 +134,7 @@ def _notes(reading: Reading) -> Iterator[str]:
     """What a picture has instead of fields, and what was not read of it."""
     if reading.problem:
         yield f"{reading.problem}: {reading.detail}"
-    elif not reading.read.found:
+    elif not reading.read.blocks:
         yield no_block(reading)
     yield from (f"not read: {what}" for what in unread(reading, reading.not_read))
     yield from picture_cut(reading)

@@ -236,7 +236,8 @@ def _read_otherwise(comparison: Compared, lines: List[FieldDifference], moved: b
     if not any(verdict.result in (Result.DIFFERENT, Result.DIFFERENT_REPAIRED) for verdict in comparison.verdicts):
         comparison.result = Result.DIFFERENT
     comparison.verdicts = [
-        Verdict(EXIF, Result.DIFFERENT) if it.kind == EXIF and it.result in _WITHOUT_DIFFERENCE else it for it in comparison.verdicts
+        Verdict(EXIF, Result.DIFFERENT) if verdict.kind == EXIF and verdict.result in _WITHOUT_DIFFERENCE else verdict
+        for verdict in comparison.verdicts
     ]
     comparison.note += f"; MakerNote {note} (ExifTool)"
 

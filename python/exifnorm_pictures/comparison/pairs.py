@@ -195,7 +195,7 @@ class Pairs:
         new = row[PICTURES.width : 2 * PICTURES.width]
         if is_edited:
             new = self.base.execute(f"SELECT {PICTURE_COLUMNS} FROM after.pictures WHERE id = ?", (moved,)).fetchone()
-        pictures = self._made(BEFORE, picture_of_row, row[: PICTURES.width]), self._made(AFTER, picture_of_row, new)
+        pictures = self._guarded_value(BEFORE, picture_of_row, row[: PICTURES.width]), self._guarded_value(AFTER, picture_of_row, new)
         return Pair(name, *pictures, self._named(AFTER, place) if is_edited else None)
 
     def came(self) -> Iterator[bytes]:
@@ -231,11 +231,11 @@ class Pairs:
     def blocks(self, side: int, picture: PictureRecord) -> List[BlockRecord]:
         """A picture's blocks."""
         query = f"SELECT {BLOCK_COLUMNS} FROM {_BASES[side]}.blocks WHERE picture = ? ORDER BY number"
-        return self._made(side, with_own_fields, self._of(side, query, picture, block_of_row))
+        return self._guarded_value(side, with_own_fields, self._of(side, query, picture, block_of_row))
 
     def fields(self, side: int, block: Optional[BlockRecord]) -> List[Field]:
         """The fields of a block; none if they aren't kept, or if there is no block."""
-        return self._made(side, fields_of, block) if block else []
+        return self._guarded_value(side, fields_of, block) if block else []
 
     def maker_notes(self, side: int, picture: PictureRecord, unpack: Callable[[bytes], Made]) -> Optional[Made]:
         """The result of `unpack` for what ExifTool read of a picture's MakerNotes, if it was asked."""
@@ -250,7 +250,7 @@ class Pairs:
         with self.catalogues[side].guarded():
             return [factory(row) for row in self.base.execute(query, (picture.id,))]
 
-    def _made(self, side: int, make: Callable[..., Made], value: object) -> Made:
+    def _guarded_value(self, side: int, make: Callable[..., Made], value: object) -> Made:
         with self.catalogues[side].guarded():
             return make(value)
 

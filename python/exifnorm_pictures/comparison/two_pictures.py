@@ -54,7 +54,7 @@ class ComparedPair:
     """Two pictures, and what `changed` finds."""
 
     records: Tuple[PictureRecord, PictureRecord]
-    found: Compared
+    compared: Compared
     is_identical: bool  # whether the files have the same bytes
     has_only_fields: bool  # whether only some fields were compared, and no pictures
     proved: Optional[Result]  # of the Exif and IPTC in the heads of two JPEGs: see `proved.answer`
@@ -62,20 +62,20 @@ class ComparedPair:
     @property
     def result(self) -> Result:
         """The result as `changed` has it. Two files with the same bytes are the same, whatever was read of them."""
-        return Result.SAME if self.is_identical else self.found.result
+        return Result.SAME if self.is_identical else self.compared.result
 
     @property
     def left_out(self) -> List[str]:
         """The fields that differ and don't count."""
-        return [] if self.is_identical else self.found.left_out
+        return [] if self.is_identical else self.compared.left_out
 
     @property
     def is_empty(self) -> bool:
         """Whether neither picture has metadata."""
-        is_other = self.found.result in (Result.DAMAGED, Result.OTHER_PICTURE_ALONE)
+        is_other = self.compared.result in (Result.DAMAGED, Result.OTHER_PICTURE_ALONE)
         return (
             not is_other
-            and all(it.result == Result.ABSENT for it in self.found.verdicts)
+            and all(it.result == Result.ABSENT for it in self.compared.verdicts)
             and not any(it.problem or it.unread for it in self.records)
         )
 
@@ -123,10 +123,10 @@ def rows_of(comparison: ComparedPair, each: bool) -> List[FieldRow]:
     otherwise. After as many as `show` shows there is `MORE`."""
     if comparison.is_identical:
         return []
-    rows = list(map(_row, comparison.found.changes[:SHOWN_FIELDS]))
+    rows = list(map(_row, comparison.compared.changes[:SHOWN_FIELDS]))
     rows.sort(key=lambda row: (row.is_equal_number, _place(row)))
-    rows += _note_rows(comparison.found) if each else []
-    return rows + [MORE] * (len(comparison.found.changes) > SHOWN_FIELDS)
+    rows += _note_rows(comparison.compared) if each else []
+    return rows + [MORE] * (len(comparison.compared.changes) > SHOWN_FIELDS)
 
 
 MORE = FieldRow("further fields", (None, None), (None, None), note=f"more than {SHOWN_FIELDS:,} fields differ, and these are not shown")

@@ -188,7 +188,7 @@ def _blocks(answer: Dict[str, str]) -> Blocks:
     mime = _first(answer, "MIMEType")
     if blocks.type in _SEVERAL:
         return Blocks(extractor=EXIFTOOL, type=blocks.type, problem=Problem.SEVERAL_BLOCKS, detail=Problem.SEVERAL_BLOCKS.text)
-    if blocks.found or mime.startswith("image/") or blocks.type in ("PSD", "PSB"):
+    if blocks.blocks or mime.startswith("image/") or blocks.type in ("PSD", "PSB"):
         return blocks
     error = _first(answer, "Error")
     detail = error or (f"{blocks.type} ({mime})" if blocks.type else Problem.NO_PICTURE.text)
@@ -231,7 +231,7 @@ def _exif_of_exiv2(path: str) -> bytes:
 
 def add_trailers(session: Session, blocks: Blocks, path: bytes) -> None:
     """Adds the IPTC and XMP blocks that ExifTool finds in the trailer of a picture; the trailer itself was noted as not read."""
-    known = {it.data for it in blocks.found}
+    known = {it.data for it in blocks.blocks}
     try:
         answer = ask(session, path, _WORDS)
         in_trailer = [(kind, octets(value)) for tag, kind in _TAGS.items() for value in values(answer, tag) if kind != EXIF]

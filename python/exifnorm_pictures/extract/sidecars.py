@@ -139,7 +139,7 @@ def add(blocks: Blocks, path: bytes, sidecars: Sequence[Sidecar]) -> None:
         else:
             left -= len(data)
             blocks.check()
-            blocks.found.append(FoundBlock(XMP, data, sidecar.block, f"file {sidecar.file.decode('utf-8', 'backslashreplace')}"))
+            blocks.blocks.append(FoundBlock(XMP, data, sidecar.block, f"file {sidecar.file.decode('utf-8', 'backslashreplace')}"))
 
 
 def with_sidecars(digest: str, path: bytes, sidecars: Sequence[Sidecar]) -> str:

@@ -14,17 +14,17 @@ Source = TypeVar("Source")
 class Fields(Generic[Source]):
     """The fields of a normal form or of the statements of a packet: made once, when somebody asks for them."""
 
-    __slots__ = ("_make", "_source", "_made")
+    __slots__ = ("_make", "_source", "_fields")
 
     def __init__(self, make: Callable[[Source], List[Field]], source: Source) -> None:
         self._make, self._source = make, source
-        self._made: Optional[List[Field]] = None
+        self._fields: Optional[List[Field]] = None
 
     def all(self) -> List[Field]:
         """The fields, in the order of a listing."""
-        if self._made is None:
-            self._made = self._make(self._source)
-        return self._made
+        if self._fields is None:
+            self._fields = self._make(self._source)
+        return self._fields
 
 
 def fields_of(block: BlockRecord) -> List[Field]:

@@ -104,15 +104,15 @@ def _with_notes(block: BlockRecord, at: FoundBlock, blocks: Blocks) -> BlockReco
 
 def judge_all(blocks: Blocks, packs: bool = False) -> List[BlockRecord]:
     """Judges all blocks of a picture, in their order. Extended XMP is judged with the packet that refers to it. Raises `TooMuch`."""
-    if any([_says_nothing(it) for it in blocks.found if it.kind != XMP]):
-        blocks.found = [it for it in blocks.found if not _says_nothing(it)]
-    extended = _Extended(blocks) if any([it.extends for it in blocks.found]) else None
+    if any([_says_nothing(it) for it in blocks.blocks if it.kind != XMP]):
+        blocks.blocks = [it for it in blocks.blocks if not _says_nothing(it)]
+    extended = _Extended(blocks) if any([it.extends for it in blocks.blocks]) else None
     none = xmp.Extensions({}, blocks.budget)
     known: Dict[Tuple[str, bytes], BlockRecord] = {}
-    many = len(blocks.found) > FEW
+    many = len(blocks.blocks) > FEW
     judged: List[BlockRecord] = []
     kept = 0
-    for at in blocks.found:
+    for at in blocks.blocks:
         if at.extends:
             continue
         block = known.get((at.kind, at.data)) if many else None
@@ -149,9 +149,9 @@ class _Extended:
     """The extended XMP of a picture by the part of the file, since a packet's extension is beside it."""
 
     def __init__(self, blocks: Blocks) -> None:
-        self.found = [it for it in blocks.found if it.extends]
+        self.blocks = [it for it in blocks.blocks if it.extends]
         self.every: Dict[str, Dict[str, bytes]] = {}
-        for at in self.found:
+        for at in self.blocks:
             self.every.setdefault(_part(at), {}).setdefault(at.extends, at.data)
         self.remaining = {part: dict(some) for part, some in self.every.items()}
         self.named = {part: xmp.Extensions(some, blocks.budget) for part, some in self.every.items()}
@@ -164,7 +164,7 @@ class _Extended:
 
     def not_named(self) -> List[BlockRecord]:
         """What no packet beside it named."""
-        left = [it for it in self.found if it.extends in self.remaining[_part(it)] or it.data != self.every[_part(it)][it.extends]]
+        left = [it for it in self.blocks if it.extends in self.remaining[_part(it)] or it.data != self.every[_part(it)][it.extends]]
         return [_unreadable(XMP, it, len(it.data), hashlib.sha256(it.data).hexdigest(), "ExtensionNotNamed") for it in left]
 
 

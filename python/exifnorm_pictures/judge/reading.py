@@ -87,6 +87,6 @@ class Reading:
 
         return position_of(one for block in self.blocks for one in fields_of(block))
 
-    def found(self, block: BlockRecord) -> FoundBlock:
+    def found_block(self, block: BlockRecord) -> FoundBlock:
         """A block as it was found."""
-        return next(it for it in self.read.found if it.name == block.name)
+        return next(it for it in self.read.blocks if it.name == block.name)

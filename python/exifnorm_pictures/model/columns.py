@@ -41,7 +41,7 @@ class Columns(Generic[Record]):
         self.longest: List[int] = [more.longest for _, _, more in columns]
         self.width = len(columns)
         named: Any = record  # a NamedTuple, which types can't say
-        self._made: Callable[[Iterable[Any]], Record] = named._make
+        self._record_of: Callable[[Iterable[Any]], Record] = named._make
         self._others = tuple(named._field_defaults[name] for name in named._fields[self.width :])
         self._lines = [*first, *(_defined(name, kind, more) for name, kind, more in columns), *last]
         self._right: Dict[Tuple[type, ...], _IsShort] = {}  # by the types of a row, which are right: whether its values are short
@@ -67,7 +67,7 @@ class Columns(Generic[Record]):
             check(row, self.types, self.longest)
             if is_short is None and len(self._right) < _KINDS:
                 self._right[kinds] = self._shortness(kinds)
-        return self._made(row + self._others)
+        return self._record_of(row + self._others)
 
     def _shortness(self, kinds: Tuple[type, ...]) -> _IsShort:
         """For rows with values of these types: whether all texts and bytes of a row are short enough for each of its columns."""

@@ -144,7 +144,7 @@ class Blocks:
     `problem` is a `Problem` if the file could not be read at all; it then has no block.
     """
 
-    found: List[FoundBlock] = field(default_factory=list)
+    blocks: List[FoundBlock] = field(default_factory=list)
     not_read: List[NotRead] = field(default_factory=list)
     extractor: str = OWN  # EXIFTOOL if any block, or the result that there is none, comes from ExifTool or exiv2
     type: str = ""  # the format's name: JPEG, PNG, WEBP, TIFF, or ExifTool's name for it
@@ -160,18 +160,18 @@ class Blocks:
 
         >>> blocks = Blocks()
         >>> blocks.add(EXIF, b"MM", "APP1 segment at 2"); blocks.add(EXIF, b"II", "APP1 segment at 30")
-        >>> [it.name for it in blocks.found]
+        >>> [it.name for it in blocks.blocks]
         ['Exif', 'second Exif']
         """
-        if len(self.found) >= FEW:
+        if len(self.blocks) >= FEW:
             self.check()
         name = NAMES[kind] + (f" of {part}" if part else "")
         number = self.counts[name] = self.counts.get(name, 0) + 1
-        self.found.append(FoundBlock(kind, data, name if number == 1 else f"{ordinal(number)} {name}", where, extractor, note=note))
+        self.blocks.append(FoundBlock(kind, data, name if number == 1 else f"{ordinal(number)} {name}", where, extractor, note=note))
 
     def check(self) -> None:
         """Raises `TooMuch` if the file may have no further block."""
-        if len(self.found) >= FEW:
+        if len(self.blocks) >= FEW:
             self.budget.spend(BLOCKS)
 
     def leave(self, what: str, data: bytes) -> None:
@@ -190,4 +190,4 @@ class Blocks:
         >>> Blocks([FoundBlock(EXIF, b"MM", "Exif", "eXIf chunk at 33")]).of_kind(XMP)
         []
         """
-        return [it for it in self.found if it.kind == kind]
+        return [it for it in self.blocks if it.kind == kind]

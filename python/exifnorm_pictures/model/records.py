@@ -190,7 +190,7 @@ class PictureRecord(NamedTuple):
         return cls._make(values)
 
     @classmethod
-    def found(
+    def of_blocks(
         cls, path: bytes, root: bytes, stamp: Optional[Stamp], blocks: Blocks, judged: Sequence[BlockRecord] = (), **others: Any
     ) -> "PictureRecord":
         """A picture by its blocks, as they were found and judged."""

@@ -151,7 +151,7 @@ def _repaired(session: Session, picture: bytes, taken: Blocks, room: str) -> Opt
     """A copy whose Exif blocks are repaired; none if that isn't enough, or changes anything else that is read of the file."""
     name = os.path.join(room, "repair" + _suffix(picture))
     with opening.reading(picture) as given:
-        repair = repaired_file.changes(given, taken.type, taken.found)
+        repair = repaired_file.changes(given, taken.type, taken.blocks)
         if repair is None:
             return None
         with open(name, "xb") as copy:
@@ -165,7 +165,7 @@ def _repaired(session: Session, picture: bytes, taken: Blocks, room: str) -> Opt
 def _beside_exif(taken: Blocks) -> List[object]:
     """What a repair of Exif must not change: the rest of a damaged file is the same wherever it begins."""
     parts = ((REST if it.what.startswith(REST) else it.what, it.digest) for it in taken.not_read)
-    return [*((it.kind, it.name, it.data) for it in taken.found if it.kind != EXIF), *sorted(parts)]
+    return [*((it.kind, it.name, it.data) for it in taken.blocks if it.kind != EXIF), *sorted(parts)]
 
 
 def _put(octets: bytes, picture: bytes, out: bytes, check: Callable[[bytes], None]) -> None:

@@ -24,14 +24,14 @@ class Checked(NamedTuple):
     """A picture with metadata in two standards at least, and its differences."""
 
     path: bytes
-    found: List[Conflict]
+    conflicts: List[Conflict]
     is_whole: bool  # whether all of its texts were compared
     has_two: bool = True  # standards, as far as its file goes
 
     @property
     def real(self) -> List[Conflict]:
         """Its contradictions."""
-        return [it for it in self.found if it.is_real]
+        return [it for it in self.conflicts if it.is_real]
 
 
 @dataclass
@@ -49,7 +49,7 @@ class Contradictions:
         real = checked.real
         self.pictures += checked.has_two
         self.real += bool(real)
-        self.minor += bool(checked.found) and not real
+        self.minor += bool(checked.conflicts) and not real
         self.unread += not checked.is_whole
         self.labels.update([one.label for one in real])
 

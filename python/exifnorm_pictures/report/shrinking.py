@@ -70,10 +70,10 @@ def _shrunk(image_module: Any, source: Any, orientation: int) -> Optional[bytes]
             picture = picture.transpose(turns[orientation])
         for widest in _WIDEST:
             picture.thumbnail((widest, widest))
-            made = io.BytesIO()
-            picture.save(made, "JPEG", quality=72, optimize=True)
-            if made.tell() <= LARGEST:
-                return made.getvalue()
+            thumbnail = io.BytesIO()
+            picture.save(thumbnail, "JPEG", quality=72, optimize=True)
+            if thumbnail.tell() <= LARGEST:
+                return thumbnail.getvalue()
     except Exception:  # Pillow raises many kinds, also when it is out of memory
         return None
     return None

@@ -148,16 +148,16 @@ class _Finding:
 
     def each(self, between: Callable[[], object]) -> Iterator[FoundFile]:
         """The files that have to be looked at; `between` is called each time that some are found. The catalogue is not locked outside."""
-        some: List[FoundFile] = []
+        files: List[FoundFile] = []
         while not self.is_whole:
-            following = self._some()
+            following = self._next_files()
             self.work.to_read += len(following)
             between()
-            yield from some
-            some = following
-        yield from some
+            yield from files
+            files = following
+        yield from files
 
-    def _some(self) -> List[FoundFile]:
+    def _next_files(self) -> List[FoundFile]:
         """Of the next files those that have to be looked at."""
         with self.catalogue.reading():
             files = list(islice(self._files, AHEAD))

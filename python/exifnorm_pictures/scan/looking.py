@@ -55,18 +55,18 @@ def _look(file: FoundFile, how: How, session: Session, packs: bool) -> PictureRe
     except OSError as error:
         return PictureRecord.of(file.path, file.root, problem=Problem.UNREADABLE, detail=reason(error))
     except programs.Missing as error:
-        return PictureRecord.found(file.path, file.root, file.stamp, Blocks(problem=Problem.NEEDS_EXIFTOOL, detail=str(error)))
+        return PictureRecord.of_blocks(file.path, file.root, file.stamp, Blocks(problem=Problem.NEEDS_EXIFTOOL, detail=str(error)))
     except MemoryError:
         return failed(file, "out of memory")
     except Exception as error:  # an error of a reader affects only this file
-        return PictureRecord.found(file.path, file.root, file.stamp, extraction.failed_here(error, session))
+        return PictureRecord.of_blocks(file.path, file.root, file.stamp, extraction.failed_here(error, session))
     coded, beside, damage, whole = pixels
     notes = None if reading is None else _packed(reading)
     more = {"notes": notes, "coded_picture": coded, "beside": beside, "damage": damage, "sha256": whole, "sidecars": marks}
     stamp = _unless_changed(file, began)
     if stamp and any(it.what == UNREAD_NOTES for it in blocks.not_read):
         stamp = stamp._replace(changed=RACY)  # the next run asks again
-    return PictureRecord.found(file.path, file.root, stamp, blocks, judged, file=whole_file, **more)
+    return PictureRecord.of_blocks(file.path, file.root, stamp, blocks, judged, file=whole_file, **more)
 
 
 def _read(file: FoundFile, how: How, session: Session, packs: bool) -> Tuple[Blocks, List[BlockRecord]]:
@@ -126,7 +126,7 @@ def file_digest(path: bytes, blocks: Blocks, whole: bool) -> str:
 def failed(file: FoundFile, why: str) -> PictureRecord:
     """The result for a file at which a program or a process failed."""
     return compared_with_before(
-        file, PictureRecord.found(file.path, file.root, file.stamp, Blocks(problem=Problem.TOOL_FAILED, detail=why))
+        file, PictureRecord.of_blocks(file.path, file.root, file.stamp, Blocks(problem=Problem.TOOL_FAILED, detail=why))
     )
 
 

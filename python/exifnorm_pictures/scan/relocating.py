@@ -49,10 +49,10 @@ def relocated(catalogue: Catalogue, old: bytes, new: bytes) -> "Counter[str]":
         )
         rows = _rows(catalogue, old.rstrip(b"/"), new.rstrip(b"/"), began, counts)
         while True:
-            some = list(islice(rows, _AT_ONCE))
-            if not some:
+            rows_at_once = list(islice(rows, _AT_ONCE))
+            if not rows_at_once:
                 break
-            catalogue.base.executemany(_UPDATE, some)
+            catalogue.base.executemany(_UPDATE, rows_at_once)
         catalogue.base.execute("DROP TABLE temp.moving")
     return counts
 

@@ -86,7 +86,7 @@ class _Track:
 
     def __init__(self, blocks: Blocks, stream: Stream, trak: Box) -> None:
         self.blocks, self.stream = blocks, stream
-        self._found: Dict[bytes, Box] = {}
+        self._boxes: Dict[bytes, Box] = {}
         waiting = [trak]
         for outer in waiting:  # which grows meanwhile: at most by one box of each kind
             for box in boxes(stream, outer.start, outer.end):
@@ -95,13 +95,13 @@ class _Track:
     def _sort(self, box: Box, waiting: List[Box]) -> None:
         if box.kind in (b"free", b"skip"):
             return
-        if box.kind in self._found:
+        if box.kind in self._boxes:
             raise Broken(f"a second {box.name} in a track")
         if box.kind in _BELOW_TRACK:
             waiting.append(box)
         elif box.kind not in _OF_TRACKS:
             leave(self.blocks, f"{box.name} in a track", self.stream, box.start, box.end)
-        self._found[box.kind] = box
+        self._boxes[box.kind] = box
 
     def take(self) -> None:
         """Names the samples, if they aren't pixels."""
@@ -116,14 +116,14 @@ class _Track:
             self.blocks.name(NotRead(f"track {word}", digest_of_parts(self.stream, samples)))
 
     def _content(self, kind: bytes) -> bytes:
-        if kind not in self._found:
+        if kind not in self._boxes:
             raise Broken(f"a track has no {kind.decode('ascii')} box")
-        return content(self.stream, self._found[kind])
+        return content(self.stream, self._boxes[kind])
 
     def _samples(self) -> Optional[List[Tuple[int, int]]]:
         """The ranges of the samples; None unless each is a chunk by itself, as Canon writes them."""
         sizes = Fields(self._content(b"stsz"), "stsz box")
-        wide = 8 if b"co64" in self._found else 4
+        wide = 8 if b"co64" in self._boxes else 4
         places = Fields(self._content(b"co64" if wide == 8 else b"stco"), "box of chunks")
         sizes.number(4), places.number(4)
         each, count = sizes.number(4), sizes.number(4)

@@ -17,8 +17,8 @@ def add_jpeg(blocks: Blocks, stream: Stream, start: int, length: int, part: str,
         raise Broken(f"no JPEG at {start}")
     of = f" of {part}" if part else ""
     inner = jpeg.read(Window(stream, start, length), whole)
-    for block in inner.found:
+    for block in inner.blocks:
         blocks.check()
         blocks.counts[block.name + of] = 1
-        blocks.found.append(block._replace(name=block.name + of, where=f"{block.where} of the JPEG at {start}"))
+        blocks.blocks.append(block._replace(name=block.name + of, where=f"{block.where} of the JPEG at {start}"))
     blocks.not_read += [NotRead(it.what + of, it.digest) for it in inner.not_read]

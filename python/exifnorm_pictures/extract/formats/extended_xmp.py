@@ -17,7 +17,7 @@ class Pieces:
     """The pieces of the extended packets of one picture, each by its offset."""
 
     def __init__(self) -> None:
-        self._found: Dict[bytes, Tuple[int, Dict[int, bytes]]] = {}
+        self._parts: Dict[bytes, Tuple[int, Dict[int, bytes]]] = {}
         self._places: Dict[bytes, str] = {}
 
     def add(self, data: bytes, place: str) -> bool:
@@ -26,7 +26,7 @@ class Pieces:
             return False
         digest = data[:_DIGEST]
         total, offset = struct.unpack_from(">II", data, _DIGEST)
-        known = self._found.setdefault(digest, (total, {}))
+        known = self._parts.setdefault(digest, (total, {}))
         self._places.setdefault(digest, place)
         if known[0] != total or offset in known[1]:
             return False
@@ -36,7 +36,7 @@ class Pieces:
     def put_together(self, blocks: Blocks, part: str = "") -> None:
         """Adds each packet that is complete; the others are not read."""
         of = f" of {part}" if part else ""
-        for number, (digest, (total, pieces)) in enumerate(self._found.items(), 1):
+        for number, (digest, (total, pieces)) in enumerate(self._parts.items(), 1):
             name = (NAME if number == 1 else f"{ordinal(number)} {NAME}") + of
             offsets = sorted(pieces)
             ends = [it + len(pieces[it]) for it in offsets]
@@ -44,6 +44,6 @@ class Pieces:
             if offsets == [0, *ends[:-1]] and ends[-1] == total:
                 extends = digest.decode("latin-1").upper()
                 blocks.check()
-                blocks.found.append(FoundBlock(XMP, data, name, self._places[digest], extends=extends))
+                blocks.blocks.append(FoundBlock(XMP, data, name, self._places[digest], extends=extends))
             else:
                 blocks.leave(f"{name}, of which pieces are missing or overlap", data)

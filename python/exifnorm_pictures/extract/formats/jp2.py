@@ -112,8 +112,8 @@ def _uuid(blocks: Blocks, stream: Stream, box: Box) -> None:
 
 def _geotiff(blocks: Blocks, stream: Window, where: str) -> None:
     inside = tiff.read(stream)
-    for block in inside.found:
+    for block in inside.blocks:
         blocks.check()
-        blocks.found.append(block._replace(name=f"{block.name} of GeoTIFF", where=f"{block.where} of the {where}"))
+        blocks.blocks.append(block._replace(name=f"{block.name} of GeoTIFF", where=f"{block.where} of the {where}"))
     for part in inside.not_read:
         blocks.name(NotRead(f"{part.what} of GeoTIFF", part.digest))

@@ -51,7 +51,7 @@ def read(stream: Stream, whole: bool = False) -> Blocks:
     try:
         head.read(stream, 0, budget)
     except Broken as why:  # a lenient form: what a damaged file has before its fault
-        if not blocks.found:
+        if not blocks.blocks:
             raise
         blocks.not_read.append(NotRead(f"{REST} ({why})", digest_of(stream, head.end, end)))
         return blocks

@@ -51,8 +51,8 @@ class Layout:
         self._parts = _joined(
             [
                 place
-                for it in self._tables
-                for entry in it.entries
+                for table in self._tables
+                for entry in table.entries
                 if entry.size > IN_ENTRY and (place := directories.place_of(entry)) is not None
             ]
         )
