@@ -20,8 +20,8 @@ class Index(WithPictures):
             lines[1:],
             [
                 "4 accepted, 1 no block, 1 no picture, 1 refused",
-                "1 group of pictures that mean the same: exifnorm-pictures same --catalogue c",
-                "1 refused or unreadable: exifnorm-pictures report --catalogue c --html report.html",
+                "1 group of pictures that mean the same: exifnorm-pictures same c",
+                "1 refused or unreadable: exifnorm-pictures report c --html report.html",
             ],
         )
         self.assertIn(": Exif: refused: Overlap at 34", lines[0])
@@ -226,7 +226,7 @@ class Words(WithPictures):
         for words, wrong in (
             ((), "are required: COMMAND"),
             (("nothing",), "COMMAND: invalid choice: 'nothing'"),
-            (("index",), "are required: --catalogue"),
+            (("index",), "index FOLDER --catalogue CATALOGUE"),
             (("show",), " show: "),
             (("report", "--catalogue", "c"), " report: "),
             (("mend", "a"), " mend: "),

@@ -66,7 +66,7 @@ def test_excluded_pictures_of_an_earlier_run_stay(archive, called):
     out = called("index", "p", "--catalogue", "c", "--exclude", "raw")[1]
     found = known(archive)
     assert {path for path, problem in found.items() if problem} == {b"raw/b.jpg"} and found[b"raw/b.jpg"] == "Vanished"
-    assert "2 excluded, and in the catalogue from an earlier run: exifnorm-pictures forget FOLDER --catalogue c" in out
+    assert "2 excluded, and in the catalogue from an earlier run: exifnorm-pictures forget c FOLDER" in out
     called("forget", "p/raw", "p/sub/raw", "--catalogue", "c")
     assert "in the catalogue from an earlier run" not in called("index", "p", "--catalogue", "c", "--exclude", "raw")[1]
     assert set(known(archive)) == {it for it in ALL if b"raw" not in it}
@@ -89,8 +89,8 @@ def test_what_to_do_next(folder, called):
     assert "HeaderCut" in lines[0]
     assert lines[1:] == [
         "5 accepted, 1 refused",
-        "2 groups of pictures that mean the same: exifnorm-pictures same --catalogue 'my catalogue'\"'\"'s'",
-        "1 refused or unreadable: exifnorm-pictures report --catalogue 'my catalogue'\"'\"'s' --html report.html",
+        "2 groups of pictures that mean the same: exifnorm-pictures same 'my catalogue'\"'\"'s'",
+        "1 refused or unreadable: exifnorm-pictures report 'my catalogue'\"'\"'s' --html report.html",
     ]
     assert called("same", "--catalogue", name)[1].splitlines()[-3].startswith("2 groups")
     assert called("index", "p", "--catalogue", name)[1].splitlines() == ["6 unchanged", *lines[2:]]

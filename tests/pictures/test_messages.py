@@ -66,12 +66,12 @@ class CommandLine(unittest.TestCase):
             (("mend", "a", "b", "--limit", "x"), "argument --limit: x is no number of seconds"),
             (("mend", "a", "b", "--limit", "1e6"), "argument --limit: 1e6 is no number of seconds"),
             (("mend", "a", "b", "--limit", "nan"), "argument --limit: nan is no number of seconds"),
-            (("mend", "a", ""), "argument PICTURE OUT: a name is empty"),
+            (("mend", "a", ""), "argument OUT: a name is empty"),
             (("changed", "", "b"), "argument BEFORE: a name is empty"),
             (("changed", "a", "b\0"), "argument AFTER: a name is empty"),
             (("show", ""), "argument PICTURE: a name is empty"),
             (("merge", "", "--catalogue", "c"), "argument CATALOGUE: a name is empty"),
-            (("index", "", "--catalogue", "c"), "argument FOLDER: a name is empty"),
+            (("index", "", "--catalogue", "c"), "argument CATALOGUE: a name is empty"),
             *((("index", f"--{it}", ""), f"argument --{it}: a name is empty") for it in ("catalogue", "keep-old", "elsewhere")),
             *((("report", f"--{it}", ""), f"argument --{it}: a name is empty") for it in ("catalogue", "since", "html")),
             (("same", "--catalogue", ""), "argument --catalogue: a name is empty"),
@@ -89,7 +89,8 @@ class CommandLine(unittest.TestCase):
             ("index a --catalogue c b", ["a", "b"]),
         ):
             found = vars(parser.parsed(words.split()))
-            self.assertEqual(next(found[it] for it in ("pictures", "names", "folders") if it in found), names_, words)
+            given = [found.get(it) for it in ("picture", "out", "source")] + found.get("folders", found.get("pictures", []))
+            self.assertEqual([it for it in given if it is not None], names_, words)
             self.assertEqual(found["command"], words.split()[0])
 
     def test_a_wrong_argument_shows_the_usage_of_its_command(self):
@@ -255,7 +256,10 @@ class Messages(WithPictures):
         name = self.path("c")
         self.assertEqual(self.raised(NoCatalogue, Catalogue, ""), "the catalogue's name is empty")
         self.assertEqual(self.raised(NoCatalogue, Catalogue, name), f"there is no catalogue {name}")
-        self.assertEqual(self.raised(NoCatalogue, Catalogue, self.folder), f"{self.folder} is no catalogue: it is no regular file")
+        self.assertEqual(
+            self.raised(NoCatalogue, Catalogue, self.folder),
+            f"{self.folder} is a folder, and no catalogue. Make one of it: exifnorm-pictures index {self.folder} --catalogue NEW",
+        )
         other = f"{name} is no catalogue"
         for octets, text in (
             (b"", other),
@@ -272,7 +276,9 @@ class Messages(WithPictures):
                 self.assertEqual(self.raised(NoCatalogue, Catalogue, name, True), text)
             self.assertEqual((read(name), os.listdir(self.folder)), (octets, ["c"]))
         self.assertEqual(
-            self.raised(NoCatalogue, index.run, argparse.Namespace(folders=[""], files_from=None, catalogue=name, null=False, limit=60)),
+            self.raised(
+                NoCatalogue, index.run, argparse.Namespace(source=None, folders=[""], files_from=None, catalogue=name, null=False, limit=60)
+            ),
             "a name is empty",
         )
         os.remove(name)

@@ -109,7 +109,22 @@ def words_of(statement):
 TRACEBACKS, LIMITS, SHEETS, LISTS = (of_each_command(it) for it in ("--debug", "--limit", "--xlsx", "--files-from"))
 WHOLE, OBJECTS, HOWS = of_each_command("--whole"), of_each_command("--json"), of_each_command("--jobs", "--sidecars", "--pixels")
 CHOICES = [it for it in of_each_command("--ignore", "--only", "--ignore-file", "--only-file", "--equal-numbers") if it[0] != "conflicts"]
-NAMED = {"list": ("c",), "check": ("rules", "c"), "relocate": ("c", "p", "q")}  # whose catalogue can be given in two ways
+NAMED = {  # whose catalogue can be given in two ways, which comes first or last among the names
+    "index": ("c", "p"),
+    "forget": ("c", "p"),
+    "relocate": ("c", "p", "q"),
+    "verify": ("c", "p"),
+    "same": ("c",),
+    "history": ("p/a.jpg", "c"),
+    "captions": ("c",),
+    "list": ("c",),
+    "check": ("rules", "c"),
+    "nightly": ("c", "p"),
+    "conflicts": ("c",),
+    "report": ("c", "--json"),
+    "export": ("c", "tables"),
+    "mend": ("c", "q"),
+}
 # What the tests below try with each command
 EVERYWHERE = {*TRACEBACKS, *LIMITS, *SHEETS, *LISTS, *WHOLE, *OBJECTS, *HOWS, *CHOICES}
 EVERYWHERE |= {(name, "-0") for name, _ in LISTS} | {(name, "--csv") for name, _ in SHEETS} | {(name, "--catalogue") for name in NAMED}
@@ -285,12 +300,71 @@ def test_how_each_command_looks_at_pictures(command, option, archive, called, mo
     assert {getattr(it, option[2:]) for it in hows} >= {3 if option == "--jobs" else True}
 
 
+def test_each_command_with_a_catalogue_takes_it_as_a_name():
+    """`merge` makes the one of its option from those that are its names, and `changed` compares two."""
+    assert set(NAMED) == {name for name, spellings in options() if "--catalogue" in spellings} - {"merge"}
+
+
 @pytest.mark.parametrize("command", NAMED)
 def test_the_catalogue_as_a_name_and_as_an_option(command, archive, called):
-    words, catalogue = NAMED[command], (archive / "c").read_bytes()
-    expected = called(command, *words)[:2]
-    (archive / "c").write_bytes(catalogue)
-    assert called(command, *(it for it in words if it != "c"), "--catalogue", "c")[:2] == expected and expected[1]
+    """The answer is the same, and so is what is written."""
+    unsorted = block([entry(0x013B, ASCII, 4, b"Ann\0"), entry(0x010F, ASCII, 4, b"Bob\0")])
+    for name in ("a.jpg", "b.jpg"):
+        (archive / "p" / name).write_bytes(jpeg(app1(unsorted)))
+    called("index", "p", "--catalogue", "c", "--quiet", "--pixels")
+    (archive / "p" / "new.jpg").write_bytes(jpeg(app1(A)))
+    words, before = NAMED[command], folder_of(archive)
+
+    def answer(*given):
+        status, printed, _ = called(command, *given)
+        written = folder_of(archive)
+        for name in set(written) - set(before):
+            (archive / name).unlink()
+        (archive / "c").write_bytes(before["c"])
+        return status, printed, {name: octets for name, octets in written.items() if name.startswith(("p/", "q/"))}, sorted(written)
+
+    expected = answer(*words)
+    assert expected[0] < 3 and expected[1]
+    assert answer(*(it for it in words if it != "c"), "--catalogue", "c") == expected
+
+
+def folder_of(top):
+    """The bytes of each file below a folder."""
+    return {str(it.relative_to(top)): it.read_bytes() for it in sorted(top.rglob("*")) if it.is_file()}
+
+
+@pytest.mark.parametrize(
+    "words, proposed",
+    [
+        (("verify", "p"), "verify CATALOGUE p"),
+        (("verify", "p", "c"), "verify c p"),
+        (("forget", "p/no", "p/other"), "forget CATALOGUE p/no p/other"),
+        (("forget", "p", "c"), "forget c p"),
+        (("index", "p"), "index p --catalogue CATALOGUE"),
+        (("index", "p", "c"), "index c p"),
+        (("nightly", "p", "new"), "nightly p --catalogue new"),
+        (("nightly", "no"), "nightly no --catalogue CATALOGUE"),
+        (("nightly", "no", "new"), "nightly no new --catalogue CATALOGUE"),
+        (("nightly", "a b", "c"), "nightly c 'a b'"),
+        (("mend", "p", "q"), "index p --catalogue NEW"),
+    ],
+)
+def test_a_first_name_that_is_no_catalogue(words, proposed, archive, called):
+    """Nothing is written, and the answer has the line that may be meant."""
+    before = folder_of(archive)
+    status, printed, message = called(*words)
+    assert (status, printed) == (3, "") and f"exifnorm-pictures {proposed}" in message, message
+    assert folder_of(archive) == before
+
+
+@pytest.mark.parametrize(
+    "words", [("same",), ("report", "--json"), ("export", "tables"), ("relocate", "p", "q"), ("list",), ("check", "rules")]
+)
+def test_a_catalogue_that_is_missing_or_given_twice(words, archive, called, capsys):
+    for more in ((), ("c", "--catalogue", "c")):
+        with pytest.raises(SystemExit) as ended:
+            called(words[0], *more[:1], *words[1:], *more[1:])
+        assert ended.value.code == 3 and "CATALOGUE" in capsys.readouterr().err.splitlines()[-1]
 
 
 @pytest.mark.parametrize(

@@ -63,7 +63,7 @@ READ = {
     "--since",
     "--rules",
 }
-READ |= {"--exclude", "--elsewhere", "--bag", "names"}
+READ |= {"--exclude", "--elsewhere", "--bag", "old", "new"}
 KEEPS = ("index", "index, new", "merge", "nightly", "verify", "list", "check")  # what they have done when they are ended, they keep
 NO_PRINT = [name for name, words in COMMANDS.items() if "--xlsx" not in words and name not in ("report", "report, folder")]
 
@@ -119,7 +119,7 @@ def test_all_commands_and_what_they_write_are_tried():
     for name, one in commands.items():
         tried = {word for words in COMMANDS.values() if words[0] == name for word in words}
         files = {(it.option_strings or [it.dest])[-1] for it in one._actions if it.type is parser._name}
-        assert files - tried - READ <= ({"file"} if name == "export" else set()), name
+        assert files - tried - READ <= {"export": {"file"}, "mend": {"out"}}.get(name, set()), name
 
 
 class Runner:

@@ -286,8 +286,10 @@ class Lines(WithPictures):
             )
 
     def pairs(self, names, files_from=None, given=()):
+        picture, out, *_ = [*names, None, None]
+        asked = argparse.Namespace(picture=picture, out=out, files_from=files_from, catalogue=None)
         with mock.patch.object(mend_cli, "each_of_list", lambda _: list(given)):
-            return list(mend_cli._pairs(argparse.Namespace(names=names, files_from=files_from, catalogue=None)))
+            return list(mend_cli._pairs(asked, mend_cli._folder(asked)))
 
     def test_pictures_and_their_copies(self):
         os.mkdir(self.path("out"))
@@ -300,13 +302,13 @@ class Lines(WithPictures):
         )
         for names, files_from, message in (
             (["a"], None, "give PICTURE and OUT"),
-            (["a", "b", "c"], None, "give PICTURE and OUT"),
-            (["a", "b"], "-", "with --files-from give the folder OUT alone, which must be there"),
-            ([self.path("file")], "-", "with --files-from give the folder OUT alone, which must be there"),
+            (["a", "b"], "-", "give the folder for the copies alone"),
+            ([self.path("file")], "-", "is no folder"),
         ):
             with contextlib.redirect_stderr(io.StringIO()) as lines, self.assertRaises(SystemExit) as ended:
                 self.pairs(names, files_from, [b"x"])
-            self.assertEqual((lines.getvalue().splitlines()[-1], ended.exception.code), (f"exifnorm-pictures mend: {message}", 3))
+            self.assertIn(message, lines.getvalue().splitlines()[-1])
+            self.assertEqual(ended.exception.code, 3)
 
 
 class Problems(unittest.TestCase):

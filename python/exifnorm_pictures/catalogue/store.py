@@ -10,6 +10,7 @@ import contextlib
 import functools
 import os
 import re
+import shlex
 import sqlite3
 import sys
 import stat
@@ -183,6 +184,9 @@ def _check_head(name: str, make: bool) -> None:
         if make:
             return
         raise NoCatalogue(f"there is no catalogue {name}{of_day(name)}") from None
+    if stat.S_ISDIR(kind):
+        folder = shlex.quote(name)
+        raise NoCatalogue(f"{name} is a folder, and no catalogue. Make one of it: exifnorm-pictures index {folder} --catalogue NEW")
     if not stat.S_ISREG(kind):
         raise NoCatalogue(f"{name} is no catalogue: it is no regular file")
     log = _mark(f"{name}-wal")

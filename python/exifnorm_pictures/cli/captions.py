@@ -31,7 +31,8 @@ def run(arguments: argparse.Namespace) -> int:
     """Lists captions of Exif, IPTC and XMP."""
     worst = SUCCESS
     table = table_of(arguments, ["picture", *LABEL_WORDS, "latitude", "longitude", "camera's text", "contradicts itself", "not read"])
-    has_heads = is_list(arguments, arguments.pictures) or any(is_of_many(os.fsencode(name)) for name in arguments.pictures[:1])
+    has_heads = is_list(arguments, arguments.pictures) or arguments.catalogue is not None
+    has_heads = has_heads or any(is_of_many(os.fsencode(name)) for name in arguments.pictures[:1])
     for reading in pictures(arguments):
         worst = max(worst, status_of_reading(reading))
         if table:

@@ -15,7 +15,7 @@ from .exit_codes import DIFFERENCE, SUCCESS, UNKNOWN
 from .looking import Preparing, catalogue_for_questions, refuse_for_catalogues
 from .objects import print_object
 from .output import print_line, table_of
-from .parser import refuse
+from .sources import settle
 
 if TYPE_CHECKING:
     from .tables import Table
@@ -25,9 +25,7 @@ _LONGEST = 10_000_000  # bytes of rules, and of a file of words
 
 def run(arguments: argparse.Namespace) -> int:
     """Lists the pictures that break a rule."""
-    if (arguments.source is None) == (arguments.catalogue is None):
-        refuse(arguments.command, "give the rules, and one catalogue or folder")
-    source = arguments.source or arguments.catalogue
+    source = settle(arguments)
     refuse_for_catalogues(arguments, source)
     rules = rules_of_file(arguments.rules)
     with catalogue_for_questions(source, arguments) as catalogue, catalogue.reading():

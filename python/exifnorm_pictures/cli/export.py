@@ -21,13 +21,14 @@ from .exit_codes import SUCCESS
 from .names import chosen_paths, say_unknown
 from .objects import print_object
 from .output import print_line
+from .sources import settle
 
 
 def run(arguments: argparse.Namespace) -> int:
     """Writes a catalogue as plain tables of SQLite."""
     _refuse_table(arguments.file)
     chosen = chosen_paths(arguments)
-    with Catalogue(arguments.catalogue) as catalogue:
+    with Catalogue(settle(arguments)) as catalogue:
         file = os.path.join(arguments.session.room, "export")
         with tables(file) as written:
             _add_about(written, catalogue)

@@ -16,13 +16,17 @@ from .changed_tables import field_members
 from .exit_codes import DIFFERENCE, SUCCESS, UNKNOWN
 from .objects import print_object
 from .output import local_time, print_line
+from .parser import refuse
 
 
 def run(arguments: argparse.Namespace) -> int:
     """Prints the history of a picture."""
     status = SUCCESS
+    names = [*arguments.catalogues, *arguments.catalogue]
+    if not names:
+        refuse("history", "give the catalogues: exifnorm-pictures history PICTURE CATALOGUE ..")
     with contextlib.ExitStack() as open_:
-        catalogues = [open_.enter_context(Catalogue(name)) for name in arguments.catalogues]
+        catalogues = [open_.enter_context(Catalogue(name)) for name in names]
         for state in history(os.path.abspath(os.fsencode(arguments.picture)), catalogues):
             status = max(status, _status(state))
             if arguments.json:

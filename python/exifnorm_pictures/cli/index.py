@@ -22,6 +22,7 @@ from .exit_codes import SUCCESS, UNKNOWN
 from .looking import how_of
 from .names import named
 from .output import kind_of_part, print_line, record_lines
+from .sources import settle_first
 
 
 class NoSidecars(WrongUse):
@@ -45,6 +46,7 @@ class NothingThere(WrongUse):
 
 def run(arguments: argparse.Namespace) -> int:
     """Looks at pictures and keeps the results."""
+    settle_first(arguments)
     names = named(arguments, arguments.folders)
     if any(not it for it in names):
         raise NoCatalogue("a name is empty")
@@ -114,16 +116,16 @@ def _next_steps(catalogue: Catalogue, name: str, excluded: int) -> Iterator[str]
     word = escaped(shlex.quote(name))
     count, _ = groups.totals(catalogue)
     if count:
-        yield f"{count:,} group{'s' * (count > 1)} of pictures that mean the same: exifnorm-pictures same --catalogue {word}"
+        yield f"{count:,} group{'s' * (count > 1)} of pictures that mean the same: exifnorm-pictures same {word}"
     refused = next(catalogue.rows("SELECT count(*) FROM pictures WHERE problem IS NULL AND (exif IS NULL OR iptc IS NULL OR xmp IS NULL)"))[
         0
     ]
     if damaged := _damaged(catalogue):
-        yield f"{damaged:,} cut off or damaged: exifnorm-pictures report --catalogue {word} --html report.html"
+        yield f"{damaged:,} cut off or damaged: exifnorm-pictures report {word} --html report.html"
     if refused:
-        yield f"{refused:,} refused or unreadable: exifnorm-pictures report --catalogue {word} --html report.html"
+        yield f"{refused:,} refused or unreadable: exifnorm-pictures report {word} --html report.html"
     if excluded:
-        yield f"{excluded:,} excluded, and in the catalogue from an earlier run: exifnorm-pictures forget FOLDER --catalogue {word}"
+        yield f"{excluded:,} excluded, and in the catalogue from an earlier run: exifnorm-pictures forget {word} FOLDER"
 
 
 def _damaged(catalogue: Catalogue, which: str = "") -> int:

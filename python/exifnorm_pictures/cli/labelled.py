@@ -20,10 +20,16 @@ from ..scan.walk import Unlisted, below
 from .names import each_name
 from .not_read import damage_members
 from .objects import picture_object
+from .parser import refuse
 
 
 def pictures(arguments: argparse.Namespace) -> Iterator[Reading]:
     """The pictures that are named, and those of folders and catalogues that are named. Other files in these are passed over."""
+    if arguments.catalogue is not None:
+        if arguments.pictures or arguments.files_from or arguments.null or arguments.block:
+            refuse(arguments.command, "--catalogue is given alone")
+        yield from _in_catalogue(os.fsencode(arguments.catalogue))
+        return
     for name in each_name(arguments, arguments.pictures):
         if arguments.block or not is_of_many(name):
             yield _reading(arguments, name)

@@ -22,6 +22,7 @@ from .looking import Preparing, catalogue_for_questions, refuse_for_catalogues
 from .objects import print_object
 from .output import print_line, table_of
 from .parser import refuse
+from .sources import settle
 
 _WHAT_CHANGED = (
     "What changed in them isn't known from this catalogue: exifnorm-pictures changed OLD NEW says it,"
@@ -36,7 +37,7 @@ def run(arguments: argparse.Namespace) -> int:
     columns = _columns(arguments, question)
     counted = given_label(arguments.count) if arguments.count else None
     scope = Scope(_since(arguments.since) if arguments.since else None)
-    source = _source(arguments)
+    source = settle(arguments)
     refuse_for_catalogues(arguments, source)
     arguments.pixels = DAMAGE in (*(labels_of(question) if question else ()), *columns, counted)  # of a folder
     with catalogue_for_questions(source, arguments) as catalogue, catalogue.reading():
@@ -48,14 +49,6 @@ def run(arguments: argparse.Namespace) -> int:
         else:
             _print_pictures(arguments, answer, columns)
         return UNKNOWN if not_known or answer.not_known() else SUCCESS
-
-
-def _source(arguments: argparse.Namespace) -> str:
-    """The catalogue or the folder, of which one is given."""
-    given = [name for name in (arguments.source, arguments.catalogue) if name is not None]
-    if len(given) != 1:
-        refuse(arguments.command, "give one catalogue or folder")
-    return str(given[0])
 
 
 def _refuse_forms(arguments: argparse.Namespace) -> None:

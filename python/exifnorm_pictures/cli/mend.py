@@ -4,6 +4,7 @@ from __future__ import annotations
 
 import argparse
 import os
+import shlex
 from collections import Counter
 from typing import Dict, Iterator, List, Optional, Sequence, Tuple, Type
 
@@ -12,12 +13,13 @@ from ..extract import programs
 from ..files import atomic
 from ..model import steps
 from ..model.budgets import TooMuch
+from ..model.errors import WrongUse
 from ..model.problems import Problem
-from ..model.texts import Members, shown_path
+from ..model.texts import Members, escaped, shown_path
 from ..refusals import mend
 from ..refusals.damage import REMEDY
 from .exit_codes import DIFFERENCE, FAILURE, SUCCESS, UNKNOWN
-from .names import chosen_paths, each_of_list
+from .names import chosen_paths, each_of_list, is_catalogue
 from .objects import picture_object, print_object
 from .output import print_line
 from .parser import refuse
@@ -27,11 +29,12 @@ def run(arguments: argparse.Namespace) -> int:
     """Writes copies whose blocks are accepted; of several pictures also counts."""
     worst, damaged = SUCCESS, 0
     counts: "Counter[str]" = Counter()
-    for picture, out in _pairs(arguments):
-        status, result, is_damaged = _mend_one(arguments, picture, out)
+    folder = _folder(arguments)
+    for picture, out in _pairs(arguments, folder):
+        status, result, is_damaged = _mend_one(arguments, picture, out, folder)
         worst, damaged = max(worst, status), damaged + is_damaged
         counts[result] += 1
-    if arguments.files_from or arguments.catalogue:
+    if folder is not None:
         if arguments.json:
             print_object("mend", "summary", {"counts": {it: counts[it] for it in COUNTED}, "damaged": damaged})
         else:
@@ -54,9 +57,8 @@ def _counted(counts: "Counter[str]") -> str:
     return f"{total:,} picture{'s' * (total != 1)}" + f": {many}" * bool(many)
 
 
-def _mend_one(arguments: argparse.Namespace, picture: bytes, out: bytes) -> Tuple[int, str, bool]:
+def _mend_one(arguments: argparse.Namespace, picture: bytes, out: bytes, folder: Optional[bytes] = None) -> Tuple[int, str, bool]:
     """The status of a picture, by what it is counted, and whether its file is cut off or damaged."""
-    folder = os.fsencode(arguments.names[0]) if arguments.files_from or arguments.catalogue else None
     try:
         mended = mend.mend(picture, out, arguments.session, folder, arguments.lossless)
     except (mend.NotWritten, programs.Failed, programs.Missing, TooMuch) as error:
@@ -74,19 +76,40 @@ def _mend_one(arguments: argparse.Namespace, picture: bytes, out: bytes) -> Tupl
     return UNKNOWN if is_damaged else DIFFERENCE if mended.lost else SUCCESS, result, is_damaged
 
 
-def _pairs(arguments: argparse.Namespace) -> Iterator[Tuple[bytes, bytes]]:
-    """The pictures and their copies. Of a catalogue those with a block that isn't accepted."""
-    names = [os.fsencode(it) for it in arguments.names]
-    if not arguments.files_from and not arguments.catalogue:
+def _folder(arguments: argparse.Namespace) -> Optional[bytes]:
+    """The folder of the copies, if there may be several; then `catalogue` is the one that is given, if one is. `picture` and `out` are the
+    names of one picture and its copy otherwise."""
+    names = [name for name in (arguments.picture, arguments.out) if name is not None]
+    if arguments.catalogue is None and names and is_catalogue(names[0]):
+        arguments.catalogue, *names = names
+    if arguments.catalogue is None and not arguments.files_from:
         if len(names) != 2:
-            refuse("mend", "give PICTURE and OUT")
-        yield names[0], names[1]
+            refuse("mend", "give PICTURE and OUT, or CATALOGUE and OUT")
+        if os.path.isdir(names[0]):
+            folder = escaped(shlex.quote(names[0]))
+            raise NoPicture(
+                f"{escaped(names[0])} is a folder, and mend takes a picture or a catalogue. Write: exifnorm-pictures index {folder}"
+                " --catalogue NEW, and then: exifnorm-pictures mend NEW OUT"
+            )
+        return None
+    if len(names) != 1:
+        refuse("mend", "of a catalogue or a list of pictures give the folder for the copies alone: exifnorm-pictures mend CATALOGUE OUT")
+    if not os.path.isdir(names[0]):
+        refuse("mend", f"{names[0]} is no folder: the copies go below a folder that is there")
+    return os.fsencode(names[0])
+
+
+class NoPicture(WrongUse):
+    """A folder, which `mend` doesn't take."""
+
+
+def _pairs(arguments: argparse.Namespace, folder: Optional[bytes]) -> Iterator[Tuple[bytes, bytes]]:
+    """The pictures and their copies. Of a catalogue those with a block that isn't accepted."""
+    if folder is None:
+        yield os.fsencode(arguments.picture), os.fsencode(arguments.out)
         return
-    if len(names) != 1 or not os.path.isdir(names[0]):
-        which = "--catalogue" if arguments.catalogue else "--files-from"
-        refuse("mend", f"with {which} give the folder OUT alone, which must be there")
     listed = _refused(arguments) if arguments.catalogue else ((it, _below(it)) for it in each_of_list(arguments))
-    yield from ((picture, os.path.join(names[0], below)) for picture, below in listed)
+    yield from ((picture, os.path.join(folder, below)) for picture, below in listed)
 
 
 def _refused(arguments: argparse.Namespace) -> List[Tuple[bytes, bytes]]:

@@ -73,7 +73,8 @@ class WrongCommand(WrongUse):
     """Two names for which another command is meant."""
 
 
-def _is_catalogue(name: str) -> bool:
+def is_catalogue(name: str) -> bool:
+    """Whether a name is that of a file of SQLite, such as a catalogue."""
     try:
         with reading(os.fsencode(name)) as file:
             return file.read(16) == b"SQLite format 3\0"
@@ -84,12 +85,12 @@ def _is_catalogue(name: str) -> bool:
 def refuse_folders(*names: str) -> None:
     """Raises `WrongCommand` if one of the names that `compare` gets is a folder or a catalogue."""
     for name in names:
-        if os.path.isdir(name) or _is_catalogue(name):
+        if os.path.isdir(name) or is_catalogue(name):
             what = "a folder" if os.path.isdir(name) else "a catalogue"
             raise WrongCommand(f"{shown_path(name)} is {what}: compare takes two pictures; changed compares folders and catalogues")
 
 
 def refuse_pictures(*names: str) -> None:
     """Raises `WrongCommand` if the names that `changed` gets are files and no catalogues."""
-    if all(os.path.isfile(it) and os.path.getsize(it) and not _is_catalogue(it) for it in names):
+    if all(os.path.isfile(it) and os.path.getsize(it) and not is_catalogue(it) for it in names):
         raise WrongCommand("changed compares folders and catalogues; for two pictures use: exifnorm-pictures compare A B")

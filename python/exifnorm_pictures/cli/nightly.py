@@ -31,6 +31,7 @@ from .looking import how_of
 from .objects import print_object
 from .output import local_time, print_line
 from .page_file import write_report
+from .sources import settle_first
 
 Broken = Optional[Tuple[int, int]]  # how many pictures break a rule tonight, and how many did at the last night
 
@@ -124,6 +125,7 @@ class Night:
 
 def run(arguments: argparse.Namespace) -> int:
     """Looks at the folders, tells what is new, and keeps tonight's catalogue as the last one."""
+    settle_first(arguments)
     folders = list(dict.fromkeys(os.path.abspath(os.fsencode(it)) for it in arguments.folders))
     for folder in folders:
         if os.path.lexists(folder) and not os.path.isdir(folder):

@@ -226,10 +226,27 @@ def _more_arguments(parser: argparse.ArgumentParser) -> None:
     parser.add_argument("--pixels", action="store_true", help=words)
 
 
+def _source_arguments(parser: argparse.ArgumentParser, words: str = "the catalogue") -> None:
+    """For a command with one catalogue."""
+    parser.add_argument("source", nargs="?", type=_name, metavar="CATALOGUE", help=words)
+    parser.add_argument("--catalogue", type=_name, metavar="FILE", help="the same as an option")
+
+
+def _first_arguments(parser: argparse.ArgumentParser, folder: str, words: str = "the catalogue") -> None:
+    """For a command with a catalogue and folders."""
+    parser.add_argument("source", nargs="?", type=_name, metavar="CATALOGUE", help="a catalogue that is there, unless --catalogue is given")
+    parser.add_argument("folders", nargs="*", type=_name, metavar="FOLDER", help=folder)
+    parser.add_argument("--catalogue", type=_name, metavar="FILE", help=words)
+
+
+def _many_names_arguments(parser: argparse.ArgumentParser) -> None:
+    parser.add_argument("pictures", nargs="*", type=_name, metavar="PICTURE", help="a picture, a folder with all below it, or a catalogue")
+    parser.add_argument("--catalogue", type=_name, metavar="FILE", help="a catalogue, and nothing else")
+
+
 def _index_arguments(parser: argparse.ArgumentParser) -> None:
     _example(parser, "index /archive --catalogue my.catalogue --exclude '*.tmp'")
-    parser.add_argument("folders", nargs="*", type=_name, metavar="FOLDER", help="a folder, with all below it, or a picture")
-    parser.add_argument("--catalogue", required=True, type=_name, metavar="FILE", help="the catalogue; created if it is missing")
+    _first_arguments(parser, "a folder, with all below it, or a picture", "the catalogue; created if it is missing")
     parser.add_argument("--keep-old", type=_name, metavar="OLD", help="first copy the catalogue to OLD, for changed and report --since")
     parser.add_argument("--exclude", action="append", default=[], type=_name, metavar="PATTERN", help=_EXCLUDE)
     parser.add_argument("--again", action="store_true", help="look at all pictures, even if they haven't changed")
@@ -251,8 +268,8 @@ def _merge_arguments(parser: argparse.ArgumentParser) -> None:
 
 
 def _same_arguments(parser: argparse.ArgumentParser) -> None:
-    _example(parser, "same --catalogue archive.catalogue --csv > same.csv")
-    parser.add_argument("--catalogue", required=True, type=_name, metavar="FILE")
+    _example(parser, "same archive.catalogue --csv > same.csv")
+    _source_arguments(parser)
     words = (
         "what must be the same: all metadata, or those of one kind (all); pixels: the picture, whatever its metadata, and file: all bytes, both by"
         " index --pixels. A copy that was resized or saved again has another picture"
@@ -267,18 +284,15 @@ def _same_arguments(parser: argparse.ArgumentParser) -> None:
 
 
 def _forget_arguments(parser: argparse.ArgumentParser) -> None:
-    _example(parser, "forget /archive/old --catalogue my.catalogue")
-    parser.add_argument(
-        "folders", nargs="*", type=_name, metavar="FOLDER", help="a folder, with all below it, or a picture; it need not be there"
-    )
-    parser.add_argument("--catalogue", required=True, type=_name, metavar="FILE")
+    _example(parser, "forget my.catalogue /archive/old")
+    _first_arguments(parser, "a folder, with all below it, or a picture; it need not be there")
 
 
 def _relocate_arguments(parser: argparse.ArgumentParser) -> None:
     _example(parser, "relocate my.catalogue /mnt/old/archive /srv/archive")
-    words = "a catalogue, the folder that it knows, and the folder where its pictures are now"
-    parser.add_argument("names", nargs="+", type=_name, metavar="CATALOGUE OLD NEW", help=words)
-    parser.add_argument("--catalogue", type=_name, metavar="FILE", help="the catalogue, as other commands have it")
+    _source_arguments(parser)
+    parser.add_argument("old", type=_name, metavar="OLD", help="the folder that the catalogue knows")
+    parser.add_argument("new", type=_name, metavar="NEW", help="the folder where its pictures are now")
 
 
 def _choice_arguments(parser: argparse.ArgumentParser) -> None:
@@ -327,13 +341,14 @@ def _history_arguments(parser: argparse.ArgumentParser) -> None:
     _example(parser, "history vase.jpg monday.catalogue my.catalogue")
     parser.add_argument("picture", type=_name, metavar="PICTURE", help="its path in the newest catalogue that has it; it need not be there")
     words = "catalogues of one archive, as index --keep-old keeps them; their order doesn't matter"
-    parser.add_argument("catalogues", nargs="+", type=_name, metavar="CATALOGUE", help=words)
+    parser.add_argument("catalogues", nargs="*", type=_name, metavar="CATALOGUE", help=words)
+    parser.add_argument("--catalogue", action="append", default=[], type=_name, metavar="FILE", help="a further one")
 
 
 def _verify_arguments(parser: argparse.ArgumentParser) -> None:
-    _example(parser, "verify --catalogue archive.catalogue --evidence sums.txt")
-    parser.add_argument("folders", nargs="*", type=_name, metavar="FOLDER", help="a folder, with all below it (all that were indexed)")
-    parser.add_argument("--catalogue", type=_name, metavar="FILE", help="a catalogue of index --pixels, which stays as it is")
+    _example(parser, "verify archive.catalogue --evidence sums.txt")
+    words = "a folder, with all below it (all that were indexed)"
+    _first_arguments(parser, words, "a catalogue of index --pixels, which stays as it is")
     words = "in place of a catalogue, verify the files of a bag (BagIt) by its manifest-sha256.txt"
     parser.add_argument("--bag", type=_name, metavar="BAG", help=words)
     parser.add_argument("--evidence", type=_name, metavar="FILE", help="write SHA-256 of each file to a new file")
@@ -386,7 +401,7 @@ def _show_arguments(parser: argparse.ArgumentParser) -> None:
 
 def _captions_arguments(parser: argparse.ArgumentParser) -> None:
     _example(parser, "captions --csv pictures > captions.csv")
-    parser.add_argument("pictures", nargs="*", type=_name, metavar="PICTURE", help="a picture, a folder with all below it, or a catalogue")
+    _many_names_arguments(parser)
     parser.add_argument("--block", action="store_true", help="each PICTURE is a block that was extracted before")
     _looking_arguments(parser)
 
@@ -394,8 +409,7 @@ def _captions_arguments(parser: argparse.ArgumentParser) -> None:
 def _list_arguments(parser: argparse.ArgumentParser) -> None:
     _example(parser, "list my.catalogue --without credit --columns title")
     parser.description = f"{parser.description}\n\n{_FIRST}"
-    parser.add_argument("source", nargs="?", type=_name, metavar="CATALOGUE", help="a catalogue, or a folder, which is read then")
-    parser.add_argument("--catalogue", type=_name, metavar="FILE", help="the same, as other commands have it")
+    _source_arguments(parser, "a catalogue, or a folder, which is read then")
     asked = parser.add_argument_group("the question", _QUESTIONS)
     words = "pictures with a text of this label"
     asked.add_argument("--with", dest="having", action="append", default=[], metavar="LABEL", help=words)
@@ -430,8 +444,7 @@ def _check_arguments(parser: argparse.ArgumentParser) -> None:
     _example(parser, "check museum.rules my.catalogue")
     parser.description = f"{parser.description}\n\n{_RULES}\n\n{_FIRST}"
     parser.add_argument("rules", type=_name, metavar="RULES", help="a file with a rule in each line")
-    parser.add_argument("source", nargs="?", type=_name, metavar="CATALOGUE", help="a catalogue, or a folder, which is read then")
-    parser.add_argument("--catalogue", type=_name, metavar="FILE", help="the same, as other commands have it")
+    _source_arguments(parser, "a catalogue, or a folder, which is read then")
     parser.add_argument(
         "--by-picture", action="store_true", help="list the rules below each picture, in place of the pictures below each rule"
     )
@@ -453,11 +466,10 @@ _RULES = """Rules:
 def _nightly_arguments(parser: argparse.ArgumentParser) -> None:
     _example(parser, "nightly /archive --catalogue my.catalogue --rules my.rules")
     parser.description = f"{parser.description}\n\n{_NIGHTLY}"
-    parser.add_argument("folders", nargs="*", type=_name, metavar="FOLDER", help="a folder, with all below it")
     words = (
         "the catalogue of the last night; created if it is missing. Two more are kept beside it, with .before and .tonight in their names"
     )
-    parser.add_argument("--catalogue", required=True, type=_name, metavar="FILE", help=words)
+    _first_arguments(parser, "a folder, with all below it", words)
     parser.add_argument("--rules", type=_name, metavar="RULES", help="a file of rules, as for check: what breaks one newly is news")
     parser.add_argument("--html", type=_name, metavar="NAME", help="if there is news, also write the report about it, as report has it")
     parser.add_argument("--exclude", action="append", default=[], type=_name, metavar="PATTERN", help=_EXCLUDE)
@@ -477,7 +489,7 @@ _MAKER_NOTES = "also keep what ExifTool reads of MakerNotes, so that changed nee
 def _conflicts_arguments(parser: argparse.ArgumentParser) -> None:
     _example(parser, "conflicts pictures")
     parser.set_defaults(block=False)
-    parser.add_argument("pictures", nargs="*", type=_name, metavar="PICTURE", help="a picture, a folder with all below it, or a catalogue")
+    _many_names_arguments(parser)
     parser.add_argument(
         "--all", action="store_true", help="also list texts that are empty, cut, in a wrong character set, or a camera's own"
     )
@@ -488,8 +500,7 @@ def _conflicts_arguments(parser: argparse.ArgumentParser) -> None:
 
 def _report_arguments(parser: argparse.ArgumentParser) -> None:
     _example(parser, "report new.catalogue --since old.catalogue --html report/")
-    parser.add_argument("source", nargs="?", type=_name, metavar="CATALOGUE", help="the catalogue")
-    parser.add_argument("--catalogue", type=_name, metavar="FILE", help="the same")
+    _source_arguments(parser)
     parser.add_argument("--since", type=_name, metavar="OLD", help="an older catalogue: also list the changes")
     parser.add_argument("--rules", type=_name, metavar="RULES", help="also list the pictures that break these rules, as check has them")
     words = "the page to write; NAME/ with a slash at the end writes a folder of pages, for an archive of any size"
@@ -504,7 +515,7 @@ def _report_arguments(parser: argparse.ArgumentParser) -> None:
 
 def _export_arguments(parser: argparse.ArgumentParser) -> None:
     _example(parser, "export archive.catalogue archive.sqlite")
-    parser.add_argument("catalogue", type=_name, metavar="CATALOGUE", help="the catalogue to read")
+    _source_arguments(parser)
     parser.add_argument("file", type=_name, metavar="FILE", help="the file to write, which may replace an earlier export and no other file")
     parser.add_argument("--no-look", action="store_true", help="don't look at the files, as for a catalogue from elsewhere")
     parser.add_argument("--quiet", action="store_true", help="no progress on standard error")
@@ -512,10 +523,12 @@ def _export_arguments(parser: argparse.ArgumentParser) -> None:
 
 
 def _mend_arguments(parser: argparse.ArgumentParser) -> None:
-    _example(parser, "mend --catalogue archive.catalogue --lossless mended")
-    words = "the picture and the copy; with --files-from or --catalogue only a folder OUT"
-    parser.add_argument("names", nargs="+", type=_name, metavar="PICTURE OUT", help=words)
-    parser.add_argument("--catalogue", type=_name, metavar="FILE", help="all pictures of this catalogue with a refused or unreadable block")
+    _example(parser, "mend archive.catalogue mended --lossless")
+    words = "a picture; or a catalogue, for all of its pictures with a refused or unreadable block"
+    parser.add_argument("picture", nargs="?", type=_name, metavar="PICTURE", help=words)
+    words = "the copy; of a catalogue or of --files-from the folder for the copies, which is there already"
+    parser.add_argument("out", nargs="?", type=_name, metavar="OUT", help=words)
+    parser.add_argument("--catalogue", type=_name, metavar="FILE", help="the catalogue in place of PICTURE")
     parser.add_argument("--lossless", action="store_true", help="write no copy that loses or changes a printed value")
     _limit_arguments(parser)
 

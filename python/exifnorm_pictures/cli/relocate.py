@@ -5,7 +5,6 @@ from __future__ import annotations
 import argparse
 import os
 from collections import Counter
-from typing import List, Tuple
 
 from ..catalogue.store import Catalogue
 from ..model.errors import WrongUse
@@ -14,7 +13,7 @@ from ..scan.relocating import ABSENT, AS_BEFORE, CHANGED, relocated
 from .exit_codes import DIFFERENCE, SUCCESS
 from .objects import print_object
 from .output import print_line
-from .parser import refuse
+from .sources import settle
 
 
 class NotThere(WrongUse):
@@ -23,7 +22,7 @@ class NotThere(WrongUse):
 
 def run(arguments: argparse.Namespace) -> int:
     """Gives pictures of a catalogue their names below another folder; the files stay."""
-    name, old, new = _names(arguments)
+    name, old, new = settle(arguments), os.fsencode(arguments.old), os.fsencode(arguments.new)
     if not os.path.isdir(new):
         raise NotThere(f"{shown_path(new)} is no folder: give the folder where the pictures of {shown_path(old)} are now")
     if os.path.abspath(new).startswith(os.path.abspath(old).rstrip(b"/") + b"/"):
@@ -48,11 +47,3 @@ def _print(arguments: argparse.Namespace, old: bytes, new: bytes, counts: "Count
         print_line(f"{counts[CHANGED]:,} with another size or modification time: the next index reads them again")
     if counts[ABSENT]:
         print_line(f"{counts[ABSENT]:,} not there: the next index misses them")
-
-
-def _names(arguments: argparse.Namespace) -> Tuple[str, bytes, bytes]:
-    """The catalogue, and the old and the new folder."""
-    names: List[str] = arguments.names if arguments.catalogue is None else [arguments.catalogue, *arguments.names]
-    if len(names) != 3:
-        refuse(arguments.command, "give a catalogue, the old folder and the new one")
-    return names[0], os.fsencode(names[1]), os.fsencode(names[2])

@@ -15,21 +15,21 @@ from .names import chosen_paths, say_unknown
 from .objects import print_object
 from .page_file import write_report
 from .parser import refuse
+from .sources import settle
 
 
 def run(arguments: argparse.Namespace) -> int:
     """Writes a page or a folder of pages about a catalogue, or the same as JSON."""
     if not arguments.html and not arguments.json:
         refuse("report", "give --html PAGE, --json, or both")
-    if (arguments.source is None) == (arguments.catalogue is None):
-        refuse("report", "give one catalogue")
+    name = settle(arguments)
     if arguments.html:
         check()
     address = links.check(arguments.link_to) if arguments.link_to else ""
     rules = rules_of_file(arguments.rules) if arguments.rules else []
     chosen = chosen_paths(arguments)
     with contextlib.ExitStack() as open_:
-        catalogue = open_.enter_context(Catalogue(arguments.source or arguments.catalogue))
+        catalogue = open_.enter_context(Catalogue(name))
         old = open_.enter_context(Catalogue(arguments.since)) if arguments.since else None
         choice = choice_of(arguments)
         sides = [one for one in (catalogue, old) if one]

@@ -32,6 +32,7 @@ from .names import chosen_paths, say_unknown
 from .objects import line_of, print_object
 from .output import print_line, table_of
 from .parser import FILE, PIXELS
+from .sources import settle
 
 if TYPE_CHECKING:
     from ..catalogue.asking import Answer
@@ -111,6 +112,7 @@ class _Texts:
 
 def run(arguments: argparse.Namespace) -> int:
     """Lists the groups of pictures that mean the same."""
+    settle(arguments)
     kinds = KINDS if arguments.kind in ("all", PIXELS, FILE) else (arguments.kind,)
     chosen = chosen_paths(arguments)
     if arguments.columns or arguments.differ:

@@ -25,6 +25,7 @@ from .names import named
 from .objects import print_object
 from .output import closed_folder, print_line
 from .parser import refuse
+from .sources import settle_first
 
 SHOWN = 10  # files that are named of each state
 # The words of --list, and the states of the files that are listed then
@@ -44,8 +45,7 @@ class NotThere(WrongUse):
 
 def run(arguments: argparse.Namespace) -> int:
     """Compares the files that are there with a catalogue."""
-    if (arguments.bag is None) == (arguments.catalogue is None):
-        refuse("verify", "give --catalogue FILE or --bag BAG")
+    _settle(arguments)
     if arguments.form and not arguments.evidence:
         refuse("verify", "--form is how --evidence FILE is written, which isn't given")
     if arguments.evidence and os.path.lexists(arguments.evidence):
@@ -83,6 +83,16 @@ def run(arguments: argparse.Namespace) -> int:
         return UNKNOWN
     is_more = bool(arguments.bag and new)  # a bag has no other files than its manifest
     return DIFFERENCE if is_more or any(it.is_good is False for it in counts) else SUCCESS
+
+
+def _settle(arguments: argparse.Namespace) -> None:
+    """Makes `catalogue` the one that is given, unless a bag is."""
+    if arguments.bag is None:
+        settle_first(arguments)
+    elif arguments.catalogue is not None:
+        refuse("verify", "--bag is in place of a catalogue: leave one out")
+    else:
+        arguments.folders = [*([] if arguments.source is None else [arguments.source]), *arguments.folders]
 
 
 def _folders(names: Sequence[bytes], catalogue: Catalogue) -> List[bytes]:

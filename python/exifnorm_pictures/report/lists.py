@@ -156,7 +156,7 @@ def mending(path: bytes) -> str:
 
 def mending_all(catalogue: str) -> str:
     """The command that mends all pictures of a catalogue, as far as that loses nothing."""
-    return f"exifnorm-pictures mend --catalogue {_quoted(os.fsencode(catalogue))} --lossless mended"
+    return f"exifnorm-pictures mend {_quoted(os.fsencode(catalogue))} mended --lossless"
 
 
 def _quoted(path: bytes) -> str:

@@ -1,0 +1,68 @@
+"""The catalogue of a command: it is given by --catalogue, or it is the first name."""
+
+from __future__ import annotations
+
+import argparse
+import os
+import shlex
+from typing import List, Sequence
+
+from ..model.errors import WrongUse
+from ..model.texts import escaped
+from .names import is_catalogue
+from .parser import refuse
+
+# How each command with one catalogue and no further names but one is written
+_LINES = {
+    "check": "check RULES CATALOGUE",
+    "export": "export CATALOGUE FILE",
+    "list": "list CATALOGUE",
+    "relocate": "relocate CATALOGUE OLD NEW",
+    "report": "report CATALOGUE --html PAGE",
+    "same": "same CATALOGUE",
+}
+_MAKERS = ("index", "nightly")  # which make the catalogue of --catalogue, if it is missing
+
+
+class NotFirst(WrongUse):
+    """The first name is no catalogue."""
+
+
+def settle(arguments: argparse.Namespace) -> str:
+    """The catalogue, which is given once; it is `catalogue` from then on."""
+    given = [name for name in (arguments.source, arguments.catalogue) if name is not None]
+    if len(given) != 1:
+        refuse(arguments.command, f"give one catalogue: exifnorm-pictures {_LINES[arguments.command]}")
+    arguments.catalogue, arguments.source = given[0], None
+    return str(given[0])
+
+
+def settle_first(arguments: argparse.Namespace) -> str:
+    """The catalogue of --catalogue, or the first name; `folders` are the other names from then on. Raises `NotFirst`: a name alone is never
+    taken for a new catalogue, because it may be that of a folder which isn't mounted."""
+    names: List[str] = [*([] if arguments.source is None else [arguments.source]), *arguments.folders]
+    if arguments.catalogue is None:
+        if not names:
+            refuse(arguments.command, f"give a catalogue: exifnorm-pictures {_line(arguments.command, names)}")
+        if not is_catalogue(names[0]):
+            raise NotFirst(_why(names[0]) + f". Write: exifnorm-pictures {_line(arguments.command, names)}")
+        arguments.catalogue, *names = names
+    arguments.source, arguments.folders = None, names
+    return str(arguments.catalogue)
+
+
+def _why(name: str) -> str:
+    what = "a folder, and" if os.path.isdir(name) else "a file, and" if os.path.lexists(name) else "not there, and"
+    return f"{escaped(name)} is {what} no catalogue, which is given by --catalogue or as the first name"
+
+
+def _line(command: str, names: Sequence[str]) -> str:
+    """How a command is written whose first name is no catalogue, with the name that may be meant as one."""
+    makes = command in _MAKERS
+    catalogues = [name for name in names if is_catalogue(name)]
+    meant = catalogues or [name for name in names if makes and len(names) > 1 and not os.path.lexists(name)]
+    catalogue = meant[0] if len(meant) == 1 else "CATALOGUE"
+    others = [escaped(shlex.quote(name)) for name in names if [name] != meant] or ["FOLDER"]
+    if makes and not catalogues:
+        return " ".join([command, *others, "--catalogue", escaped(shlex.quote(catalogue))])
+    return " ".join([command, escaped(shlex.quote(catalogue)), *others])
