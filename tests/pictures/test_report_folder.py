@@ -18,7 +18,7 @@ from made_files import app1, exif, jpeg
 from studio import SMALL_JPEG, put
 from test_report import Text
 
-from exifnorm_pictures.files import folders
+from exifnorm_pictures.files import atomic, folders
 from exifnorm_pictures.report.marking import Marker
 
 NAMES = [b"a b.jpg", b"per%cent?#.jpg", b"latin\xff.jpg", b"line\nend.jpg", b"<b onclick=alert(1)>&amp;.jpg", b"quote'\".jpg", b"-dash.jpg"]
@@ -203,6 +203,52 @@ def test_what_a_killed_run_left_is_removed_by_the_next_one(small: Path, called: 
     killed()
     assert called("report", "c", "--html", "report/")[0] == 0
     assert left() == [".exifnorm-abcd_123.part"] and pages_of(small / "other").keys() == {"index.html"}
+
+
+@pytest.mark.parametrize("nameless", [True, False])
+def test_what_a_killed_run_left_of_one_page_is_removed_by_the_next_one(
+    nameless: bool, small: Path, called: Called, monkeypatch: pytest.MonkeyPatch
+) -> None:
+    """On file systems with and without files that have no name. No file of a run that lives, none of another kind, and none with another name."""
+    if not nameless:
+        monkeypatch.delattr(os, "O_TMPFILE")
+
+    def killed() -> None:
+        child = os.fork()
+        if not child:
+            with mock.patch.object(os, "replace", lambda *_: os.kill(os.getpid(), signal.SIGKILL)):
+                called("report", "c", "--html", "page.html")
+            os._exit(0)
+        assert os.WTERMSIG(os.waitpid(child, 0)[1]) == signal.SIGKILL
+
+    def left() -> Set[str]:
+        return {it.name for it in small.glob(".*") if it.name not in others}
+
+    others = {
+        ".exifnorm-1-0123456789ab.part": b"mine",
+        ".exifnorm-1-0123456789ac.part": b"",
+        ".exifnorm-1-0123456789ad.part": b"<!doctype html>",  # which is a link
+        ".exifnorm-1-notes.part": b"<!doctype html>",
+        ".exifnorm-1-0123456789ab.part.html": b"<!doctype html>",
+    }
+    put(str(small), {name: octets for name, octets in others.items() if not name.endswith("d.part")})
+    (small / "mine.html").write_bytes(b"<!doctype html>")
+    (small / ".exifnorm-1-0123456789ad.part").symlink_to(small / "mine.html")
+    killed()
+    assert len(left()) == 1, "a killed run leaves a file, or this test shows nothing"
+    (dead,) = left()
+
+    def write(file: Any) -> None:
+        file.write(b"<!DOCTYPE html>")
+        file.flush()
+        living.update(left() - {dead})
+        assert called("report", "c", "--html", "page.html")[0] == 0
+        assert left() == living
+
+    living: Set[str] = set()
+    atomic.replace(os.fsencode(small / "other.html"), write, lambda head: head.lower().startswith(b"<!doctype html"))
+    assert len(living) == (not nameless) and left() == set() and (small / "other.html").read_bytes() == b"<!DOCTYPE html>"
+    assert {it.name for it in small.glob(".*")} == set(others) and (small / "mine.html").exists()
 
 
 def test_what_is_put_into_the_earlier_folder_meanwhile_stays(small: Path, called: Called, monkeypatch: pytest.MonkeyPatch) -> None:

@@ -1,12 +1,15 @@
 """Files that are written in full or not at all: they get their name only after all bytes are on the disk.
 
-If the file system allows it, the file has no name while it is written, so that a killed run leaves no file.
+If the file system allows it, the file has no name while it is written, so that a killed run leaves none but at the last moment. A file that it
+leaves is removed by the next run that replaces a file of that kind there: a process that lives has locked its file.
 """
 
 from __future__ import annotations
 
 import contextlib
+import fcntl
 import os
+import re
 import stat
 from typing import BinaryIO, Callable, Iterator, Optional, Tuple
 
@@ -15,6 +18,8 @@ from ..model.texts import reason
 from . import copying, opening, rights
 
 Write = Callable[[BinaryIO], None]
+_LEFT = re.compile(rb"\.exifnorm-\d+-[0-9a-f]{12}\.part")  # as `_free_name` makes it
+_HEAD = 100  # bytes by which the kind of a file is known
 
 
 class NotReplaced(Failure):
@@ -51,6 +56,7 @@ def replace(out: bytes, write: Write, allowed: Callable[[bytes], bool], kept: Tu
     there = os.path.realpath(out)
     try:
         _check(there, allowed, kept)
+        _sweep(os.path.dirname(there), allowed)
         _replace(there, write, kept)
     except OSError as error:  # the file that it names may be the one that gets its name in the end
         raise NotReplaced(reason(error)) from None
@@ -90,9 +96,29 @@ def _check(out: bytes, allowed: Callable[[bytes], bool], kept: Tuple[str, ...]) 
             if os.path.samestat(os.stat(catalogue), now):
                 raise NotReplaced(f"it is the catalogue {catalogue}")
     with opening.reading(out) as file:
-        head = file.read(100)
+        head = file.read(_HEAD)
     if head and not allowed(head):
         raise NotReplaced("it is there, and is a file of another kind")
+
+
+def _sweep(beside: bytes, allowed: Callable[[bytes], bool]) -> None:
+    """Removes the files that killed runs of this user have left: which nobody has locked, and which are of an allowed kind."""
+    with contextlib.suppress(OSError), os.scandir(beside) as entries:
+        for entry in entries:
+            if _LEFT.fullmatch(entry.name):
+                with contextlib.suppress(OSError):
+                    _remove_dead(entry.path, allowed)
+
+
+def _remove_dead(path: bytes, allowed: Callable[[bytes], bool]) -> None:
+    with open(os.open(path, os.O_RDONLY | os.O_NOFOLLOW | os.O_NONBLOCK | os.O_CLOEXEC), "rb") as file:
+        now = os.fstat(file.fileno())
+        if not stat.S_ISREG(now.st_mode) or now.st_uid != os.geteuid():
+            return
+        fcntl.flock(file, fcntl.LOCK_EX | fcntl.LOCK_NB)
+        head = file.read(_HEAD)  # nothing, before a process that lives has locked it
+        if head and allowed(head):
+            os.unlink(path)
 
 
 @contextlib.contextmanager
@@ -100,6 +126,8 @@ def _written(out: bytes, write: Write, mode: int) -> Iterator[Tuple[BinaryIO, Op
     """A file in the folder of `out` with all its bytes on the disk, and its name if it needed one. It begins with a mode, less umask."""
     folder = os.path.dirname(out) or b"."
     number, name = _opened(folder, out, mode)
+    with contextlib.suppress(OSError):  # a file system without locks
+        fcntl.flock(number, fcntl.LOCK_EX | fcntl.LOCK_NB)
     try:
         with open(number, "wb") as file:
             write(file)
