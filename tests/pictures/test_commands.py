@@ -225,7 +225,7 @@ class Words(WithPictures):
     def test_refused_arguments(self):
         for words, wrong in (
             ((), "are required: COMMAND"),
-            (("nothing",), "COMMAND: invalid choice: 'nothing'"),
+            (("nothing",), "there is no command nothing"),
             (("index",), "index FOLDER --catalogue CATALOGUE"),
             (("show",), " show: "),
             (("report", "--catalogue", "c"), " report: "),

@@ -77,3 +77,5 @@ def test_contradictions(words, status, folder, called):
 def test_what_is_no_label(folder, called):
     status, _, messages = called("conflicts", ".", "--ignore", "Artist")
     assert status == 3 and "Artist is no label" in messages and "creator" in messages
+    status, _, messages = called("conflicts", ".", "--only", "creatr")
+    assert status == 3 and "perhaps creator is meant" in messages

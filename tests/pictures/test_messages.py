@@ -95,13 +95,41 @@ class CommandLine(unittest.TestCase):
 
     def test_a_wrong_argument_shows_the_usage_of_its_command(self):
         for words, message in (
-            ("show a --nonsense", "unrecognized arguments: --nonsense"),
-            ("show a --json b --nonsense", "unrecognized arguments: --nonsense"),
+            ("show a --nonsense", "there is no option --nonsense"),
+            ("show a --json b --nonsense", "there is no option --nonsense"),
             ("compare a --json b c", "unrecognized arguments: c"),
             ("show a --csv b --json", "argument --json: not allowed with argument --csv"),
-            ("--nonsense show a", "unrecognized arguments: --nonsense"),
+            ("--nonsense show a", "there is no option --nonsense"),
         ):
             self.assertEqual(self.refused(*words.split()), message, words)
+
+    def test_a_mistyped_word_is_answered_by_the_nearest_one(self):
+        """Also where argparse would first say what else is missing; a word that is like none is answered by none."""
+        for words, meant in (
+            ("lst c", "list"),
+            ("help hist", "history"),
+            ("changd", "changed"),
+            ("nothing", None),
+            ("s", None),
+            ("list c --wihtout credit", "--without"),
+            ("list c --where=x --collumns=title", "--columns"),
+            ("export --quite", "--quiet"),
+            ("list c --recursive", None),
+            ("--vershion", "--version"),
+        ):
+            answer = self.refused(*words.split())
+            self.assertRegex(answer, "^there is no (command|option) ", words)
+            self.assertEqual(re.findall(r"did you mean (\S+)\?", answer), [meant] * bool(meant), words)
+
+    def test_words_that_are_no_option(self):
+        """The beginning of an option, the value of one, and what follows --."""
+        for words, there in (
+            ("list c --col title", {"columns": "title"}),
+            ("list c --where=--x", {"where": ["--x"]}),
+            ("show -- --x", {"pictures": ["--x"]}),
+        ):
+            given = vars(parser.parsed(words.split()))
+            self.assertEqual({name: given[name] for name in there}, there)
 
     def test_help_fits_into_a_terminal(self):
         with mock.patch.dict(os.environ, COLUMNS="80"):

@@ -3,6 +3,7 @@
 from __future__ import annotations
 
 import argparse
+import difflib
 from collections import Counter
 from dataclasses import dataclass, field
 from typing import TYPE_CHECKING, Dict, Iterator, List, Sequence, Set
@@ -71,7 +72,9 @@ def _chosen(arguments: argparse.Namespace) -> Set[str]:
     for word in (*arguments.ignore, *arguments.only):
         given[word] = label_of(word) or ""
         if given[word] not in known:
-            raise UnknownField(f"{escaped(word)} is no label of texts that are compared, which are: {', '.join(known)}")
+            near = difflib.get_close_matches(word.casefold(), known, 1)
+            which = f" (perhaps {near[0]} is meant)" if near else f", which are: {', '.join(known)}"
+            raise UnknownField(f"{escaped(word)} is no label of texts that are compared{which}")
     only = {given[it] for it in arguments.only} or set(known)
     return only - {given[it] for it in arguments.ignore}
 

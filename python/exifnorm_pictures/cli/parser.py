@@ -3,6 +3,7 @@
 from __future__ import annotations
 
 import argparse
+import difflib
 import itertools
 import sys
 from typing import IO, Callable, Dict, NoReturn, Optional, Sequence, Tuple
@@ -103,7 +104,8 @@ def parsed(words: Optional[Sequence[str]] = None) -> argparse.Namespace:
     if given[:1] == ["help"]:
         given = [*given[1:2], "--help"]
     # all parsers are needed only to list the commands
-    whole, commands = parsers(given[0] if given and given[0] in ("--version", *(name for name, *_ in _COMMANDS)) else None)
+    whole, commands = parsers(given[0] if given and given[0] in ("--version", *_NAMES) else None)
+    _refuse_unknown(whole, commands, given)
     for word in itertools.takewhile(lambda word: word != "--", given):
         if word.startswith("--") and word.endswith("=--"):  # of which argparse makes an empty list
             commands.get(given[0], whole).error(f"argument {word[:-3]}: expected a value, and not --")
@@ -116,6 +118,30 @@ def parsed(words: Optional[Sequence[str]] = None) -> argparse.Namespace:
         whole.error(f"unrecognized arguments: {' '.join(others)}")
     # an option between names, which a parser of commands takes for the end of the names; this one also names what is wrong
     return commands[given[0]].parse_intermixed_args(given[1:], argparse.Namespace(command=given[0]))
+
+
+def _refuse_unknown(whole: _Parser, commands: "Dict[str, _Parser]", words: Sequence[str]) -> None:
+    """Refuses a command or an option that isn't there, and names the one that may be meant."""
+    first = words[0] if words else "--help"
+    if not first.startswith("-") and first not in _NAMES:
+        whole.error(f"there is no command {first}{_meant(first, _NAMES) or '; exifnorm-pictures --help lists them'}")
+    parser = commands.get(first, whole)
+    known = [option[2:] for option in parser._option_string_actions if option.startswith("--")]
+    for word in itertools.takewhile(lambda word: word != "--", words if first in _NAMES else words[:1]):
+        option = word[2:].partition("=")[0]
+        if word.startswith("--") and not any(name.startswith(option) for name in known):
+            parser.error(f"there is no option --{option}{_meant(option, known, '--')}")
+
+
+def _meant(word: str, known: Sequence[str], prefix: str = "") -> str:
+    """What is said of a word that is none of those that are known.
+
+    >>> _meant("lst", ["list", "same"]), _meant("hist", ["history"]), _meant("recursive", ["csv"], "--")
+    ('; did you mean list?', '; did you mean history?', '')
+    """
+    longer = [name for name in known if name.startswith(word)]
+    near = longer if len(longer) == 1 else difflib.get_close_matches(word, known, 1, 0.75)
+    return f"; did you mean {prefix}{near[0]}?" if near else ""
 
 
 def refuse(command: str, message: str) -> NoReturn:
@@ -566,3 +592,4 @@ _COMMANDS: Tuple[Tuple[str, str, Callable[[argparse.ArgumentParser], None]], ...
     ("export", "write a catalogue as plain tables of SQLite, for SQL, Datasette and pandas", _export_arguments),
     ("mend", "write a copy of a picture in which refused metadata are mended", _mend_arguments),
 )
+_NAMES = tuple(name for name, *_ in _COMMANDS)
