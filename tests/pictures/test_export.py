@@ -21,6 +21,8 @@ from test_groups import FILES as TWINS, with_short_note
 from exifnorm_pictures.export.rows import FieldRows
 from exifnorm_pictures.export.tables import Tables
 from exifnorm_pictures.fields.field import Field
+from exifnorm_pictures.fields.packing import packed, unpacked
+from exifnorm_pictures.model.columns import Damaged
 from exifnorm_pictures.model.xmp_values import Array, Literal, Structure, Uri
 
 SAMPLES = os.path.join(TOP, "samples", "before")
@@ -421,13 +423,63 @@ def turned(value):
     return Structure(tuple((name, turned(it)) for name, it in value.members)) if isinstance(value, Structure) else value
 
 
-@settings(max_examples=25)
-@given(st.lists(VALUES, max_size=6))
-def test_the_row_of_a_field_does_not_depend_on_earlier_ones(values):
-    """Bags with the same members in another order are equal, and have equal rows; nothing else that is printed in another way is equal."""
-    rows, found = FieldRows(), [it for value in values for it in (value, turned(value))]
-    fields = [Field("xmp", "dc:a", "Bag", 1, (it,)) for it in found]
-    assert [rows.row(it) for it in fields] == [FieldRows().row(it) for it in fields]
+CONTENTS = st.lists(st.one_of(VALUES, st.just(Literal("xmp", "dc:b")), st.just(Literal('"],["xmp","dc:b'))), min_size=1, max_size=3)
+
+
+def texts_of_rows(rows):
+    return [(row.cells[1:5], *row.cells[5:7]) for row in rows]
+
+
+@settings(max_examples=50)
+@given(st.lists(st.lists(CONTENTS, max_size=3), max_size=4))
+def test_the_rows_of_a_block_do_not_depend_on_earlier_ones(blocks):
+    """They are those of its fields: also where a value has what is between two fields, or is equal to an earlier one and printed in another
+    way, as Bags with the same members in another order are."""
+    rows = FieldRows()
+    for contents in blocks:
+        fields = [Field("xmp", "dc:a", "Bag", 1, tuple(it)) for content in contents for it in (content, list(map(turned, content)))]
+        octets = packed(fields).octets
+        expected = [((it.directory, it.key, it.type, it.count), it.text, it.exact) for it in unpacked(octets)]
+        assert texts_of_rows(rows.of_block(octets)) == expected
+
+
+ONE_PROPERTY = b'[["xmp","dc:a","text",1,["b"]]]'
+ONE_DATASET = b'[["iptc","2:5","octets",1,"b"]]'
+
+
+@pytest.mark.parametrize(
+    "octets",
+    [
+        b'[["dc:a","text",1,["b"]]]',  # a property without its directory
+        b'[["xmp","iptc","2:5","octets",1,"b"]]',
+        b'[["xmp","dc:a","text",true,["b"]]]',
+        b'[["xmp","dc:a","text",1,["b"]],]',
+        b'[["xmp","dc:a","text",1,["b"]]',
+        b'[["xmp","dc:a","text",1,["b"]]] ["c"]]',
+        b'[["iptc","2:5","octets",1,"\xe9"]]',
+        b'[["iptc","2:5","octets",1,"b"],["xmp","dc:a","text",1,["b"]],7]',
+        b'{"iptc": 1}',
+        b" ",
+    ],
+)
+def test_fields_that_a_damaged_catalogue_has(octets):
+    """Earlier rows don't make a block whole that isn't."""
+    rows = FieldRows()
+    assert len(rows.of_block(ONE_PROPERTY)) == len(rows.of_block(ONE_DATASET)) == 1
+    with pytest.raises(Damaged):
+        rows.of_block(octets)
+
+
+def test_fields_of_two_kinds_in_a_block():
+    """As nothing here writes it, and a catalogue may have it; spaces, too."""
+    octets = [ONE_PROPERTY[:-1] + b"," + ONE_DATASET[1:], ONE_DATASET[:-1] + b"," + ONE_PROPERTY[1:], ONE_PROPERTY.replace(b",", b", ")]
+    rows = FieldRows()
+    assert [[row.cells[0] for row in rows.of_block(it)] for it in octets] == [
+        ["XMP-dc:a", "IPTC:ObjectName"],
+        ["IPTC:ObjectName", "XMP-dc:a"],
+        ["XMP-dc:a"],
+    ]
+    assert rows.of_block(None) == rows.of_block(b"[]") == []
 
 
 def test_a_temporary_file_that_is_not_read(called, folder, monkeypatch):

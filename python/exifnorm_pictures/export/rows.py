@@ -4,7 +4,7 @@ from __future__ import annotations
 
 import time
 from datetime import MAXYEAR, MINYEAR
-from typing import Dict, Iterator, List, Optional, Sequence, Tuple
+from typing import Dict, Iterator, List, NamedTuple, Optional, Sequence, Tuple
 
 from ..catalogue.store import Catalogue
 from ..catalogue.texts import texts_of
@@ -12,20 +12,24 @@ from ..comparison.conflicts import conflicts
 from ..comparison.group_sentence import sentence_of
 from ..comparison.groups import Groups
 from ..comparison.keeping import Keep, keeping
-from ..fields.labels import LabelText
-from ..fields.places import position_of
-from ..fields.field import Field, Identity
-from ..fields.block_fields import with_fields
+from ..fields.field import Field
+from ..fields.labels import LabelText, names_camera, word_of
+from ..fields.listing import exact
+from ..fields.packing import divided, field_of, unpacked
+from ..fields.places import is_of_position, position_of
+from ..fields.plain_names import exact_key, group_name
+from ..fields.plain_values import plain
 from ..fields.typed import typed
 from ..files.session import Session
 from ..model import steps
 from ..model.budgets import CACHED
+from ..model.columns import Damaged
 from ..model.records import BlockRecord, PictureRecord
 from ..model.texts import shown_path
 from ..scan.progress import Progress
-from .tables import Row, Storable, Tables, storable
+from .tables import Row, Tables, storable
 
-KEPT_ROWS, FEW_NUMBERS = 4096, 6  # rows of fields that are kept, and the most elements of such a field
+KEPT_ROWS, SHORT = 2048, 300  # rows of fields that are kept, of each kind, and the most characters of such a field as JSON
 
 
 class Export:
@@ -52,15 +56,16 @@ class Export:
 
     def _picture(self, picture: PictureRecord) -> None:
         with self.catalogue.guarded():
-            blocks = with_fields(self.catalogue.blocks_of(picture))
-        place = position_of(field for _, fields in blocks for field in fields)
+            blocks = [(it, self._fields.of_block(it.fields)) for it in self.catalogue.blocks_of(picture)]
+        angles = [row.angle for _, rows in blocks for row in rows if row.angle]
+        place = position_of(angles) if angles else None
         self.tables.add("pictures", [(*_picture_row(picture), *(place or (None, None)))])
         self.maker_notes += any(block.note is not None for block, _ in blocks)
-        for number, (block, fields) in enumerate(blocks):
-            self.tables.add("blocks", [_block_row(picture, number, block)])
-            rows = map(self._fields.row, fields)
-            self.tables.add_storable("fields", [((picture.id, number, at) + row, size) for at, (row, size) in enumerate(rows)])
-        self._texts(picture, blocks)
+        self.tables.add("blocks", [_block_row(picture, number, block) for number, (block, _) in enumerate(blocks)])
+        for number, (_, rows) in enumerate(blocks):
+            cells = [(picture.id, number, at, *row.cells) for at, row in enumerate(rows)]
+            self.tables.add_storable("fields", cells, sum([row.size for row in rows]))
+        self._texts(picture, [(block, [row.text for row in rows if row.text]) for block, rows in blocks])
         if picture.not_read != "":
             parts = self.catalogue.not_read_of(picture)
             self.tables.add("not_read", ((picture.id, at, part.what) for at, part in enumerate(parts)))
@@ -69,9 +74,9 @@ class Export:
         texts = texts_of(blocks)
         self.missing += bool(texts.missing)
         rows = [*_text_rows(texts.texts), *((word, *(None,) * 6) for word in sorted(texts.missing))]
-        self.tables.add("captions", ((picture.id, at, *row) for at, row in enumerate(rows)))
+        self.tables.add("captions", [(picture.id, at, *row) for at, row in enumerate(rows)])
         known = [one for one in conflicts(texts.texts) if not one.is_alike and one.label not in texts.missing]
-        self.tables.add("conflicts", ((picture.id, one.label, one.kind, one.detail or None) for one in known))
+        self.tables.add("conflicts", [(picture.id, one.label, one.kind, one.detail or None) for one in known])
 
 
 def _picture_row(picture: PictureRecord) -> Row:
@@ -119,30 +124,53 @@ def _block_row(picture: PictureRecord, number: int, block: BlockRecord) -> Row:
     return (picture.id, number, *about, repair, block.digest, int(block.note is not None))
 
 
+class FieldRow(NamedTuple):
+    """The row of a field."""
+
+    cells: Row  # without NUL
+    size: int  # of its texts, in characters
+    text: Optional[Field]  # the field, if the texts of a picture are made of such fields
+    angle: Optional[Field]  # the same of its position
+
+
 class FieldRows:
-    """Makes rows of fields. Short ones are kept for the next picture: pictures have many fields in common."""
+    """Makes rows of packed fields. Short ones are kept for the next picture: pictures have many fields in common, which then aren't even
+    unpacked."""
 
     def __init__(self) -> None:
-        self._kept: Dict[Identity, Storable] = {}
+        self._kept: Dict[str, Dict[str, FieldRow]] = {}  # by how a field begins, and its rest
 
-    def row(self, field: Field) -> Storable:
-        """The row of a field. Fields that mean the same have the same row."""
-        if len(field.content) > (CACHED if isinstance(field.content, bytes) else FEW_NUMBERS):
-            return storable(_field_row(field))
-        row = self._kept.get(field.identity)
-        if row is None:
-            row = storable(_field_row(field))
-            if row[1] <= CACHED:
-                if len(self._kept) >= KEPT_ROWS:
-                    self._kept.clear()
-                self._kept[field.identity] = row
+    def of_block(self, octets: Optional[bytes]) -> List[FieldRow]:
+        """The row of each field of a block. Raises `Damaged`."""
+        if not octets:
+            return []
+        begin, rests = divided(octets)
+        kept = self._kept.setdefault(begin, {})
+        try:
+            return [kept.get(rest) or self._new(begin, rest) for rest in rests]
+        except Damaged:  # or a value that has what is between two fields
+            return list(map(_row_of, unpacked(octets)))
+
+    def _new(self, begin: str, rest: str) -> FieldRow:
+        row, kept = _row_of(field_of(begin, rest)), self._kept[begin]
+        if row.size <= CACHED and len(rest) <= SHORT:
+            if len(kept) >= KEPT_ROWS:
+                kept.clear()
+            kept[rest] = row
         return row
+
+
+def _row_of(field: Field) -> FieldRow:
+    (row,), size = storable([_field_row(field)])
+    is_text = word_of(field) is not None or names_camera(field)
+    return FieldRow(row, size, field if is_text else None, field if is_of_position(field) else None)
 
 
 def _field_row(field: Field) -> Row:
     value = typed(field) if field.directory != "xmp" and field.type not in ("ASCII", "UTF8") else None
     number = float(value) if isinstance(value, (int, float)) else None
-    return (field.name, field.directory, field.key, field.type, field.count, field.text, field.exact, number)
+    directory, tag, kind, count, _ = field.identity
+    return group_name(directory, tag), directory, exact_key(directory, tag), kind, count, plain(field), exact(field), number
 
 
 def _text_rows(texts: Sequence[LabelText]) -> Iterator[Row]:

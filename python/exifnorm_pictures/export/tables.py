@@ -4,6 +4,7 @@ from __future__ import annotations
 
 import contextlib
 import sqlite3
+from itertools import islice
 from typing import Dict, Iterable, Iterator, List, Sequence, Tuple
 
 from ..files import signals
@@ -115,7 +116,6 @@ CREATE INDEX groups_by_picture ON groups (picture);
 """
 
 Row = Tuple[object, ...]
-Storable = Tuple[Row, int]  # a row without NUL, and the characters of its texts
 
 
 class Tables:
@@ -128,16 +128,18 @@ class Tables:
         self.counts: Dict[str, int] = {}
 
     def add(self, table: str, rows: Iterable[Row]) -> None:
-        """Adds rows to a table."""
-        for row in rows:
-            self.add_storable(table, [storable(row)])
+        """Adds rows to a table, of which a thousand at a time are in memory."""
+        left = iter(rows)
+        several = list(islice(left, _ROWS))
+        while several:
+            self.add_storable(table, *storable(several))
+            several = list(islice(left, _ROWS)) if len(several) == _ROWS else []
 
-    def add_storable(self, table: str, rows: Sequence[Storable]) -> None:
-        """Adds rows that can be stored to a table."""
+    def add_storable(self, table: str, rows: Sequence[Row], size: int) -> None:
+        """Adds rows without NUL, whose texts have so many characters, to a table."""
         waiting = self._rows.setdefault(table, [])
-        for row, size in rows:
-            waiting.append(row)
-            self._size += size
+        waiting += rows
+        self._size += size
         self.counts[table] = self.counts.get(table, 0) + len(rows)
         if self._size >= WAITING_BYTES:
             self._write_all()
@@ -194,14 +196,14 @@ def tables(file: str) -> Iterator[Tables]:
             raise
 
 
-def storable(row: Row) -> Storable:
-    r"""A row as it can be stored.
+def storable(rows: List[Row]) -> Tuple[List[Row], int]:
+    r"""Rows as they can be stored, and the characters of their texts.
 
-    >>> storable((1, "a\0b", None, "c"))
-    ((1, 'a\\x00b', None, 'c'), 4)
+    >>> storable([(1, "a\0b", None, "c"), (2, "", None, "d")])
+    ([(1, 'a\\x00b', None, 'c'), (2, '', None, 'd')], 5)
     """
-    text = "".join([cell for cell in row if isinstance(cell, str)])
-    return tuple(map(_without_nul, row)) if "\0" in text else row, len(text)
+    text = "".join([cell for row in rows for cell in row if isinstance(cell, str)])
+    return [tuple(map(_without_nul, row)) for row in rows] if "\0" in text else rows, len(text)
 
 
 def _without_nul(cell: object) -> object:

@@ -234,9 +234,14 @@ def with_own(texts: Sequence[LabelText], make: str = "", model: str = "") -> Lis
     return [it._replace(is_own=True) if it.label in _CAN_BE_OWN and is_own(it.line, make, model) else it for it in texts]
 
 
+def names_camera(field: Field) -> bool:
+    """Whether a field has the make or the model of the camera."""
+    return field.directory == "main" and field.tag in _CAMERA
+
+
 def camera_of(fields: Iterable[Field]) -> Tuple[str, str]:
     """The make and the model in a block of Exif."""
-    values = {it.tag: it.content for it in fields if it.directory == "main" and it.tag in _CAMERA and isinstance(it.content, bytes)}
+    values = {it.tag: it.content for it in fields if names_camera(it) and isinstance(it.content, bytes)}
     make, model = (decoded(values.get(key, b""))[0] for key in _CAMERA)
     return make, model
 

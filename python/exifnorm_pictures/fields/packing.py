@@ -15,7 +15,7 @@ from __future__ import annotations
 import hashlib
 import json
 from itertools import starmap
-from typing import Any, Callable, Iterable, List, NamedTuple, Optional, Sequence
+from typing import Any, Callable, Iterable, List, NamedTuple, Optional, Sequence, Tuple
 
 from ..model.budgets import FIELD_BYTES, NESTED
 from ..model.columns import Damaged
@@ -150,6 +150,42 @@ def unpacked(octets: bytes) -> List[Field]:
         return list(map(Field, wheres, keys, kinds, counts, map(_value, wheres, kinds, counts, values)))
     except (ValueError, TypeError, RecursionError) as error:
         raise Damaged(f"fields that can't be read: {error}") from error
+
+
+_FIELD, _PROPERTY = '["', '["xmp","'  # as a field of a block begins, and one of a packet
+
+
+def divided(octets: bytes) -> Tuple[str, List[str]]:
+    """How each field of a block begins in the result of `packed`, and the rest of each up to its last bracket. If each of these is a field by
+    itself, as `field_of` finds, then they are those of the block. Otherwise some value has what is between two fields.
+
+    >>> divided(b'[["iptc","2:5","octets",1,"a"],["iptc","2:25","octets",1,"b"]]')
+    ('["', ['iptc","2:5","octets",1,"a"', 'iptc","2:25","octets",1,"b"'])
+    """
+    text = octets.decode("latin-1")
+    begin = _PROPERTY if text.startswith(_PROPERTY, 1) else _FIELD
+    if len(octets) > FIELD_BYTES or not text.startswith(f"[{begin}") or not text.endswith("]]"):
+        return begin, [text]
+    return begin, text[1 + len(begin) : -2].split(f"],{begin}")
+
+
+def field_of(begin: str, rest: str) -> Field:
+    """The field of a part of the result of `divided`. Raises `Damaged`.
+
+    >>> field_of('["', 'iptc","2:5","octets",1,"a"')
+    Field(name='IPTC:ObjectName', text='a')
+    """
+    text = f"{begin}{rest}]"
+    try:
+        (where, key, kind, count, value), end = _decoded(text)
+        if end < len(text) or not text.isascii() or [type(where), type(key), type(kind), type(count)] != _TYPES:
+            raise Damaged("a field has something else")
+        return Field(where, key, kind, count, _value(where, kind, count, value))
+    except (ValueError, TypeError, RecursionError) as error:
+        raise Damaged(f"a field that can't be read: {error}") from error
+
+
+_decoded = json.JSONDecoder().raw_decode  # which looks for nothing after a value
 
 
 _TYPES = [str, str, str, int]

@@ -34,6 +34,11 @@ def place_of(text: str) -> Optional[Place]:
     return Place(float(match[1]), float(match[2])) if match else None
 
 
+def is_of_position(field: Field) -> bool:
+    """Whether a position is made of such fields."""
+    return field.directory == "gps" or (field.directory == "xmp" and field.tag in ("exif:GPSLatitude", "exif:GPSLongitude"))
+
+
 def position_of(fields: Iterable[Field]) -> Optional[Place]:
     """The position that Exif has, otherwise that of XMP; None if a part is missing or is no angle of the earth.
 
@@ -48,7 +53,7 @@ def position_of(fields: Iterable[Field]) -> Optional[Place]:
     for field in fields:
         if field.directory == "gps":
             gps.setdefault(field.tag, field)
-        elif field.directory == "xmp" and field.tag in ("exif:GPSLatitude", "exif:GPSLongitude"):
+        elif is_of_position(field):
             properties.setdefault(field.tag, field)
     exif = _place(_of_exif(gps.get("0002"), gps.get("0001"), "NS"), _of_exif(gps.get("0004"), gps.get("0003"), "EW"))
     return exif or _place(_of_xmp(properties.get("exif:GPSLatitude"), "NS"), _of_xmp(properties.get("exif:GPSLongitude"), "EW"))
