@@ -262,15 +262,28 @@ def test_a_picture_with_a_sidecar_that_was_written_again(folder, called, verifie
 
 
 def test_a_picture_that_was_damaged_before(archive, called):
-    """It is as it was, and that isn't all that is said of it."""
+    """It is as it was, and is counted apart from what has happened since, also if it moved."""
     written(archive / "a.jpg", PICTURE[:-20])
+    written(archive / "moved.jpg", PICTURE[:-9])
     called("index", "p", "--catalogue", "c", "--quiet")
-    status, printed, _ = called("verify", "--catalogue", "c")
-    assert status == 0 and re.search(r"4 files as they were\n +\S*/a.jpg \(damaged before, too: ", printed), printed
+    assert counted(called) == (0, 2, {"as they were": 5})
+    (archive / "moved.jpg").rename(archive / "new.jpg")
+    assert counted(called) == (0, 2, {"as they were": 4, "moved": 1})
+    status, printed, _ = called("verify", "c")
+    assert status == 0 and re.search(r"2 of these were damaged before.*\n +\S*/a.jpg \(the file ends", printed), printed
+    (archive / "new.jpg").unlink()
+    called("forget", "c", "p/moved.jpg")
     (archive / "b.jpg").write_bytes((PICTURE + b"trailer")[: len(PICTURE) // 2])
     status, printed, _ = called("verify", "--catalogue", "c", "--list", "damaged")
     names = [line.partition(":")[0] for line in printed.splitlines() if line.startswith("/")]
     assert (status, names) == (1, [f"{archive}/a.jpg", f"{archive}/b.jpg"]), printed
+
+
+def counted(called):
+    """The status of verify, the files that were damaged before, and the states of all."""
+    status, printed, _ = called("verify", "c", "--json")
+    summary = json.loads(printed.splitlines()[-1])
+    return status, summary["damaged_before"], summary["counts"]
 
 
 def test_all_damaged_files_are_listed(archive, called):

@@ -20,10 +20,10 @@ _STATUSES = """Statuses:
        catalogue records)
   1    different (changed, compare, history: something differs, also after
        repair, was moved or is missing; same: MakerNotes of a group differ in
-       bytes; verify: a file is damaged, missing or has another picture;
-       conflicts: a picture contradicts itself; check: a rule is broken;
-       nightly: there is news; relocate: a file isn't there, or has another size
-       or time; mend: the copy differs in a printed value)
+       bytes; verify: a file was damaged since, is missing or has another
+       picture; conflicts: a picture contradicts itself; check: a rule is
+       broken; nightly: there is news; relocate: a file isn't there, or has
+       another size or time; mend: the copy differs in a printed value)
   2    it can't be decided wholly (changed, compare, history, show, captions,
        conflicts, explain: a block is refused or unreadable, or may be missing
        in a damaged file, or a picture wasn't read; explain: or a file is
@@ -381,9 +381,7 @@ def _verify_arguments(parser: argparse.ArgumentParser) -> None:
     words = "how it is written: for sha256sum -c (the default), for hashdeep -a -k, or as the manifest of a bag"
     parser.add_argument("--form", choices=("sha256sum", "hashdeep", "bagit"), help=words)
     states = ("damaged", "missing", "other", "captioned", "moved", "unknown")
-    words = (
-        f"list all files of this state, in place of the first ones of each: {', '.join(states)}. Those that were damaged before are damaged"
-    )
+    words = f"list all files of this state, in place of the first ones of each: {', '.join(states)}. damaged has those that were damaged before, too"
     parser.add_argument("--list", choices=states, metavar="STATE", help=words)
     words = "keep what was read in this new folder until the run ends: a run that was stopped goes on from there"
     parser.add_argument("--state", type=_name, metavar="DIR", help=words)

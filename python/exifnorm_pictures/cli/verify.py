@@ -50,8 +50,7 @@ def run(arguments: argparse.Namespace) -> int:
         refuse("verify", "--form is how --evidence FILE is written, which isn't given")
     if arguments.evidence and os.path.lexists(arguments.evidence):
         raise atomic.NotReplaced(atomic.not_written(escaped(arguments.evidence), "it is there already"))
-    counts: "Counter[State]" = Counter()
-    listed: Dict[str, List[str]] = {}
+    told = Told(arguments)
     with contextlib.ExitStack() as open_:
         before = open_.enter_context(_of_bag(arguments) if arguments.bag else Catalogue(arguments.catalogue))
         given = bool(arguments.folders or arguments.files_from)
@@ -59,21 +58,25 @@ def run(arguments: argparse.Namespace) -> int:
         reading = Reading(folders, arguments, before)
         now = open_.enter_context(reading)
         for file in verified.verified(before, now, folders):
-            counts[file.state] += 1
-            if arguments.list:
-                if file.state in LISTS[arguments.list] or (arguments.list == "damaged" and file.damage):
-                    _print_one(arguments, file)
-            elif file.state != State.AS_IT_WAS or file.note:
-                _add(arguments, listed.setdefault(file.state, []), file)
+            told.add(file)
+        counts = told.counts
         new = verified.new_files(before, now) - counts[State.MOVED]
         size, files = next(now.rows("SELECT ifnull(sum(size), 0), count(*) FROM pictures WHERE sha256 != ''"))
         if arguments.evidence:
             _write_evidence(arguments, now)
     if arguments.json:
-        print_object("verify", "summary", {"counts": dict(counts), "new": new, "files": files, "bytes": size, "earlier": reading.earlier})
+        members = {
+            "counts": dict(counts),
+            "damaged_before": told.old,
+            "new": new,
+            "files": files,
+            "bytes": size,
+            "earlier": reading.earlier,
+        }
+        print_object("verify", "summary", members)
     else:
         print_line(f"{files:,} file{'s' * (files != 1)} read again, {_size(size)}{_by_earlier(reading.earlier)}.")
-        for line in _lines(counts, listed):
+        for line in told.lines():
             print_line(line)
         if new:
             print_line(f"{new:>11,} that the {'manifest' if arguments.bag else 'catalogue'} doesn't know")
@@ -168,13 +171,53 @@ def _check_state(folder: str) -> None:
 # What is printed
 
 
-def _add(arguments: argparse.Namespace, listed: List[str], result: verified.Verified) -> None:
-    """Prints an object, or notes the line of a file if it is one of the first."""
-    if arguments.json:
-        _print_one(arguments, result)
-    elif len(listed) <= SHOWN:
-        words = _words(result)
-        listed.append(shown_path(result.path) + (f" ({', '.join(words)})" if words else ""))
+class Told:
+    """How many files have each state, and the first names of each."""
+
+    def __init__(self, arguments: argparse.Namespace) -> None:
+        self._arguments = arguments
+        self.counts: "Counter[State]" = Counter()
+        self.old = 0  # files that were damaged before, and in which nothing else is damaged now
+        self._names: Dict[State, List[str]] = {}
+        self._old_names: List[str] = []
+
+    def add(self, file: verified.Verified) -> None:
+        """Counts a file, and prints it or keeps its name."""
+        self.counts[file.state] += 1
+        is_old = bool(file.damage and file.state.is_good)
+        self.old += is_old
+        if self._arguments.list:
+            if file.state in LISTS[self._arguments.list] or (self._arguments.list == "damaged" and file.damage):
+                _print_one(self._arguments, file)
+        elif self._arguments.json:
+            if file.state != State.AS_IT_WAS or is_old:
+                _print_one(self._arguments, file)
+        else:
+            self._keep(file, is_old)
+
+    def _keep(self, file: verified.Verified, is_old: bool) -> None:
+        """Keeps the names of a file, if it is one of the first."""
+        names = self._names.setdefault(file.state, [])
+        words = [] if is_old and file.place is None else _words(file)
+        if file.state != State.AS_IT_WAS and len(names) <= SHOWN:
+            names.append(shown_path(file.path) + (f" ({', '.join(words)})" if words else ""))
+        if is_old and len(self._old_names) <= SHOWN:
+            self._old_names.append(f"{shown_path(file.path)} ({file.damage})")
+
+    def lines(self) -> Iterator[str]:
+        """The states and the names, for people. Damage that isn't new is no state, and is said so, because the status is 0."""
+        for state in State:
+            if self.counts[state]:
+                yield f"{self.counts[state]:>11,} {state.text}"
+                yield from _first(self._names.get(state, []))
+        if self.old:
+            yield f"{self.old:>11,} of these {'was' if self.old == 1 else 'were'} damaged before, and not since then"
+            yield from _first(self._old_names)
+
+
+def _first(names: Sequence[str]) -> Iterator[str]:
+    yield from (f"              {name}" for name in names[:SHOWN])
+    yield from ["              .."] * (len(names) > SHOWN)
 
 
 def _print_one(arguments: argparse.Namespace, result: verified.Verified) -> None:
@@ -197,16 +240,6 @@ def _words(result: verified.Verified) -> List[str]:
 
 def _by_earlier(count: int) -> str:
     return f"; {count:,} of them by a run that was stopped" if count else ""
-
-
-def _lines(counts: "Counter[State]", listed: Dict[str, List[str]]) -> Iterator[str]:
-    for state in State:
-        if not counts[state]:
-            continue
-        yield f"{counts[state]:>11,} {state.text}"
-        names = listed.get(state, [])
-        yield from (f"              {it}" for it in names[:SHOWN])
-        yield from ["              .."] * (len(names) > SHOWN)
 
 
 def _size(octets: int) -> str:

@@ -60,7 +60,7 @@ def state_of(before: PictureRecord, now: PictureRecord) -> Tuple[State, str]:
     if not before.sha256:
         return State.NO_DIGEST, ""
     if now.sha256 == before.sha256:
-        return State.AS_IT_WAS, now.damage and f"damaged before, too: {now.damage}"
+        return State.AS_IT_WAS, _before(now)
     if now.damage and not before.damage:
         return State.CUT, now.damage
     if before.stamp is None and before.coded_picture is None:  # of a manifest, which has nothing else
@@ -70,10 +70,15 @@ def state_of(before: PictureRecord, now: PictureRecord) -> Tuple[State, str]:
         return State.ROTTED, "in its metadata" * is_same_picture
     if is_same_picture:
         same = result_of(verdicts(before.sides(), now.sides())) == Result.SAME and before.not_read == now.not_read is not None
-        return (State.AGAIN if same else State.CAPTIONED), ""
+        return (State.AGAIN if same else State.CAPTIONED), _before(now)
     if (now.size, now.modified) == (before.size, before.modified):
         return State.ROTTED, "size and time are as before"
     return (State.OTHER, "") if before.coded_picture and now.coded_picture else (State.OTHER_FILE, "")
+
+
+def _before(now: PictureRecord) -> str:
+    """What is said of damage that was there before."""
+    return f"damaged before, too: {now.damage}" if now.damage else ""
 
 
 def verified(before: Catalogue, now: Catalogue, folders: Sequence[bytes]) -> Iterator[Verified]:
@@ -163,11 +168,13 @@ def _gone(before: Catalogue, now: Catalogue, picture: PictureRecord) -> Verified
         ("sha256", picture.sha256, "the same file is"),
         ("coded_picture", picture.coded_picture, "the same picture is"),
     ):
-        places = now.rows(f"SELECT path FROM pictures WHERE {column} = ? ORDER BY path", (digest,)) if digest else iter(())
+        places = now.rows(f"SELECT path, damage FROM pictures WHERE {column} = ? ORDER BY path", (digest,)) if digest else iter(())
         known = None
-        for (path,) in places:
+        for path, damage in places:
             if not _is_known(before, now, path):
-                return Verified(picture.path, State.MOVED, "captioned, too" if column == "coded_picture" else "", path)
+                is_captioned = column == "coded_picture"
+                note = "captioned, too" if is_captioned else f"damaged before, too: {damage}" if damage else ""
+                return Verified(picture.path, State.MOVED, note, path, "" if is_captioned else damage)
             known = known or path
         if known:
             return Verified(picture.path, State.MISSING, words, known)
