@@ -13,7 +13,7 @@ from made_files import app1, app1_xmp, exif, iim, jpeg, with_record, xmp
 from studio import SMALL_JPEG, errors, needs, tool
 
 from exifnorm_pictures.comparison.changed import _Left
-from exifnorm_pictures.fields.choosing import SAVES, Choice, fits_of as fits, kinds_of
+from exifnorm_pictures.fields.choosing import SAVES, Choice, kinds_of
 from exifnorm_pictures.model.found import EXIF, IPTC, XMP
 
 BUT = "the same but for the fields left out"
@@ -144,10 +144,15 @@ def test_groups(pattern, groups, folder, compared):
     assert {it.partition(":")[0] for it in compared("--ignore", pattern)[2]} & groups == set()
 
 
+def fits(pattern, where, key):
+    """Whether a field fits a pattern."""
+    return Choice(only=[pattern]).counts(where, key)
+
+
 def test_a_wildcard_without_a_group_is_for_names_without_one():
-    assert fits("*Date*")("xmp", "xmp:MetadataDate", "") and fits("*Date*")("main", "0132", "")
-    assert not fits("I*")("iptc", "2:80", "") and fits("I*")("exif", "8827", "")
-    assert not fits("xmp:*")("xmp", "<http://x/title>", "") and fits("xmp:<http*")("xmp", "<http://x/title>", "")
+    assert fits("*Date*", "xmp", "xmp:MetadataDate") and fits("*Date*", "main", "0132")
+    assert not fits("I*", "iptc", "2:80") and fits("I*", "exif", "8827")
+    assert not fits("xmp:*", "xmp", "<http://x/title>") and fits("xmp:<http*", "xmp", "<http://x/title>")
 
 
 def test_kinds_of_patterns():
@@ -434,7 +439,7 @@ def test_a_group_by_fields_is_never_proved_and_keeps_nothing(run, folder):
     assert lines[-1] == "Fields are left out by their listing, which is tested, and not proved."
     (group, _) = (json.loads(it) for it in run("same", "--catalogue", "c", "--json", "--ignore", "Artist")[1])
     assert (group["basis"], group["count"]) == ("meaning", 2)
-    for words, status in ((["--ignore", "*"], 3), (["--ignore", "Mkae"], 3), (["--kind", "iptc", "--only", "dc:title"], 3)):
+    for words, status in ((["--ignore", "*"], 3), (["--ignore", "Makr"], 3), (["--kind", "iptc", "--only", "dc:title"], 3)):
         assert run("same", "--catalogue", "c", *words)[0] == status, words
 
 

@@ -9,7 +9,7 @@ from typing import Callable, Dict, FrozenSet, Iterable, Iterator, List, Sequence
 
 from ..model.errors import WrongUse
 from ..model.found import EXIF, IPTC, NAMES, XMP
-from .field_names import EXIF_GROUPS, XMP_GROUPS, dictionary, groups_of, is_possible, names_of
+from .field_names import EXIF_GROUPS, XMP_GROUPS, Names, dictionary, is_possible, names_and_groups
 from .field import Field
 from .listing import MAKER_NOTE, is_rest
 
@@ -29,7 +29,7 @@ SETS = {"saves": SAVES}
 CACHED, LONGEST_CACHED = 5000, 200  # fields whose decision is kept, and characters of such a field's key
 MOST_LISTED = 1000  # fields that are listed as left out
 
-Test = Callable[[str, str, str], bool]  # of a directory, a key, and a block that isn't the first of its kind
+Test = Callable[[Names, Names], bool]  # of the names of a field, and of its groups
 
 
 class UnknownField(WrongUse):
@@ -42,16 +42,17 @@ _WILD = re.compile(r"[*?]")
 def fits_of(pattern: str) -> Test:
     """Whether a field has a name that fits a pattern. A group without a colon stands for all its fields.
 
-    >>> fits_of("xmpMM:*")("xmp", "xmpMM:InstanceID", ""), fits_of("iptc")("iptc", "2:25", ""), fits_of("I*")("iptc", "2:25", "")
+    >>> keywords = names_and_groups("iptc", "2:25")
+    >>> fits_of("iptc:*")(*keywords), fits_of("iptc")(*keywords), fits_of("I*")(*keywords)
     (True, True, False)
     """
     folded = pattern.casefold()
     if folded == "*":
-        return lambda where, key, block: True
+        return lambda names, groups: True
     if not _WILD.search(folded):
-        return lambda where, key, block: folded in names_of(where, key, block) or folded in groups_of(where, key)
+        return lambda names, groups: folded in names or folded in groups
     compiled = _compiled(folded)
-    return lambda where, key, block: any(map(compiled.fullmatch, _of_form(folded, names_of(where, key, block))))
+    return lambda names, groups: any(map(compiled.fullmatch, _of_form(folded, names)))
 
 
 def _compiled(folded: str) -> "re.Pattern[str]":
@@ -166,7 +167,8 @@ class Choice:
         return counts
 
     def _decide(self, where: str, key: str, block: str) -> bool:
-        ignored, wanted = ([it for it in some if it.test(where, key, block)] for some in (self.ignore, self.only))
+        names = names_and_groups(where, key, block)  # once for all patterns: they take longer than these
+        ignored, wanted = ([it for it in some if it.test(*names)] for some in (self.ignore, self.only))
         for pattern in (*ignored, *wanted):
             pattern.is_seen = True
         return is_rest(where, key) or (not ignored and (bool(wanted) or not self.only))

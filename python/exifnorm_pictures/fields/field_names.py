@@ -32,22 +32,22 @@ Names = FrozenSet[str]
 _DIRECTORIES = ("main", "exif", "gps", "interop", "thumb", "iptc")
 
 
-def names_of(where: str, key: str, block: str = "") -> Names:
-    """The names of a field, in small letters.
+def names_and_groups(where: str, key: str, block: str = "") -> Tuple[Names, Names]:
+    """The names of a field, and its groups, in small letters.
 
-    >>> sorted(names_of("iptc", "2:25"))
+    >>> sorted(names_and_groups("iptc", "2:25")[0])
     ['2:25', 'iptc:2:25', 'iptc:keywords', 'keywords']
-    >>> sorted(names_of("xmp", "dc:title")), sorted(names_of("xmp", "exif:FNumber"))
+    >>> sorted(names_and_groups("xmp", "dc:title")[0]), sorted(names_and_groups("xmp", "exif:FNumber")[0])
     (['dc:title', 'title', 'xmp-dc:title'], ['fnumber', 'xmp-exif:fnumber'])
     """
     printed = group_name(where, key)
-    groups, bare = groups_of(where, key), _bare(where, key)
+    groups, bare = _groups(where, key), _bare(where, key)
     names = [printed, safe(printed), *bare, *(f"{group}:{it}" for group in groups if group != "xmp" for it in bare)]
     if where == "xmp" and key.partition(":")[0] not in _DIRECTORIES:
         names.append(key)
     if block:
         names += [f"{it} ({block})" for it in (printed, safe(printed))]
-    return frozenset(map(str.casefold, names))
+    return frozenset(map(str.casefold, names)), groups
 
 
 def _bare(where: str, key: str) -> List[str]:
@@ -57,10 +57,10 @@ def _bare(where: str, key: str) -> List[str]:
     return [plain_name(where, key), name_of(where, key), key if ":" in key else f"0x{key}"]
 
 
-def groups_of(where: str, key: str) -> Names:
+def _groups(where: str, key: str) -> Names:
     """The groups of a field, in small letters: each stands for all of its fields.
 
-    >>> sorted(groups_of("main", "013b")), sorted(groups_of("xmp", "Iptc4xmpCore:Location"))
+    >>> sorted(_groups("main", "013b")), sorted(_groups("xmp", "Iptc4xmpCore:Location"))
     (['exif', 'ifd0', 'main'], ['xmp', 'xmp-iptc4xmpcore', 'xmp-iptccore'])
     """
     groups = [group_of(where), where]
@@ -78,7 +78,7 @@ def dictionary() -> Tuple[Names, Tuple[str, ...]]:
     fields = [(where, key) for where, tables in TABLES.items() for table in tables for key in table]
     fields += [("thumb", "jpeg"), ("thumb", "strip"), *(("xmp", it) for it in _XMP)]
     fields += [("xmp", f"{prefix}:{it}") for prefix, place in _TAGS_IN_XMP for table in TABLES[place] for it in table.values()]
-    names = frozenset(name for it in fields for name in names_of(*it) | groups_of(*it))
+    names = frozenset(name for it in fields for some in names_and_groups(*it) for name in some)
     printed = [group_name(*it) for it in fields]
     return names, tuple(dict.fromkeys([*printed, *(it.partition(":")[2] for it in printed)]))
 
