@@ -10,13 +10,14 @@ Each growth says what must be read of what it makes. That a picture never takes 
 
 import itertools
 import json
+import math
 import os
 import shutil
 from collections import Counter
 
 import pytest
 from growing import FOLDERS, FORMATS as MAKERS, IN_EACH_FORMAT, KINDS, OTHERS, Whole
-from work import COUNTED, Counting, compiled
+from work import COUNTED, Counting, Work, compiled
 
 from exifnorm_pictures.cli.parser import parsers
 from exifnorm_pictures.extract.readers import FORMATS
@@ -76,6 +77,24 @@ OF_FORMS = [*READING, "compare A B --json --exact --no-exiftool", "captions P", 
 def test_all_commands_and_formats_are_counted():
     assert set(COMMANDS) == set(parsers()[1])
     assert set(MAKERS) == {it.name for it in FORMATS}
+
+
+LAWS = {
+    "linear": (lambda n: 100 * n, False),
+    "n log n": (lambda n: 100 * n * math.log(n), False),
+    "a step": (lambda n: 100 * n + 60 * max(n - 1000, 0), False),
+    "quadratic": (lambda n: n * n, True),
+    "a quadratic part": (lambda n: 1000 * n + n * n, True),
+    "n to the power of 1.3": (lambda n: 100 * n**1.3, True),
+    "a step to a quadratic part": (lambda n: 1000 * n + 2 * max(n - 1000, 0) ** 2, True),
+}
+
+
+@pytest.mark.parametrize("law", LAWS)
+def test_what_is_bad(law):
+    calls, is_bad = LAWS[law]
+    start, once, twice, four = ({"a": Work(0, int(calls(n)), *[0] * 7, b"", "")} for n in (1, 1000, 2000, 4000))
+    assert bool(but_for_steps(check(start, once, twice), start, twice, four)) == is_bad
 
 
 @pytest.fixture(scope="module")
@@ -146,6 +165,13 @@ def check(start, once, twice):
     return bad
 
 
+def but_for_steps(bad, start, twice, four):
+    """What is bad at the second doubling, too. A cache that is full between two sizes, or a file that is no longer in memory as a whole, makes a
+    step, after which twice as much is at most 2.3 times the work again. What grows faster than the input does so at each doubling."""
+    again = check(start, {words: twice[words] for words, _ in bad}, four)
+    return {what: work for what, work in bad.items() if what in again}
+
+
 def check_seconds(start, once, four):
     bad = {}
     for words in once:
@@ -157,14 +183,20 @@ def check_seconds(start, once, four):
 
 def grown(counting, start, folder, put, size, is_long, commands, look):
     """What is bad about the work at a size and at twice that, and four times in the long form. `look` sees the archive of the first size, and
-    the work."""
+    the work.
+
+    What is bad is so at the next doubling, too: see `but_for_steps`."""
     archive = of_size(counting, folder, put, size)
     once = archive.works(commands)
     look(archive, once)
     twice = of_size(counting, folder, put, 2 * size).works(commands)
     bad = check(start, once, twice)
+    if bad or is_long:
+        again = commands if is_long else list(dict.fromkeys(words for words, _ in bad))
+        four = of_size(counting, folder, put, 4 * size).works(again)
+        bad = but_for_steps(bad, start, twice, four)
     if is_long:
-        bad.update(check_seconds(start, once, of_size(counting, folder, put, 4 * size).works(commands)))
+        bad.update(check_seconds(start, once, four))
     return bad, once, twice
 
 
