@@ -1,0 +1,4 @@
+pub mod PieceLaws
+pub mod ScopeLaws
+pub mod FaultLaws
+pub mod PlainLaws

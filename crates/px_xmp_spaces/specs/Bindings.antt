@@ -1,0 +1,53 @@
+-- How attributes declare prefixes. Namespaces in XML 1.0, 3 and 5.
+use Rattle.std.specs.Prelude.{◌==◌, ◌&&◌, ◌||◌, ℕ, Bool, not, nat_le, if◌then◌else◌, codes}
+use Rattle.std.specs.Prelude.{Option, Some, None, List, [], ◌∷◌, length, Result, Ok, Err}
+use Rattle.px_xmp_marks.specs.Reading.{Named, Attr}
+use Rattle.px_xmp_marks.specs.Declarations.{every}
+use Rattle.px_xmp_spaces.specs.declared.faults.Cause.{Cause}
+use Rattle.px_xmp_spaces.specs.declared.faults.Cause.TheVariants.{RareSpace, Reserved, TooMany}
+use Rattle.px_xmp_spaces.specs.Scopes.{Item, Declaration, limit, is_same, xml_space, xmlns_space}
+
+-- the prefix that an attribute with this name declares (3, productions 1 to 3)
+abbrev pub declared_prefix : Named → Option (List ℕ)
+declared_prefix n =
+    if is_same n.prefix (codes "xmlns") then Some n.local
+    else if is_same n.prefix [] && is_same n.local (codes "xmlns") then Some n.prefix
+    else None
+
+-- a limit of this reader: the octets of a namespace's name, which mean themselves
+abbrev pub is_plain : ℕ → Bool
+is_plain o = nat_le 33 o && nat_le o 126 && not (o == 38)
+
+abbrev pub differ : Bool → Bool → Bool
+differ a b = if a then not b else b
+
+-- No declaration binds the prefix xmlns, or another prefix to its namespace; the prefix xml is bound to its own namespace
+-- alone, and no other prefix is bound to that (3). No prefix is bound to no namespace (5, No Prefix Undeclaring).
+abbrev pub is_reserved : List ℕ → List ℕ → Bool
+is_reserved p u =
+    is_same p (codes "xmlns") || is_same u xmlns_space || differ (is_same p (codes "xml")) (is_same u xml_space)
+    || (is_same u [] && not (is_same p []))
+
+-- what is in scope after a declaration, or what is wrong with it
+abbrev pub with_declaration : List ℕ → List ℕ → List Item → Result (List Item) Cause
+with_declaration p u scope =
+    if not (every is_plain u) then Err RareSpace
+    else if is_reserved p u then Err Reserved
+    else if nat_le limit (length scope) then Err TooMany
+    else Ok (Declaration p u ∷ scope)
+
+abbrev pub or_same : (List ℕ → Result (List Item) Cause) → List Item → Option (List ℕ) → Result (List Item) Cause
+or_same f scope None = Ok scope
+or_same f scope (Some p) = f p
+
+-- what is in scope after an attribute, and after attributes
+abbrev pub with_attribute : Attr → List Item → Result (List Item) Cause
+with_attribute a scope = or_same (λ p. with_declaration p a.value scope) scope (declared_prefix a.name)
+
+abbrev pub and_then : Result (List Item) Cause → (List Item → Result (List Item) Cause) → Result (List Item) Cause
+and_then (Err c) f = Err c
+and_then (Ok scope) f = f scope
+
+abbrev pub with_attributes : List Attr → List Item → Result (List Item) Cause
+with_attributes [] scope = Ok scope
+with_attributes (a ∷ more) scope = and_then (with_attribute a scope) (λ inner. with_attributes more inner)

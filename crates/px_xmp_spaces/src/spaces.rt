@@ -1,0 +1,80 @@
+// Prefixes that are declared. Namespaces in XML 1.0, 3, 5 and 6.1.
+ghost use Rattle.std.specs.Prelude.{◌≡◌, ℕ, List, ◌++◌, MatchOption};
+ghost use Rattle.px_xmp_marks.specs.Reading.{Attr, name_view, end_tag};
+ghost use Rattle.px_xmp_spaces.specs.Pieces.{Piece, IsPiece};
+ghost use Rattle.px_xmp_spaces.specs.Tags.{passed};
+ghost use Rattle.px_xmp_spaces.specs.Faults.{HasSpaces, IsFault};
+ghost use Rattle.px_xmp_spaces.specs.calls.Passing.{Gives, AreListed, start_piece, passed_other};
+
+use crate::faults::{Cause, Fault};
+use crate::scopes::Scope;
+use px_xmp_marks::{StartTag, mark_len, read_end_tag, read_start_tag};
+
+impl<'a> Scope<'a> {
+    fn pass_start(&mut self, tag: StartTag<'a>) -> Option<Cause>
+        ensures { (attributes : List Attr) → AreListed tag.entry.rest.now attributes
+            → Gives result self.new (passed (start_piece tag.entry.is_empty (name_view tag.entry.name) attributes) self.old) }
+    {
+        if let Some(cause) = self.open(tag) {
+            return Some(cause);
+        }
+        if tag.is_empty {
+            self.end();
+        }
+        None
+    }
+
+    fn pass_other(&mut self, octets: &[u8])
+        ensures { self.new ≡ passed_other (end_tag octets.now) self.old }
+    {
+        match read_end_tag(octets) {
+            Some(_) => self.end(),
+            None => {}
+        }
+    }
+
+    // Passes the mark at the start, or returns what is wrong with it here.
+    fn pass(&mut self, octets: &'a [u8]) -> Option<Cause>
+        ensures { (p : Piece) (m rest : List ℕ) → IsPiece p m rest → octets.now ≡ m ++ rest → Gives result self.new (passed p self.old) }
+    {
+        px_xmp_marks::laws::marks_are_read();
+        px_xmp_marks::laws::start_tags_are_read();
+        px_xmp_marks::laws::only_start_tags_are_read();
+        px_xmp_marks::laws::end_tags_are_read();
+        px_xmp_marks::laws::only_end_tags_are_read();
+        if let Some(tag) = read_start_tag(octets) {
+            return self.pass_start(tag);
+        }
+        self.pass_other(octets);
+        None
+    }
+}
+
+/// The first fault of some octets. None: they are marks in a row, each prefix in them is declared by the element that has
+/// it or one around it, and each declaration is allowed. It allocates nothing. Namespaces in XML 1.0, 3, 5 and 6.1.
+pub fn first_fault(octets: &[u8]) -> Option<Fault>
+    ensures { MatchOption result (HasSpaces octets.now) (λ f. IsFault octets.now f.cause f.offset) }
+{
+    px_xmp_marks::laws::marks_are_read();
+    px_xmp_marks::laws::only_marks_are_read();
+    px_xmp_marks::laws::start_tags_are_read();
+    px_xmp_marks::laws::only_start_tags_are_read();
+    px_xmp_marks::laws::end_tags_are_read();
+    px_xmp_marks::laws::only_end_tags_are_read();
+    let mut scope = Scope::new();
+    let mut at = 0;
+    while at < octets.len() {
+        let rest = octets.split_at(at).1;
+        let Some(len) = mark_len(rest) else {
+            return Some(Fault {
+                cause: Cause::NoMark,
+                offset: at,
+            });
+        };
+        if let Some(cause) = scope.pass(rest) {
+            return Some(Fault { cause, offset: at });
+        }
+        at += len;
+    }
+    None
+}
