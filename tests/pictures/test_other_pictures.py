@@ -49,9 +49,10 @@ def test_changed(name, folder, called):
     assert (found, it["result"]) == (statuses[1], result) and it["coded_picture"] in (coded, "the same")
 
 
-@pytest.mark.parametrize(
-    "part", [segment(0xE2, b"ICC_PROFILE\0\1\1other colours"), segment(0xFE, b"a comment")], ids=["profile", "comment"]
-)
+PARTS = (segment(0xE2, b"ICC_PROFILE\0\1\1other colours"), segment(0xFE, b"a comment"))
+
+
+@pytest.mark.parametrize("part", PARTS, ids=["profile", "comment"])
 def test_a_picture_that_lost_its_profile_or_comment(folder, called, part):
     """Its pixels may look otherwise, so it is never only counted as the same."""
     put(folder / "a", {"x.jpg": MASTER[:2] + part + MASTER[2:], "y.jpg": MASTER})
@@ -61,6 +62,21 @@ def test_a_picture_that_lost_its_profile_or_comment(folder, called, part):
     assert f"The coded pictures: {', '.join(f'{count} {it}' for it, count in expected.items())}." in printed
     *pictures, summary = map(json.loads, called("changed", "a", "b", "--pixels", "--all", "--json")[1].splitlines())
     assert summary["coded_pictures"] == expected and sorted(it["coded_picture"] for it in pictures) == sorted(expected)
+    for words in (["--each"], ["--csv"], ["--json"]):
+        printed = called("changed", "a", "b", "--pixels", *words)[1]
+        assert "x.jpg" in printed and "y.jpg" not in printed, words
+
+
+@pytest.mark.parametrize("part", PARTS, ids=["profile", "comment"])
+def test_a_night_on_which_a_picture_lost_its_profile_or_comment(folder, called, part):
+    """It is news, once; the bytes of the metadata alone aren't."""
+    night = ("nightly", "a", "--catalogue", "n", "--pixels")
+    put(folder / "a", {"x.jpg": MASTER[:2] + part + MASTER[2:], "y.jpg": MASTER})
+    called(*night)
+    put(folder / "a", {"x.jpg": MASTER, "y.jpg": MASTER})
+    status, printed, _ = called(*night)
+    assert status == 1 and "colour profile or comment" in printed and "x.jpg" in printed and "y.jpg" not in printed, printed
+    assert called(*night)[:2] == (0, "")
 
 
 def test_what_the_report_says(folder, called):

@@ -57,7 +57,7 @@ def run(arguments: argparse.Namespace) -> int:
             before, after, counts, only, arguments.all, None if arguments.no_exiftool else arguments.session, choice, pictures
         )
         comparisons = _then_noted(comparisons, choice, before, after)
-        listed = (it for it in comparisons if it.result.has_changed is not False or arguments.all)
+        listed = (it for it in comparisons if arguments.all or it.result.has_changed is not False or notes.has_news_of(it))
         table = table_of(arguments, changed_tables.HEADS)
         if table:
             changed_tables.print_table(table, listed, choice)
@@ -92,6 +92,10 @@ class _Notes:
         self.pixels = ("index --pixels", "index --pixels, and --pixels here,", "--pixels")[folders]
         self.is_asked = not (arguments.only or arguments.only_file)  # the words of --only are all that is asked
         self.counts = counts
+
+    def has_news_of(self, comparison: changes.Compared) -> bool:
+        """Whether a picture may look otherwise, though its data and metadata are the same."""
+        return self.is_asked and comparison.picture == Coded.BESIDE
 
     def of_pictures(self) -> List[str]:
         """A sentence, if there are pictures on both sides."""

@@ -19,6 +19,7 @@ _WORDS = {
     Kind.DAMAGED: ("is damaged", "are damaged"),
     Kind.RULE: ("breaks {}", "break {}"),
     Kind.OTHER_PICTURE: ("has another picture", "have another picture"),
+    Kind.PROFILE: ("has another colour profile or comment, or lost its", "have another colour profile or comment, or lost theirs"),
     Kind.UNREADABLE: ("can't be read", "can't be read"),
     Kind.OPEN: ("can't be compared wholly", "can't be compared wholly"),
     Kind.UNREAD: ("was not wholly read, and may break a rule", "were not wholly read, and may break a rule"),

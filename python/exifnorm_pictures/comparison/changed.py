@@ -97,6 +97,8 @@ def compared(pair: Pair, pairs: Sides, session: Optional[Session], choice: Choic
         comparison.result = Result.OTHER_PICTURE_ALONE if comparison.result.is_equal else Result.OTHER_PICTURE
     elif coded_picture.result == Coded.OTHER:
         comparison.note += "; the picture is another one, too"
+    elif coded_picture.result == Coded.BESIDE:
+        comparison.note += "; another colour profile or comment, or it is gone"
     comparison.note = "; ".join(filter(None, [coded_picture.note, comparison.note]))
     return comparison
 

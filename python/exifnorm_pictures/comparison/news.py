@@ -42,6 +42,7 @@ class Kind(Word):
     DAMAGED = ("damaged",)
     RULE = ("rule broken",)
     OTHER_PICTURE = ("other picture",)
+    PROFILE = ("other colours or comments",)  # the same coded picture with another colour profile or comment, or without
     UNREADABLE = ("not readable", True)
     OPEN = ("not comparable", True)
     UNREAD = ("not wholly read", True)  # so that it may break a rule
@@ -248,7 +249,7 @@ def _kinds(comparison: Compared) -> Iterator[Kind]:
         yield Kind.OPEN
 
 
-_OF_CODED = {Coded.DAMAGED: Kind.DAMAGED, Coded.DAMAGED_BEFORE: Kind.READABLE, Coded.OTHER: Kind.OTHER_PICTURE}
+_OF_CODED = {Coded.DAMAGED: Kind.DAMAGED, Coded.DAMAGED_BEFORE: Kind.READABLE, Coded.OTHER: Kind.OTHER_PICTURE, Coded.BESIDE: Kind.PROFILE}
 
 
 def _labels(comparison: Compared) -> List[str]:
