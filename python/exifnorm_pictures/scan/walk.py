@@ -48,7 +48,7 @@ def below(
 ) -> Iterator[FoundFile]:
     """Each file of the arguments, and all files below each folder, in the order of their names. Only the names of one folder are held.
 
-    Paths are absolute. Links to folders aren't followed. Hidden files and folders are included; the files of `leave_out` are not, and
+    Paths are absolute. Links to folders aren't followed. Hidden files and folders are included; the files and folders of `leave_out` are not, and
     neither is what is excluded, with all below it.
     A folder that can't be read, and a name without a file, are passed to `unlisted`, and the other files are still returned.
     With `on_sidecar` the XMP files that belong to pictures are passed to it, and are with their pictures; a name that is given is always returned.
@@ -84,7 +84,7 @@ def _below(
             unlisted(Unlisted(folder, reason(error)))
             continue
         inside = os.path.join(folder, b"")
-        waiting += [inside + it for it in reversed(folders)]
+        waiting += [inside + it for it in reversed(folders) if inside + it not in leave_out]
         files = [it for it in files if inside + it not in leave_out] if leave_out else files
         known = Folder([] if on_sidecar is None else files)
         for name in files:
