@@ -31,7 +31,7 @@ from .jpeg_segments import (
 )
 from .jpeg_tail import WINDOW, Tail, is_scan, tail
 from .streams import Stream, digest_of, digest_of_rest, read_at, size_of
-from .trailers import known_trailer
+from .trailers import add_blocks, known_trailer
 
 START = b"\xff\xd8\xff"
 NO_END_MARK = f"{CUT}before the end mark of its picture"  # which a decoder may still read wholly
@@ -197,7 +197,8 @@ def _read_after(stream: Stream, head: _Head, end: int, whole: bool) -> None:
     digest = digest_of_rest(stream, start, end) if start < end else None
     if digest is None:
         return
-    head.blocks.has_more = head.blocks.has_more or (trailer is not None and trailer.may_hold_blocks)
+    is_read = rest.has_mark and end == size_of(stream) and add_blocks(head.blocks, stream, start, end)
+    head.blocks.has_more = head.blocks.has_more or (trailer is not None and trailer.may_hold_blocks and not is_read)
     what = f"{trailer.name} trailer" if trailer else _kind_of_rest(stream, start, end)
     head.blocks.not_read.append(NotRead(f"{what} of {length_of(end - start)}{head.of}", digest))
 

@@ -13,6 +13,7 @@ from typing import List, NamedTuple
 from ...model.budgets import SCAN_SEGMENTS, TooMuch, budget_of
 from .jpeg_segments import APP1, APP13, EOI, SOI
 from .streams import CHUNK, Stream
+from .trailers import known_trailer
 
 WINDOW = 1 << 16  # bytes
 
@@ -35,7 +36,7 @@ def tail(stream: Stream, start: int, end: int, whole: bool) -> Tail:
         first = end - WINDOW
         stream.seek(first - 1)
         first -= stream.read(1) == b"\xff"
-        if _is_plain(Markers(stream, first, end)):
+        if _is_plain(Markers(stream, first, end)) and known_trailer(stream, end) is None:  # Canon's ends with an end mark, too
             return Tail([], end, True)
     if not budget_of(stream).may_digest(end - start):
         return Tail([], start, False, False)

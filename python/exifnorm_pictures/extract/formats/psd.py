@@ -13,7 +13,7 @@ from ...model.budgets import RESOURCES, RESOURCE_BYTES, STRIPS, budget_of
 from ...model.found import IN_PICTURE, Blocks, Broken, NotRead, length_of
 from . import photoshop
 from .streams import Stream, digest_of_rest, leave, pieces, read_at, size_of
-from .trailers import known_trailer
+from .trailers import add_blocks, known_trailer
 
 START = b"8BPS"
 _BIG = 2  # the version of a PSB, some of whose numbers are wider
@@ -110,5 +110,6 @@ def _leave_trailer(blocks: Blocks, stream: Stream, start: Optional[int], end: in
         return
     digest = digest_of_rest(stream, start, end) if start < end else None
     if digest is not None:
-        blocks.has_more = trailer is not None and trailer.may_hold_blocks
+        is_read = add_blocks(blocks, stream, start, end)
+        blocks.has_more = trailer is not None and trailer.may_hold_blocks and not is_read
         blocks.name(NotRead(f"{trailer.name if trailer else ''} trailer of {length_of(end - start)}".lstrip(), digest))
