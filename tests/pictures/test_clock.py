@@ -140,6 +140,7 @@ def test_pixels_that_never_end(try_each):
 MARK = b"has no end"
 FAKE = """#!/usr/bin/python3
 import json, os, re, sys, time
+sys.excepthook = lambda kind, *_: sys.stderr.write("Out of memory!\\n" if kind is MemoryError else str(kind))
 STAGES = {"shown": "-all#", "free": "-PageName", "written": "=zz", "rebuilt": "-tagsfromfile"}
 def about(names, words):
     if any(b"has no end" in open(name, "rb").read() for name in names) and any(STAGES.get(%r, "") in word for word in words):
@@ -172,6 +173,7 @@ WITHOUT_END = {
     "long": "[print(' ' * 1_000_000, flush=True) for _ in range(10_000)]",
     "deaf": "os.close(0), time.sleep(1000)",
 }
+GREEDY = "[bytearray(64 << 20) for _ in range(100)]"  # of which Python tells as Perl does
 NO_READER = b"\xff\x01Exiv2\xff\xd9"  # exiv2's own format
 TRAILERS = [jpeg(app1(exif(b"Abc")), behind=b"AXS!" + it.ljust(20, b"\0") + b"AXS*" + bytes(8)) for it in (MARK, b"")]
 COMMENT = segment(0xFE, MARK)
@@ -283,3 +285,62 @@ def test_an_exiftool_that_leaves_its_input_in_the_pipe(folder, monkeypatch):
             process.ask([b"/a" * 100_000], (), ())
     finally:
         process.close()
+
+
+# What a program needs beside time
+
+
+@pytest.mark.parametrize("command", ("index p --catalogue c --quiet --jobs 1", "show p/a.exv p/b.exv --json", "captions p --json"))
+def test_an_exiftool_that_needs_more_memory(command, called, folder, monkeypatch):
+    """It ends at the limit of its memory, which the answer says, and the next picture is read by another one."""
+    asked(folder, monkeypatch, GREEDY, a_exv=NO_READER + MARK, b_exv=NO_READER)
+    status, out, messages = called(*command.split())
+    if command.startswith("index"):
+        with sqlite3.connect("c") as base:
+            problems = list(base.execute("SELECT problem, detail FROM pictures ORDER BY path"))
+    else:
+        problems = [(it["problem"], it["detail"]) for it in map(json.loads, out.splitlines()) if "problem" in it]
+    (problem, detail), *others = problems
+    assert (status, problem) == (2, "ToolFailed") and "1,024 MB" in detail, (status, problems, messages)
+    assert [it for it, _ in others if it] == []
+
+
+def test_a_program_is_ended_at_the_limit_of_its_memory():
+    """Perl tells of it on standard error and ends with 1, as after any other error."""
+    for script in ('$x = "a" x 2e9', 'push @a, "x" x 1e6 while 1'):
+        with pytest.raises(programs.Failed, match="1,024 MB"):
+            programs.run([tool_path("perl"), "-e", script], 60)
+    assert programs.run([tool_path("perl"), "-e", 'warn "Not out of memory"; $x = "a" x 1e8; print length $x'], 60).stdout == b"100000000"
+
+
+def test_a_program_that_is_killed_has_no_answer():
+    with pytest.raises(programs.Failed, match="signal 9"):
+        programs.run(["/bin/sh", "-c", "echo half; kill -9 $$"], 60)
+
+
+def test_a_program_has_no_more_memory_than_this_process(monkeypatch):
+    monkeypatch.setattr(programs.resource, "getrlimit", lambda _: (300 << 20, 400 << 20))
+    with pytest.raises(programs.Failed, match=" 300 MB"):
+        programs.run([tool_path("perl"), "-e", '$x = "a" x 4e8'], 60)
+
+
+def test_words_on_standard_error_stop_no_program():
+    """More of them than a pipe has room for."""
+    script = 'for (1..3) { print STDERR "x" x 1e6; syswrite STDOUT, "y" x 1e6 }'
+    assert len(programs.run([tool_path("perl"), "-e", script], 60).stdout) == 3_000_000
+
+
+def tool_path(name):
+    return programs.shutil.which(name) or pytest.skip(f"{name} isn't installed")
+
+
+def test_what_explain_tries_has_the_time_of_one_call(called, folder, monkeypatch):
+    """Each call of ExifTool ends in time, and all of them don't."""
+    programs_of(folder, monkeypatch, "time.sleep(0.4)")
+    (folder / "a.jpg").write_bytes(with_exif(SMALL_JPEG, b"II*\0\xff\xff\0\0" + MARK))
+    allowed, run = [], programs.run
+    monkeypatch.setattr(programs, "run", lambda words, seconds, *more: (allowed.append(seconds), run(words, seconds, *more))[1])
+    status, out, messages = called("explain", "a.jpg", "--limit", "1")
+    assert status == 2 and "isn't known: it takes longer than 1 second" in out, out + messages
+    assert len(allowed) > 1 and allowed == sorted(allowed, reverse=True) and allowed[-1] < 0.7, allowed
+    assert json.loads(called("explain", "a.jpg", "--limit", "1", "--json")[1].splitlines()[0])["mend"] is None

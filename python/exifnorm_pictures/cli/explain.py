@@ -5,7 +5,7 @@ from __future__ import annotations
 import argparse
 import functools
 import tempfile
-from typing import Callable, List, Optional
+from typing import Callable, List, Union
 
 from ..extract import programs
 from ..fields.block_fields import fields_of
@@ -16,20 +16,20 @@ from ..model.budgets import TooMuch
 from ..model.found import EXIF, XMP, FoundBlock
 from ..model.records import BlockRecord
 from ..model.sides import Status
-from ..model.texts import Members, path_members
+from ..model.texts import Members, path_members, reason
 from ..refusals import damage, explain, mend
 from .each_block import each_block, each_picture, status_of_reading
 from .exit_codes import SUCCESS
 from .not_read import damage_members
 from .objects import block_object, picture_object, print_object
 
-Try = Callable[[bytes], Optional[mend.Mended]]
+Try = Callable[[bytes], Union[mend.Mended, str]]  # what `mend` does with a picture, or why that isn't known
 
 
 def run(arguments: argparse.Namespace) -> int:
     """Explains refusals, and tries whether `mend` helps."""
     tried: Try = functools.lru_cache(maxsize=1)(functools.partial(_tried, arguments.session))
-    tried = (lambda _: None) if arguments.block else tried
+    tried = (lambda _: "") if arguments.block else tried
     if arguments.json:
         return _print_objects(arguments, tried)
 
@@ -43,23 +43,31 @@ def run(arguments: argparse.Namespace) -> int:
     return each_block(arguments, lambda: describe, True, damage.lines)
 
 
-def _explained(at: FoundBlock, block: BlockRecord, mended: Optional[mend.Mended]) -> explain.Explanation:
+def _explained(at: FoundBlock, block: BlockRecord, mended: Union[mend.Mended, str]) -> explain.Explanation:
     explained = explain.explain_packet(block) if block.kind == XMP else explain.explain(block.kind, at.data)
-    explained.is_without_remedy = mended is not None and mended.remedy == mend.Remedy.NONE
+    explained.is_without_remedy = isinstance(mended, mend.Mended) and mended.remedy == mend.Remedy.NONE
     return explained
 
 
-def _tried(session: Session, name: bytes) -> Optional[mend.Mended]:
-    """What `mend` does with a picture, without a copy; None if that isn't known, because a program is missing or fails."""
+def _tried(session: Session, name: bytes) -> Union[mend.Mended, str]:
+    """What `mend` does with a picture, without a copy, or why that isn't known. All that is tried of one picture has the time of one call."""
     try:
-        with tempfile.TemporaryDirectory(dir=session.room) as own:
+        with session.one_clock(), tempfile.TemporaryDirectory(dir=session.room) as own:
             return mend.attempt(session, name, own)[0]
-    except (programs.Failed, programs.Missing, TooMuch, OSError):
-        return None
+    except programs.TooSlow:
+        return f"it takes longer than {session.seconds:g} seconds"
+    except (mend.NeedsExifTool, programs.Missing):
+        return ""  # which the remedy says
+    except (programs.Failed, TooMuch) as error:
+        return str(error)
+    except OSError as error:
+        return reason(error)
 
 
-def _lines(tried: Optional[mend.Mended]) -> List[str]:
-    if tried is None or tried.remedy == mend.Remedy.NONE:
+def _lines(tried: Union[mend.Mended, str]) -> List[str]:
+    if isinstance(tried, str):
+        return [f"  Tried: what mend does isn't known: {tried}"] if tried else []
+    if tried.remedy == mend.Remedy.NONE:
         return []
     values = f"{len(tried.lost)} printed value{'s' * (len(tried.lost) != 1)} lost or changed"
     return [f"  Tried: mend makes a copy: {tried.remedy.text}; {values}"]
@@ -87,17 +95,17 @@ def _print_objects(arguments: argparse.Namespace, tried: Try) -> int:
     for reading in each_picture(arguments):
         worst = max(worst, status_of_reading(reading, True))
         for block in reading.blocks:
-            mended = None if block.is_accepted else tried(reading.name)
+            mended = "" if block.is_accepted else tried(reading.name)
             print_object("explain", "block", {**path_members(reading.name), **_block_members(reading.found_block(block), block, mended)})
         if reading.problem or reading.not_read or reading.damage or not reading.blocks:
             print_object("explain", "picture", _picture_members(reading))
     return worst
 
 
-def _block_members(at: FoundBlock, block: BlockRecord, mended: Optional[mend.Mended]) -> Members:
+def _block_members(at: FoundBlock, block: BlockRecord, mended: Union[mend.Mended, str]) -> Members:
     explained = {} if block.is_accepted else _explained(at, block, mended).members()
     words = {key: explained.get(key, value) for key, value in _WITHOUT.items()}
-    tried = None if mended is None else {"step": mended.remedy, "lost": mended.lost, "gained": mended.gained}
+    tried = None if isinstance(mended, str) else {"step": mended.remedy, "lost": mended.lost, "gained": mended.gained}
     return {**block_object(block), **words, "repair": [one._asdict() for one in block.steps], "mend": tried}
 
 

@@ -1,4 +1,4 @@
-"""Calls of other programs: each has a time limit and a limit on its output, and no program outlives this one.
+"""Calls of other programs: each has limits of time, of memory and of its output, and no program outlives this one.
 
 ExifTool runs with `-config ""`, so that no configuration file changes its output.
 """
@@ -8,15 +8,17 @@ from __future__ import annotations
 import ctypes
 import functools
 import os
+import re
+import resource
 import select
 import shutil
 import signal
 import subprocess
 import time
-from typing import Callable, List, NamedTuple, Optional, Set
+from typing import Callable, List, NamedTuple, Optional, Set, Tuple
 
 from ..files import signals
-from ..model.budgets import OUTPUT
+from ..model.budgets import OUTPUT, PROGRAM_BYTES
 from ..model.errors import Failure
 from ..model.texts import reason
 
@@ -24,6 +26,8 @@ PACKAGES = {"exiftool": "libimage-exiftool-perl", "exiv2": "exiv2"}
 
 _PIECE = 1 << 20
 _PR_SET_PDEATHSIG = 1
+_NO_MEMORY = re.compile(rb"^Out of memory|bad_alloc", re.M)  # what Perl and C++ write when they get no more
+_WORDS = 1000  # bytes that are kept of what a program writes on standard error
 
 
 class Missing(Failure):
@@ -85,11 +89,14 @@ def version(program: str, seconds: float) -> Optional[str]:
 
 
 def run(words: List[str], seconds: float, folder: Optional[str] = None) -> Done:
-    """Runs a program to its end. Raises `Failed` if it takes too long or writes too much."""
+    """Runs a program to its end. Raises `Failed` if it takes too long, writes too much, gets no more memory, or is ended by a signal."""
     started = start(words, folder)
     try:
         output = read_until(started, lambda _: False, seconds)
-        return Done(started.wait(max(seconds, 1.0)), output)
+        status = started.wait(max(seconds, 1.0))
+        if status < 0:
+            raise Failed(f"{_name(words)} was ended by signal {-status}")
+        return Done(status, output)
     except subprocess.TimeoutExpired:
         raise TooSlow(f"{_name(words)} took longer than {seconds:g} seconds") from None
     finally:
@@ -118,16 +125,25 @@ def start(words: List[str], folder: Optional[str] = None, stdin: int = subproces
         raise
 
 
+def _memory() -> Tuple[int, int]:
+    """The limits of a program's memory, no higher than those of this process."""
+    soft, hard = resource.getrlimit(resource.RLIMIT_AS)
+    return (PROGRAM_BYTES if soft == resource.RLIM_INFINITY else min(soft, PROGRAM_BYTES)), hard
+
+
 def _started(words: List[str], folder: Optional[str], stdin: int, mask: Set[int]) -> "subprocess.Popen[bytes]":
+    memory = _memory()
+
     def begin() -> None:
         _libc.prctl(_PR_SET_PDEATHSIG, signal.SIGKILL)
+        resource.setrlimit(resource.RLIMIT_AS, memory)
         signal.pthread_sigmask(signal.SIG_SETMASK, mask)
 
     return subprocess.Popen(
         words,
         stdin=stdin,
         stdout=subprocess.PIPE,
-        stderr=subprocess.DEVNULL,
+        stderr=subprocess.PIPE,
         bufsize=0,
         cwd=folder,
         env={**os.environ, "LC_ALL": "C"},
@@ -143,7 +159,7 @@ def end(started: "subprocess.Popen[bytes]") -> None:
     except (ProcessLookupError, PermissionError):
         pass
     started.wait()
-    for stream in (started.stdin, started.stdout):
+    for stream in (started.stdin, started.stdout, started.stderr):
         if stream is not None:
             try:
                 stream.close()
@@ -167,17 +183,25 @@ def write(started: "subprocess.Popen[bytes]", octets: bytes, seconds: float) -> 
 
 def read_until(started: "subprocess.Popen[bytes]", complete: Callable[[bytearray], bool], seconds: float) -> bytes:
     """A program's output until it is complete or ends. Raises `Failed` at the limits."""
-    assert started.stdout is not None
+    assert started.stdout is not None and started.stderr is not None
+    name = _name(started.args)  # type: ignore[arg-type]
+    streams = [started.stdout, started.stderr]
     ends = time.monotonic() + seconds
-    output = bytearray()
-    while not complete(output):
+    output, words = bytearray(), b""
+    while streams and not complete(output):
         left = ends - time.monotonic()
-        if left <= 0 or not select.select([started.stdout], [], [], left)[0]:
-            raise TooSlow(f"{_name(started.args)} took longer than {seconds:g} seconds")  # type: ignore[arg-type]
-        piece = os.read(started.stdout.fileno(), _PIECE)
+        ready = select.select(streams, [], [], left)[0] if left > 0 else []
+        if not ready:
+            raise TooSlow(f"{name} took longer than {seconds:g} seconds")
+        piece = os.read(ready[-1].fileno(), _PIECE)
         if not piece:
-            break
-        output += piece
+            streams.remove(ready[-1])
+        elif ready[-1] is started.stderr:
+            words = (words + piece)[-_WORDS:]
+        else:
+            output += piece
         if len(output) > OUTPUT:
-            raise Failed(f"{_name(started.args)} wrote more than {OUTPUT:,} bytes about one file")  # type: ignore[arg-type]
+            raise Failed(f"{name} wrote more than {OUTPUT:,} bytes about one file")
+    if _NO_MEMORY.search(words) and not complete(output):
+        raise Failed(f"{name} needed more than {_memory()[0] >> 20:,} MB of memory")
     return bytes(output)

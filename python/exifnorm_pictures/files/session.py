@@ -37,6 +37,7 @@ class Session:
         self._room, self._rooms = room, contextlib.ExitStack()
         self._folder: Optional[str] = None
         self._asked, self._taken = b"", 0.0  # the file that programs were last asked about, and the seconds that they took for it
+        self._ends: Optional[float] = None  # when the time of all calls is over
 
     @contextlib.contextmanager
     def clock(self, file: bytes) -> Iterator[float]:
@@ -45,9 +46,22 @@ class Session:
             self._asked, self._taken = file, 0.0
         began = time.monotonic()
         try:
-            yield max(self.seconds - self._taken, _LEAST)
+            yield max(min(self.seconds - self._taken, self.left()), _LEAST)
         finally:
             self._taken += time.monotonic() - began
+
+    @contextlib.contextmanager
+    def one_clock(self) -> Iterator[None]:
+        """All calls inside have the time of one, whatever files they are about, and so has what is done between them."""
+        self._ends = time.monotonic() + self.seconds
+        try:
+            yield
+        finally:
+            self._ends = None
+
+    def left(self) -> float:
+        """The seconds that a call of a program may take."""
+        return self.seconds if self._ends is None else max(self._ends - time.monotonic(), _LEAST)
 
     @property
     def room(self) -> str:

@@ -13,6 +13,7 @@ import time
 from typing import Dict
 
 PROGRAM_SECONDS = 60.0  # of a clock, that a program may take for one file
+PROGRAM_BYTES = 1 << 30  # of the addresses of its process; need 0.1 GB
 SECONDS = 5.0  # of a processor, looked at between two steps, of which the longest, parsing a packet, takes as much; need 0.09
 
 # The limits of a picture, by the words that a message has.

@@ -225,7 +225,7 @@ _FREE = ("PageName", "DocumentName", "HostComputer")
 
 def _free_field(session: Session, name: str) -> Optional[str]:
     """A field of the main directory that the picture doesn't have, so that adding and taking it away changes none."""
-    output = programs.run(programs.exiftool("-q", "-q", "-m", "-s", *(f"-IFD0:{it}" for it in _FREE), name), session.seconds).stdout
+    output = programs.run(programs.exiftool("-q", "-q", "-m", "-s", *(f"-IFD0:{it}" for it in _FREE), name), session.left()).stdout
     there = {line.split(b":")[0].strip().decode("ascii", "replace") for line in output.split(b"\n")}
     return next((it for it in _FREE if it not in there), None)
 
@@ -236,13 +236,13 @@ def _touch(session: Session, name: str) -> bool:
     if free is None:
         return False
     adding, taking = [f"-IFD0:{free}=zz"], [f"-IFD0:{free}="]
-    if programs.run(programs.exiftool("-q", "-q", "-m", "-b", "-IPTC", name), session.seconds).stdout:
+    if programs.run(programs.exiftool("-q", "-q", "-m", "-b", "-IPTC", name), session.left()).stdout:
         adding.append("-IPTC:SubjectReference+=exifnorm:01000000:mend")
         taking.append("-IPTC:SubjectReference-=exifnorm:01000000:mend")
     call = programs.exiftool("-q", "-q", "-m", "-overwrite_original")
     return (
-        programs.run([*call, *adding, name], session.seconds).returncode == 0
-        and programs.run([*call, *taking, name], session.seconds).returncode == 0
+        programs.run([*call, *adding, name], session.left()).returncode == 0
+        and programs.run([*call, *taking, name], session.left()).returncode == 0
     )
 
 
@@ -251,13 +251,13 @@ def _by_exiv2(session: Session, name: str) -> bool:
     if free is None or not programs.is_there("exiv2"):
         return False
     call = [programs.needed("exiv2"), "-q", "-Q", "m"]
-    added = programs.run([*call, "-M", f"set Exif.Image.{free} Ascii zz", name], session.seconds)
-    return added.returncode == 0 and programs.run([*call, "-M", f"del Exif.Image.{free}", name], session.seconds).returncode == 0
+    added = programs.run([*call, "-M", f"set Exif.Image.{free} Ascii zz", name], session.left())
+    return added.returncode == 0 and programs.run([*call, "-M", f"del Exif.Image.{free}", name], session.left()).returncode == 0
 
 
 def _rebuild(session: Session, name: str) -> bool:
     words = ["-q", "-q", "-m", "-overwrite_original", "-all=", "-tagsfromfile", "@", "-all:all", "-unsafe", name]
-    return programs.run(programs.exiftool(*words), session.seconds).returncode == 0
+    return programs.run(programs.exiftool(*words), session.left()).returncode == 0
 
 
 _REMEDIES: Dict[Remedy, Callable[[Session, str], bool]] = {
@@ -273,7 +273,7 @@ _OFFSETS = re.compile(rb"Offset|Start |Padding|IPTCDigest")
 def _printed(session: Session, name: str) -> "Counter[str]":
     """All values that ExifTool prints, except offsets: as it prints them, and behind that exactly, since it rounds numbers for people."""
     words = ["-q", "-q", "-m", "-a", "-u", "-s", "-G1", "-x", "System:all", "-x", "File:all", "-x", "Composite:all"]
-    output = programs.run(programs.exiftool(*words, "-x", "ExifTool:all", "-x", "JFIF:all", "-all", "-all#", name), session.seconds).stdout
+    output = programs.run(programs.exiftool(*words, "-x", "ExifTool:all", "-x", "JFIF:all", "-all", "-all#", name), session.left()).stdout
     lines = [re.sub(rb"\s+", b" ", it) for it in output.split(b"\n") if it]
     both = (re.sub(rb", use -b.*?(?=\)|$)", b"", it) for it in _with_numbers(lines) if not _OFFSETS.search(it))
     return Counter(it.decode("utf-8", "backslashreplace") for it in both)
