@@ -10,6 +10,7 @@ import subprocess
 import sys
 
 import pytest
+from bag_reader import faults_of_bag
 from made_files import A, B, app1, jpeg, title
 from made_more_files import gif
 from studio import SMALL_JPEG, Studio, needs, put, tool
@@ -204,23 +205,42 @@ def test_evidence_for_hashdeep(archive, called):
     assert (status, printed) == (4, "") and "line ends" in messages and not os.path.exists("f")
 
 
+# Names with the characters that a manifest has in a code of their own, with such codes, and with what a line of a manifest begins with
+IN_BAGS = (
+    "line\nend\r.jpg",
+    "end\r\n",
+    "100%.jpg",
+    "100%0A.jpg",
+    "%25%0d",
+    " before",
+    "after ",
+    "*star",
+    "tab\tin",
+    "a\\b",
+    "ä",
+    "a\u0308",
+)
+
+
 def test_evidence_as_a_manifest_of_a_bag(archive, called):
-    """As RFC 8493 has it: names below data/ with slashes, in which line ends and % alone are encoded. verify --bag reads it, too."""
-    os.mkdir("bag")
-    archive.rename("bag/data")
-    put(archive.parent / "bag/data", {name: PICTURE + name.encode() for name in [*NAMES, "line\nend\r.jpg"]})
+    """As RFC 8493 has it, by a reader that shares nothing with it. verify --bag reads it, too."""
+    bag = archive.parent / "bag"
+    bag.mkdir()
+    archive.rename(bag / "data")
+    put(bag / "data", {name: PICTURE + name.encode() for name in [*NAMES, *IN_BAGS, *(f"sub/{name}" for name in IN_BAGS)]})
     called("index", "bag/data", "--catalogue", "d", "--pixels", "--quiet")
-    assert called("verify", "--catalogue", "d", "--evidence", "bag/manifest-sha256.txt", "--form", "bagit")[0] == 0
-    found = {}
-    for line in (archive.parent / "bag/manifest-sha256.txt").read_bytes().removesuffix(b"\n").split(b"\n"):
-        digest, _, name = line.partition(b"  ")
-        found[os.path.join(b"bag", name.replace(b"%0A", b"\n").replace(b"%0D", b"\r").replace(b"%25", b"%"))] = digest.decode()
-    files = [os.path.join(top, name) for top, _, names in os.walk(b"bag/data") for name in names]
-    assert found == {name: hashlib.sha256(open(name, "rb").read()).hexdigest() for name in files}
+    assert called("verify", "d", "--evidence", "bag/manifest-sha256.txt", "--form", "bagit")[0] == 0
+    (bag / "bagit.txt").write_bytes(b"BagIt-Version: 1.0\nTag-File-Character-Encoding: UTF-8\n")
+    assert faults_of_bag(bag) == []
     assert called("verify", "--bag", "bag")[0] == 0
-    (archive.parent / "bag/data/sub/a.jpg").write_bytes(b"x")
-    assert called("verify", "--bag", "bag")[0] == 1
-    status, printed, messages = called("verify", "--catalogue", "d", "--evidence", "e", "--form", "bagit")
+    for name, octets in (("100%0A.jpg", b"x"), ("new", b"")):
+        (bag / "data" / name).write_bytes(octets)
+        assert [name in it for it in faults_of_bag(bag)] == [True] and called("verify", "--bag", "bag")[0] == 1
+        called("index", "bag/data", "--catalogue", "d", "--quiet")
+        (bag / "manifest-sha256.txt").unlink()
+        assert called("verify", "d", "--evidence", "bag/manifest-sha256.txt", "--form", "bagit")[0] == 0
+        assert faults_of_bag(bag) == []
+    status, printed, messages = called("verify", "d", "--evidence", "e", "--form", "bagit")
     assert (status, printed) == (4, "") and "beside the manifest" in messages and not os.path.exists("e")
 
 
@@ -394,6 +414,18 @@ def bagged(folder, files):
 
 
 BAG = {b"a.jpg": PICTURE, b"sub/100%\n.jpg": CAPTIONED, b"\xff.txt": b"text", b"sub/ b .jpg": OTHER}
+
+
+@pytest.mark.parametrize("end", [b"\n", b"\r\n", b"\r"], ids=["LF", "CRLF", "CR"])
+def test_line_ends_of_a_manifest(end, folder, called):
+    """RFC 8493 has three."""
+    bagged(folder / "bag", BAG)
+    manifest = folder / "bag/manifest-sha256.txt"
+    manifest.write_bytes(manifest.read_bytes().replace(b"\n", end))
+    (folder / "bag/bagit.txt").write_bytes(b"BagIt-Version: 1.0" + end + b"Tag-File-Character-Encoding: UTF-8" + end)
+    assert called("verify", "--bag", "bag")[0] == 0
+    (folder / "bag/data/a.jpg").unlink()
+    assert called("verify", "--bag", "bag")[0] == 1
 
 
 def test_a_bag(folder, called):

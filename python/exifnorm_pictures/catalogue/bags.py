@@ -2,6 +2,7 @@
 
 from __future__ import annotations
 
+import io
 import itertools
 import os
 import re
@@ -41,12 +42,13 @@ def _files(top: bytes, manifest: str) -> Iterator[PictureRecord]:
     if not os.path.lexists(manifest):
         raise NoBag(f"{manifest} isn't there: a bag is verified by its manifest of SHA-256")
     root = os.path.join(top, PAYLOAD.rstrip(b"/"))
-    with opening.reading(os.fsencode(manifest)) as file:
+    # a line ends with LF, CR or both; each character stands for a byte
+    with opening.reading(os.fsencode(manifest)) as octets, io.TextIOWrapper(octets, encoding="latin-1") as file:
         for number in range(1, _LONGEST):
             line = file.readline(_LONGEST_LINE)
             if not line:
                 return
-            match = _LINE.fullmatch(line.rstrip(b"\r\n"))
+            match = _LINE.fullmatch(line.rstrip("\n").encode("latin-1"))
             name = _ENCODED.sub(lambda code: bytes.fromhex(code[1].decode()), match[2]) if match else b""
             path = os.path.normpath(os.path.join(top, name))
             if not match or not name.startswith(PAYLOAD) or not path.startswith(root + b"/"):
