@@ -69,6 +69,13 @@ def test_each_format_has_one(name: str, mode: str, tmp_path: Path, shrinker: thu
         assert is_red(picture.getpixel((picture.width // 2, 5))) and not is_red(picture.getpixel((picture.width // 2, picture.height - 5)))
 
 
+def test_of_a_file_that_is_cut_off_there_is_what_is_left(tmp_path: Path, shrinker: thumbnails.Shrinker) -> None:
+    path = saved(half_red((1600, 1600)), tmp_path / "a.jpg")
+    (tmp_path / "a.jpg").write_bytes((tmp_path / "a.jpg").read_bytes()[: os.path.getsize(path) * 6 // 10])
+    picture = shown(small([path], shrinker), path)
+    assert is_red(picture.getpixel((100, 20))) and not is_red(picture.getpixel((100, 280)))
+
+
 def test_noise_is_small_too(tmp_path: Path, shrinker: thumbnails.Shrinker) -> None:
     path = saved(Image.frombytes("RGB", (900, 600), os.urandom(900 * 600 * 3)), tmp_path / "noise.png")
     shown(small([path], shrinker), path)
@@ -220,7 +227,7 @@ def test_one_page_decodes_each_picture_once(folder: Path, called: Called, made: 
     """Though it is in several lists, and though another one can't be decoded."""
     for number in range(3):
         captioned(half_red(), folder / "p" / f"{number}.jpg", "the same")
-    (folder / "p" / "cut.jpg").write_bytes((folder / "p" / "0.jpg").read_bytes()[:-900])
+    (folder / "p" / "cut.jpg").write_bytes(SMALL_JPEG[:30])
     called("index", "p", "--catalogue", "c", "--quiet")
     called("report", "c", "--html", "page.html")
     assert sorted(made) == ["0.jpg", "cut.jpg"]

@@ -87,8 +87,9 @@ def _limit_time() -> None:
 
 
 def main() -> None:
-    from PIL import Image
+    from PIL import Image, ImageFile
 
+    ImageFile.LOAD_TRUNCATED_IMAGES = True  # of a file that is cut off what is left
     Image.init()
     resource.setrlimit(resource.RLIMIT_AS, (MEMORY, MEMORY))
     resource.setrlimit(resource.RLIMIT_CORE, (0, 0))
