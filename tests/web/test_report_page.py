@@ -8,6 +8,7 @@ import os
 import shutil
 import subprocess
 import sys
+from collections import Counter
 from pathlib import Path
 from typing import Any, Dict, Iterator, List, Tuple
 
@@ -309,6 +310,18 @@ def printed(browser: Browser, report: Path) -> List[str]:
     return text.split("\f")[:-1]
 
 
+def depths_of(report: Path) -> List[float]:
+    """How far down each page there is something, as a share of its height, by the grey values that pdftoppm draws."""
+    octets = subprocess.run(["pdftoppm", "-r", "20", "-gray", report / "page.pdf"], stdout=subprocess.PIPE, check=True).stdout
+    depths = []
+    while octets:  # PGM: P5, width, height and 255, and then the points
+        (width, height), rest = map(int, octets.split(None, 3)[1:3]), octets.split(b"\n255\n", 1)[1]
+        rows = [rest[at : at + width] for at in range(0, width * height, width)]
+        depths.append(max(at for at, row in enumerate(rows) if min(row) < 200) / height)
+        octets = rest[width * height :]
+    return depths
+
+
 @pytest.mark.skipif(not shutil.which("pdftotext"), reason="pdftotext (package poppler-utils) is not installed")
 def test_on_paper_each_value_is_there_and_no_page_is_half_empty(browser: Browser, report: Path) -> None:
     pages = printed(opened(browser, report, dark=True), report)
@@ -317,8 +330,30 @@ def test_on_paper_each_value_is_there_and_no_page_is_half_empty(browser: Browser
         for word in (f"new{number * number}", f"1998.{number}", f"Title{number}", f"captions/{number}.jpg"):
             assert word in letters, f"{word} isn't on paper"
     assert "exifnorm-picturesmend" in letters
-    lines = [len([line for line in page.splitlines() if line.strip()]) for page in pages]
-    assert [at for at, count in enumerate(lines[:-1]) if count < 18] == [], f"pages with little on them: {lines}"
+    depths = depths_of(report)
+    assert len(depths) == len(pages) and min(depths[:-1]) > 0.6, f"pages with little on them: {depths}"
+
+
+HEADS = "h2, h3, h4, caption, thead th:first-child"
+
+
+@pytest.mark.skipif(not shutil.which("pdftotext"), reason="pdftotext (package poppler-utils) is not installed")
+@pytest.mark.parametrize("page", ["page.html", "pages/changed-1.html", "pages/broken-1.html"])
+def test_on_paper_no_heading_stands_alone_at_the_foot(page: str, browser: Browser, report: Path) -> None:
+    """On each page something follows its last heading. What stands where differs by a few lines each time, so that no luck is needed."""
+    browser.open(f"file://{report}/{page}")
+    heads = browser.ask(
+        f"[...document.querySelectorAll('{HEADS}')].map((it, at) => (it.prepend(`HEAD${{at}}OF `), it.textContent.replace(/\\s/g, '')))"
+    )
+    alone = []
+    for lines in range(0, 12, 2):
+        browser.ask(f"document.querySelector('main').style.paddingTop = '{lines * 15}px'")
+        for number, text in enumerate(printed(browser, report), 1):
+            letters = "".join(text.split())
+            last = letters.rpartition("HEAD")[2].partition("OF")[0]
+            if last.isdigit() and not Counter(letters[letters.rindex(f"HEAD{last}OF") :]) - Counter(heads[int(last)]):
+                alone.append((lines, number, heads[int(last)]))
+    assert heads and alone == [], "headings without what they head"
 
 
 def test_what_changed_isnt_told_by_colour_alone(browser: Browser, report: Path) -> None:
