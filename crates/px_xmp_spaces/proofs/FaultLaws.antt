@@ -1,5 +1,5 @@
 -- The first fault: octets with one are no row in which each prefix is declared, and have no other.
-use Rattle.std.proofs.Common.{◌≡◌, ◌⊎◌, ℕ, Some, None, List, [], ◌∷◌, ◌++◌, length, drop, Result, Ok, Err, refl, sym, ap, subst, ◌∙◌, inl, inr, arith, length-drop}
+use Rattle.std.proofs.Common.{◌≡◌, ◌⊎◌, ℕ, None, List, [], ◌∷◌, ◌++◌, length, drop, Result, Ok, Err, refl, sym, ap, subst, ◌∙◌, inl, inr, arith, length-drop}
 use Rattle.std.proofs.lemmas.List.{drop_at}
 use Rattle.px_xmp_marks.specs.Laws.{StartTagsAreRead}
 use Rattle.px_xmp_marks.specs.Marks.{mark_len, text_len, MarksAreRead}

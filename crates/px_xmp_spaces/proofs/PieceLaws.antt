@@ -1,14 +1,13 @@
 -- A mark is one piece.
-use Rattle.std.proofs.Common.{◌≡◌, ℕ, Bool, true, false, Option, Some, None, option_map, Result, Ok, Err, List, [], ◌∷◌, ◌++◌, length, take, drop, refl, sym, ap, subst, ◌∙◌, inl, inr}
+use Rattle.std.proofs.Common.{◌≡◌, ℕ, Bool, true, false, Option, Some, None, option_map, Ok, List, [], ◌∷◌, ◌++◌, length, take, drop, refl, sym, ap, subst, ◌∙◌, inl, inr}
 use Rattle.std.proofs.lemmas.List.{drop_at, take_at}
 use Rattle.px_xmp_marks.specs.Reading.{Named, Attr, ncname, name, attributes_of, Start, start_tag, End, end_tag}
 use Rattle.px_xmp_marks.specs.Grammar.{IsStartTag, IsEndTag}
 use Rattle.px_xmp_marks.specs.Laws.{StartTagsAreRead, OnlyStartTagsAreRead, EndTagsAreRead, OnlyEndTagsAreRead}
 use Rattle.px_xmp_marks.specs.Marks.{mark_len, IsMark, MarksAreRead, OnlyMarksAreRead}
-use Rattle.px_xmp_spaces.specs.Pieces.{Piece, Opening, Alone, Closing, Other, IsTag, IsPiece}
-use Rattle.px_xmp_spaces.specs.Scopes.{Item, ended}
+use Rattle.px_xmp_spaces.specs.Pieces.{Piece, Opening, Alone, Closing, Other, IsPiece}
+use Rattle.px_xmp_spaces.specs.Scopes.{Item}
 use Rattle.px_xmp_spaces.specs.Tags.{passed}
-use Rattle.px_xmp_spaces.specs.declared.faults.Cause.{Cause}
 use Rattle.px_xmp_spaces.specs.calls.Passing.{AreListed, start_piece, passed_other, Gives}
 
 pub some_same : {A : Type 0} (p q : A) → Some p ≡ Some q → p ≡ q

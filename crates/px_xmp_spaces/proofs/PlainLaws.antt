@@ -1,7 +1,7 @@
 -- The name of a namespace is compared by its octets, since they mean themselves.
-use Rattle.std.proofs.Common.{◌≡◌, ◌==◌, ◌&&◌, ◌||◌, ◌++◌, ℕ, Bool, true, false, cond, Option, Some, option_map, option_and_then, List, [], ◌∷◌, length, drop, refl, sym, ap, ◌∙◌, inl, inr}
+use Rattle.std.proofs.Common.{◌≡◌, ◌==◌, ◌&&◌, ◌||◌, ◌++◌, ℕ, Bool, true, false, Option, Some, option_map, option_and_then, List, [], ◌∷◌, length, drop, refl, sym, ap, ◌∙◌, inl, inr}
 use Rattle.std.proofs.lemmas.Bool.{cases_Bool, cond-false, eqb-true, and_parts}
-use Rattle.px_xmp_text.specs.Texts.{piece, text_in, text_of}
+use Rattle.px_xmp_text.specs.Texts.{piece, text_in}
 use Rattle.px_xmp_text.specs.declared.pieces.TextKind.TheVariants.{AttributeValue}
 use Rattle.px_xmp_marks.specs.Declarations.{every}
 use Rattle.px_xmp_spaces.specs.Bindings.{is_plain}

@@ -1,7 +1,7 @@
 -- What is in scope: how it is stored, and how attributes change it.
-use Rattle.std.proofs.Common.{◌≡◌, ◌≤◌, ◌<◌, ◌+◌, ◌-◌, ℕ, Bool, Option, Some, None, option_map, MatchOption, List, [], ◌∷◌, ◌++◌, length, take, set, get_or, map, reverse, Result, Ok, Err, refl, sym, ap, subst, ◌∙◌, arith}
+use Rattle.std.proofs.Common.{◌≡◌, ◌≤◌, ◌<◌, ◌+◌, ◌-◌, ℕ, Bool, Option, Some, None, MatchOption, List, [], ◌∷◌, ◌++◌, length, take, set, get_or, map, reverse, Result, Ok, Err, sym, ap, subst, ◌∙◌, arith}
 use Rattle.std.proofs.lemmas.List.{take_more, take_more_set, map-append, reverse-append, length-reverse, length-map, length-take-le}
-use Rattle.px_xmp_marks.specs.Reading.{Attr, attributes_of, Next, next_attribute}
+use Rattle.px_xmp_marks.specs.Reading.{Attr, Next, next_attribute}
 use Rattle.px_xmp_marks.specs.Laws.{AttributesInOrder}
 use Rattle.px_xmp_spaces.specs.declared.faults.Cause.{Cause}
 use Rattle.px_xmp_spaces.specs.declared.scopes.Entry.{Entry}

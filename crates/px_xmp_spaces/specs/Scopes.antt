@@ -1,5 +1,5 @@
 -- What is in scope, and what prefixes are bound to. Namespaces in XML 1.0, 3 and 6.1.
-use Rattle.std.specs.Prelude.{◌≡◌, ℕ, Bool, nat_eq, if◌then◌else◌, codes, Option, Some, None, List, [], ◌∷◌}
+use Rattle.std.specs.Prelude.{ℕ, Bool, nat_eq, if◌then◌else◌, codes, Option, Some, None, List, [], ◌∷◌}
 use Rattle.std.specs.Cmp.Lexicographic.{pointwise}
 
 -- what is in scope: an open element, or the declaration of a prefix, which is empty for the default namespace. In a list

@@ -13,6 +13,10 @@ pub enum Cause {
     TooMany,
     /// A tag that begins here has a name whose prefix is not declared, or an element's name the prefix `xmlns`.
     Undeclared,
+    /// A tag that begins here has more than 256 attributes.
+    ManyAttributes,
+    /// A tag that begins here has two attributes with one local name, whose prefixes are bound to one namespace.
+    SameName,
 }
 
 /// What is wrong, and where.

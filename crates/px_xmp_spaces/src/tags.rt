@@ -1,14 +1,18 @@
 // The tags that declare prefixes, and have names with prefixes.
-ghost use Rattle.std.specs.Prelude.{◌≡◌, List, option_map};
+ghost use Rattle.std.specs.Prelude.{◌≡◌, nat_lt, List, length, option_map};
 ghost use Rattle.px_xmp_marks.specs.Reading.{Attr, name_view, attribute_view};
 ghost use Rattle.px_xmp_marks.specs.Declarations.{every};
 ghost use Rattle.px_xmp_spaces.specs.Bindings.{is_plain, is_reserved, declared_prefix, with_declaration, with_attribute, with_attributes};
 ghost use Rattle.px_xmp_spaces.specs.Tags.{is_attribute_bound, are_bound, is_element_bound, opened};
+ghost use Rattle.px_xmp_spaces.specs.Tags.{attribute_limit, attribute_space, are_same_spaces, clash, is_among, are_unique, judged};
 ghost use Rattle.px_xmp_spaces.specs.calls.Passing.{Gives, AreListed};
 
 use crate::faults::Cause;
 use crate::scopes::{Entry, Scope, XML, XML_SPACE, XMLNS, XMLNS_SPACE};
 use px_xmp_marks::{Attribute, Name, StartTag, next_attribute};
+
+// No element has more attributes.
+const ATTRIBUTE_LIMIT: usize = 256;
 
 // Whether a namespace's name can contain an octet, that it is compared by this reader.
 fn is_plain(octet: u8) -> bool
@@ -53,6 +57,36 @@ fn declared_prefix<'a>(name: Name<'a>) -> Option<&'a [u8]>
         return Some(name.prefix);
     }
     None
+}
+
+// Whether two namespaces are there and the same.
+fn are_same_spaces(a: Option<&[u8]>, b: Option<&[u8]>) -> bool
+    ensures { result ≡ are_same_spaces (option_map (λ u. u.now) a.entry) (option_map (λ u. u.now) b.entry) }
+{
+    match a {
+        Some(a) => match b {
+            Some(b) => a == b,
+            None => false,
+        },
+        None => false,
+    }
+}
+
+// Whether there are more attributes at the start than this reader judges.
+fn has_many(octets: &[u8]) -> bool
+    ensures { (attributes : List Attr) → AreListed octets.now attributes → result ≡ nat_lt attribute_limit (length attributes) }
+{
+    px_xmp_marks::laws::attributes_in_order();
+    let mut count = 0;
+    let mut rest = octets;
+    while let Some(next) = next_attribute(rest) {
+        if count == ATTRIBUTE_LIMIT {
+            return true;
+        }
+        count += 1;
+        rest = next.rest;
+    }
+    false
 }
 
 impl<'a> Scope<'a> {
@@ -127,6 +161,73 @@ impl<'a> Scope<'a> {
         true
     }
 
+    // The namespace of an attribute.
+    fn attribute_space(&self, name: Name) -> Option<&'a [u8]>
+        ensures { option_map (λ u. u.now) result ≡ attribute_space self.now (name_view name.entry) }
+    {
+        if name.prefix.is_empty() {
+            return None;
+        }
+        self.space_of(name.prefix)
+    }
+
+    // Whether two attributes have one local name in one namespace.
+    fn clash(&self, a: Name, b: Name) -> bool
+        ensures { result ≡ clash self.now (name_view a.entry) (name_view b.entry) }
+    {
+        a.local == b.local && are_same_spaces(self.attribute_space(a), self.attribute_space(b))
+    }
+
+    // Whether an attribute has so with one of those at the start.
+    fn is_among(&self, octets: &[u8], name: Name) -> bool
+        ensures { (attributes : List Attr) → AreListed octets.now attributes → result ≡ is_among self.now (name_view name.entry) attributes }
+    {
+        px_xmp_marks::laws::attributes_in_order();
+        let mut rest = octets;
+        while let Some(next) = next_attribute(rest) {
+            if self.clash(name, next.attribute.name) {
+                return true;
+            }
+            rest = next.rest;
+        }
+        false
+    }
+
+    // Whether no two of the attributes at the start have one local name in one namespace.
+    fn are_unique(&self, octets: &[u8]) -> bool
+        ensures { (attributes : List Attr) → AreListed octets.now attributes → result ≡ are_unique self.now attributes }
+    {
+        px_xmp_marks::laws::attributes_in_order();
+        let mut rest = octets;
+        while let Some(next) = next_attribute(rest) {
+            if self.is_among(next.rest, next.attribute.name) {
+                return false;
+            }
+            rest = next.rest;
+        }
+        true
+    }
+
+    // What is wrong with the names of a tag.
+    fn judge(&self, tag: StartTag) -> Option<Cause>
+        ensures { (attributes : List Attr) → AreListed tag.entry.rest.now attributes
+            → Gives result self.now (judged (name_view tag.entry.name) attributes self.now) }
+    {
+        if !self.is_element_bound(tag.name) {
+            return Some(Cause::Undeclared);
+        }
+        if !self.are_bound(tag.rest) {
+            return Some(Cause::Undeclared);
+        }
+        if has_many(tag.rest) {
+            return Some(Cause::ManyAttributes);
+        }
+        if !self.are_unique(tag.rest) {
+            return Some(Cause::SameName);
+        }
+        None
+    }
+
     // Begins an element.
     pub(crate) fn open(&mut self, tag: StartTag<'a>) -> Option<Cause>
         ensures { (attributes : List Attr) → AreListed tag.entry.rest.now attributes
@@ -139,12 +240,6 @@ impl<'a> Scope<'a> {
         if let Some(cause) = self.declare_all(tag.rest) {
             return Some(cause);
         }
-        if !self.is_element_bound(tag.name) {
-            return Some(Cause::Undeclared);
-        }
-        if !self.are_bound(tag.rest) {
-            return Some(Cause::Undeclared);
-        }
-        None
+        self.judge(tag)
     }
 }
