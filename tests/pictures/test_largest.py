@@ -5,15 +5,18 @@ time. Each format has each filling once, and each command has each filling once.
 """
 
 import itertools
+import json
 import re
+import sqlite3
 
 import pytest
 from growing import FORMATS
 from made_blocks import SHORT
-from made_files import iim, page, resource, tiff
+from made_files import iim, page, resource, tiff, xmp
 from made_more_files import psd
 from largest import FILLINGS, SIZES, made, of_name
 from test_attacks import NO_CLOCK, run_each
+from test_captions import data_set
 
 from exifnorm_pictures.cli.parser import parsers
 from exifnorm_pictures.model import budgets
@@ -124,3 +127,43 @@ def test_over_the_limits(name, start, tmp_path):
     ):
         assert ended.status in (0, 2) and re.search("TooMuch|over a limit", ended.out), (ended.words, ended.out[-500:], ended.err)
         assert (ended.memory - start[ended.words[0]]) * SCALE <= MEMORY, (ended.words, ended.memory - start[ended.words[0]])
+
+
+def test_texts_behind_the_fields_that_are_read(folder, called):
+    """Of a block the first 100,000 fields are read. What has texts says so, where a further one may be among them, and its status is 2."""
+    (folder / "p").mkdir()
+    record = iim(b"word") * 100_000 + data_set(120, b"the caption")
+    (folder / "p" / "a.tif").write_bytes(
+        tiff(page((0x83BB, 7, record), (0x02BC, 1, xmp("<dc:description>another caption</dc:description>"))))
+    )
+    assert called("index", "p", "--catalogue", "c", "--quiet")[0] == 0
+    where = "the fields of IPTC after the first 100,000"
+    for given in ("p", "c"):
+        status, text, _ = called("captions", given)
+        assert (
+            (status, text.count(where)) == (2, 1) and "another caption" in text and "the caption" not in text.replace("another", "")
+        ), text[-300:]
+        status, text, _ = called("captions", given, "--json")
+        assert (status, json.loads(text)["not_read"]) == (2, [where])
+        status, text, _ = called("captions", given, "--csv")
+        assert status == 2 and text.count(where) == 1
+        for more in ((), ("--json",), ("--csv",)):
+            status, text, _ = called("conflicts", given, *more)
+            assert (status, text.count(where)) == (2, 1), (given, more, text[-300:])
+    assert called("list", "c", "--without", "title")[0] == 2
+    called("export", "c", "tables", "--quiet")
+    with sqlite3.connect(folder / "tables") as base:
+        assert base.execute("SELECT count(*) FROM captions WHERE label = 'caption' AND text IS NULL").fetchone() == (1,)
+        assert not base.execute("SELECT * FROM conflicts").fetchall()
+
+
+def test_texts_that_are_too_many_for_a_catalogue(folder, called):
+    """It has none of the fields of a block that are more than 4 MB, so it knows no text of it, and none that isn't there."""
+    (folder / "a.tif").write_bytes(tiff(page((0x83BB, 7, iim(b"x" * 50) * 90_000))))
+    assert called("index", "a.tif", "--catalogue", "c", "--quiet")[0] == 0
+    where = "the fields of IPTC, which are too many for the catalogue"
+    for command in ("captions", "conflicts"):
+        status, text, _ = called(command, "c")
+        assert (status, text.count(where)) == (2, 1) and "no title" not in text, text
+        status, text, _ = called(command, "a.tif")
+        assert status == 0 and where not in text, text[-300:]

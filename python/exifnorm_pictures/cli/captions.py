@@ -12,9 +12,8 @@ from ..judge.reading import Reading
 from ..model.found import damage
 from ..model.texts import Members, escaped, shown_path
 from .columns import width
-from .each_block import status_of_reading
-from .exit_codes import SUCCESS
-from .labelled import is_of_many, members, not_read, origins, pictures, refused, together
+from .exit_codes import SUCCESS, UNKNOWN
+from .labelled import is_of_many, is_open, members, not_read, origins, pictures, refused, together
 from .names import is_list
 from .not_read import OF_DAMAGED, no_block, picture_cut, unread
 from .objects import print_object
@@ -34,7 +33,7 @@ def run(arguments: argparse.Namespace) -> int:
     has_heads = is_list(arguments, arguments.pictures) or arguments.catalogue is not None
     has_heads = has_heads or any(is_of_many(os.fsencode(name)) for name in arguments.pictures[:1])
     for reading in pictures(arguments):
-        worst = max(worst, status_of_reading(reading))
+        worst = max(worst, UNKNOWN if is_open(reading) else SUCCESS)
         if table:
             table.row(*_row(reading))
         elif arguments.json:
@@ -70,7 +69,7 @@ def _lines(reading: Reading) -> Iterator[str]:
             yield f"{_padded(word)} {escaped(ours[0].line)}   [{origins(ours)}]{note}"
     if not reading.blocks:
         yield no_block(reading)
-    elif not refused(reading) and all(one.is_empty for one in reading.texts):
+    elif not refused(reading) and not reading.rests and all(one.is_empty for one in reading.texts):
         yield "no title, caption, name, keyword or rights" + OF_DAMAGED * bool(damage(reading.not_read))
     if not_read(reading):
         yield f"not wholly read: {', '.join(unread(reading, not_read(reading)))}"

@@ -16,7 +16,7 @@ from ..model.found import STANDARDS, damage
 from ..model.texts import Members, escaped, shown_path
 from .captions import text_members
 from .exit_codes import DIFFERENCE, SUCCESS, UNKNOWN
-from .labelled import members, origins, pictures, refused, together
+from .labelled import is_open, members, origins, pictures, refused, together
 from .objects import print_object
 from .not_read import picture_cut, unread
 from .output import print_line, table_of
@@ -53,7 +53,7 @@ def run(arguments: argparse.Namespace) -> int:
         if table:
             _print_rows(table, reading, [one for one in counted if one.is_real or arguments.all])
         elif arguments.json:
-            if counted or reading.is_damaged or reading.damage or arguments.files_from:  # a program may wait for the answer to its name
+            if counted or is_open(reading) or reading.damage or arguments.files_from:  # a program may wait for the answer to its name
                 print_object("conflicts", "picture", _members(reading, counted))
         else:
             _print(reading, [one for one in counted if one.is_real or arguments.all])
@@ -81,7 +81,7 @@ def _chosen(arguments: argparse.Namespace) -> Set[str]:
 
 def _count(counts: _Counts, reading: Reading, counted: Sequence[Conflict]) -> None:
     counts.pictures += not reading.problem
-    counts.unread += reading.is_damaged
+    counts.unread += is_open(reading)
     counts.twice += bool(conflicts(reading.texts))
     real = [one.label for one in counted if one.is_real]
     counts.real += bool(real)
@@ -96,13 +96,14 @@ def _print_rows(table: Table, reading: Reading, conflicts: Sequence[Conflict]) -
         table.row(reading.name, conflict.label, conflict.kind, conflict.detail, *_texts(conflict))
     if reading.problem:
         table.row(reading.name, None, "not read", f"{reading.problem}: {reading.detail}", *(None for _ in STANDARDS))
-    for what in (*refused(reading), *([_unread(reading)] if damage(reading.not_read) else []), *picture_cut(reading)):
+    for what in (*refused(reading), *_unread(reading), *picture_cut(reading)):
         table.row(reading.name, None, "not read", what, *(None for _ in STANDARDS))
 
 
-def _unread(reading: Reading) -> str:
-    """What is left of a damaged file."""
-    return ", ".join(unread(reading, damage(reading.not_read)))
+def _unread(reading: Reading) -> List[str]:
+    """What is left of a damaged file, and fields that are too many."""
+    left = damage(reading.not_read)
+    return [", ".join([*(unread(reading, left) if left else []), *reading.rests])] if left or reading.rests else []
 
 
 def _texts(conflict: Conflict) -> List[Cell]:
@@ -153,8 +154,8 @@ def _print(reading: Reading, conflicts: Sequence[Conflict]) -> None:
             print_line(f"    {name:<{width}}  {text if len(text) <= LONGEST else f'{text[: LONGEST - 10]}.. ({len(text):,} characters)'}")
     if reading.problem:
         print_line(f"{shown_path(reading.name)}: {reading.problem}: {reading.detail}")
-    if damage(reading.not_read):
-        print_line(f"{shown_path(reading.name)}: not wholly read: {_unread(reading)}")
+    for what in _unread(reading):
+        print_line(f"{shown_path(reading.name)}: not wholly read: {what}")
     for what in picture_cut(reading):
         print_line(f"{shown_path(reading.name)}: {what}")
 
@@ -170,7 +171,7 @@ def _summary(counts: _Counts, every: bool) -> Iterator[str]:
     if counts.left_out:
         yield f"left out though they contradict: {_listed(counts.left_out)}"
     if counts.unread:
-        yield f"{_pictures(counts.unread)} not wholly read: a block is refused or unreadable, or the file is damaged or isn't read (explain)"
+        yield f"{_pictures(counts.unread)} not wholly read: a block is refused, unreadable or has too many fields, or the file is damaged or isn't read (explain)"
 
 
 def _listed(counts: "Counter[str]") -> str:

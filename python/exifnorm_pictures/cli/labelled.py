@@ -68,11 +68,11 @@ def _in_catalogue(name: bytes) -> Iterator[Reading]:
                 blocks = with_fields(catalogue.blocks_of(picture))
             texts = texts_of(blocks)
             parts = catalogue.not_read_of(picture) + [
-                NotRead(f"the {word}, which is too long for the catalogue", "") for word in sorted(texts.missing)
+                NotRead(f"the {word}, which is too long for the catalogue", "") for word in sorted(texts.long)
             ]
             fault = "" if cut(part.what for part in parts) else picture.damage
             read = Blocks(problem=picture.problem, detail=picture.detail, type=picture.type, not_read=parts, damage=fault)
-            yield Reading(picture.path, read, [block for block, _ in blocks], texts.texts)
+            yield Reading(picture.path, read, [block for block, _ in blocks], texts.texts, texts.rests)
 
 
 def _in_folder(arguments: argparse.Namespace, folder: bytes) -> Iterator[Reading]:
@@ -99,13 +99,18 @@ def refused(reading: Reading) -> List[str]:
 
 
 def not_read(reading: Reading) -> List[str]:
-    """The parts that were not read and can have texts: a MakerNote has none."""
-    return [what for what in reading.not_read if REACHED not in what]
+    """The parts and fields that were not read and can have texts: a MakerNote has none."""
+    return [*(what for what in reading.not_read if REACHED not in what), *reading.rests]
+
+
+def is_open(reading: Reading) -> bool:
+    """Whether there may be a text that isn't known, so that the status of a command says so."""
+    return reading.is_damaged or bool(reading.rests)
 
 
 def members(reading: Reading) -> Members:
     """The beginning of a JSON object."""
-    known = {"refused": refused(reading), "not_read": reading.not_read, **damage_members(reading)}
+    known = {"refused": refused(reading), "not_read": [*reading.not_read, *reading.rests], **damage_members(reading)}
     return {**picture_object(reading.name, reading.problem, reading.detail), **known}
 
 

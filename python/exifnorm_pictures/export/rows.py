@@ -14,7 +14,7 @@ from ..comparison.groups import Groups
 from ..comparison.keeping import Keep, keeping
 from ..fields.field import Field
 from ..fields.labels import LabelText, names_camera, word_of
-from ..fields.listing import exact
+from ..fields.listing import exact, is_rest
 from ..fields.packing import divided, field_of, unpacked
 from ..fields.places import is_of_position, position_of
 from ..fields.plain_names import exact_key, group_name
@@ -162,7 +162,7 @@ class FieldRows:
 
 def _row_of(field: Field) -> FieldRow:
     (row,), size = storable([_field_row(field)])
-    is_text = word_of(field) is not None or names_camera(field)
+    is_text = word_of(field) is not None or names_camera(field) or is_rest(field.directory, field.tag)
     return FieldRow(row, size, field if is_text else None, field if is_of_position(field) else None)
 
 

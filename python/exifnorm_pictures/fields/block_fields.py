@@ -2,10 +2,11 @@
 
 from __future__ import annotations
 
-from typing import Callable, Generic, List, Optional, Sequence, Tuple, TypeVar
+from typing import Callable, Generic, Iterable, List, Optional, Sequence, Tuple, TypeVar
 
 from ..model.records import BlockRecord
 from .field import Field
+from .listing import rest_of
 from .packing import unpacked
 
 Source = TypeVar("Source")
@@ -32,6 +33,11 @@ def fields_of(block: BlockRecord) -> List[Field]:
     if isinstance(block.fresh, Fields):
         return block.fresh.all()
     return unpacked(block.fields) if block.fields else []
+
+
+def rests_of(blocks: Iterable[Tuple[BlockRecord, List[Field]]]) -> List[str]:
+    """What is said of blocks that have more fields than are kept: a text may be among these."""
+    return [f"the fields of {block.name}{rest}" for block, fields in blocks for rest in [rest_of(fields)] if rest]
 
 
 def with_fields(blocks: Sequence[BlockRecord]) -> List[Tuple[BlockRecord, List[Field]]]:

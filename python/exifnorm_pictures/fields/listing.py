@@ -4,7 +4,7 @@ from __future__ import annotations
 
 import hashlib
 import re
-from typing import Iterable, Iterator, Optional, Tuple
+from typing import Iterable, Iterator, Optional, Sequence, Tuple
 
 from ..model.texts import escaped
 from ..model import xmp_values
@@ -28,6 +28,13 @@ MAKER_NOTE = ("exif", "927c")
 def is_rest(where: str, key: str) -> bool:
     """Whether a field stands for others, of which there are more than are kept."""
     return not where or (where, key) == ("iptc", "more")
+
+
+def rest_of(fields: Sequence[Field]) -> str:
+    """Which fields of a block aren't among these, because it has more than are kept; empty if all are. The last one stands for them."""
+    if not fields or not is_rest(fields[-1].directory, fields[-1].tag):
+        return ""
+    return f" after the first {len(fields) - 1:,}" if len(fields) > 1 else ", which are too many for the catalogue"
 
 
 def is_comment(field: Field) -> bool:

@@ -6,7 +6,7 @@ from dataclasses import dataclass, field
 from typing import TYPE_CHECKING, List, Optional
 
 from ..extract.extraction import too_much
-from ..fields.block_fields import fields_of
+from ..fields.block_fields import fields_of, rests_of
 from ..model.budgets import TooMuch
 from ..model.found import EXIF, NAMES, STANDARDS, Blocks, FoundBlock, cut, damage, not_known
 from ..model.records import BlockRecord
@@ -25,6 +25,7 @@ class Reading:
     read: Blocks
     blocks: List[BlockRecord]
     _texts: Optional[List[LabelText]] = field(default=None, repr=False, compare=False)
+    _rests: Optional[List[str]] = field(default=None, repr=False, compare=False)
 
     @classmethod
     def of(cls, name: bytes, blocks: Blocks) -> "Reading":
@@ -79,6 +80,13 @@ class Reading:
             camera = next(filter(any, cameras), ("", ""))
             self._texts = with_own(sorted(texts, key=lambda it: STANDARDS.index(it.standard)), *camera)
         return self._texts
+
+    @property
+    def rests(self) -> List[str]:
+        """What is said of blocks that have more fields than are read: a text may be among these."""
+        if self._rests is None:
+            self._rests = rests_of((block, fields_of(block)) for block in self.blocks)
+        return self._rests
 
     @property
     def place(self) -> "Optional[Place]":
