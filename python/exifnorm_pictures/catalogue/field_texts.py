@@ -15,7 +15,7 @@ from ..fields.plain_values import plain
 from ..fields.typed import typed
 from ..model.found import NAMES
 from ..model.records import PictureRecord
-from .kept_texts import AT_ONCE, Report, say_nothing
+from .kept_texts import AT_ONCE, Report, say_nothing, show_as_texts
 from .label_texts import kept_text
 from .store import Catalogue, put_text, texts_table
 
@@ -27,23 +27,22 @@ def add_fields(catalogue: Catalogue, words: Sequence[str], report: Report = say_
     the fields of no picture are read."""
     base = catalogue.base
     with catalogue.guarded():
-        has_view = base.execute("SELECT 1 FROM sqlite_temp_master WHERE type = 'view' AND name = 'texts'").fetchone()
+        has_others = base.execute("SELECT 1 FROM sqlite_temp_master WHERE name = 'other_texts'").fetchone()
         for statement in ("DROP VIEW IF EXISTS temp.texts", f"DROP TABLE IF EXISTS {_FIELDS}", texts_table(_FIELDS)):
             base.execute(statement)
-        tables = ["main.texts", *["temp.other_texts"] * bool(has_view), _FIELDS]
         base.execute("CREATE INDEX temp.field_short_texts ON field_texts (label, head, text) WHERE long = 0")
-        base.execute(f"CREATE TEMP VIEW texts AS {' UNION ALL '.join(f'SELECT * FROM {table}' for table in tables)}")
+        show_as_texts(catalogue, [*catalogue.texts, *["temp.other_texts"] * bool(has_others), _FIELDS])
     if DAMAGE in words:
         with catalogue.guarded():
-            damaged = catalogue.rows("SELECT id, damage FROM main.pictures WHERE damage != ''")
+            damaged = catalogue.rows("SELECT id, damage FROM pictures WHERE damage != ''")
             base.executemany(put_text(_FIELDS), ((number, 0, *kept_text(DAMAGE, text)) for number, text in damaged))
     choices = [(word, Choice(only=[word])) for word in words if word != DAMAGE]
     if not choices:
         return
-    due = int(next(catalogue.rows("SELECT count(*) FROM main.pictures"))[0])
+    due = int(next(catalogue.rows("SELECT count(*) FROM pictures"))[0])
     done, last = 0, 0
     while done < due:
-        numbers = [row[0] for row in catalogue.rows("SELECT id FROM main.pictures WHERE id > ? ORDER BY id LIMIT ?", (last, AT_ONCE))]
+        numbers = [row[0] for row in catalogue.rows("SELECT id FROM pictures WHERE id > ? ORDER BY id LIMIT ?", (last, AT_ONCE))]
         with catalogue.guarded():
             rows = (row for number in numbers for row in _rows(catalogue, number, choices))
             base.executemany(put_text(_FIELDS), rows)

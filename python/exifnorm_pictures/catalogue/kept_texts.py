@@ -8,7 +8,7 @@ from __future__ import annotations
 
 import os
 from contextlib import suppress
-from typing import Callable, Iterator, List, Tuple
+from typing import Callable, Iterator, List, Sequence, Tuple
 
 from ..fields.block_fields import with_fields
 from ..model.records import PictureRecord
@@ -36,7 +36,7 @@ def keep(name: str, report: Report = say_nothing) -> None:
         done = 0
         while True:
             with catalogue.transaction():
-                numbers = _add(catalogue, "main.texts", catalogue.prepared())  # another run may have added some meanwhile
+                numbers = _add(catalogue, "main.texts", 0)  # another run may have added some meanwhile
                 if numbers:
                     catalogue.set_prepared(numbers[-1])
             if not numbers:
@@ -47,7 +47,7 @@ def keep(name: str, report: Report = say_nothing) -> None:
 
 def lacking(catalogue: Catalogue) -> int:
     """How many pictures have no texts yet."""
-    return int(next(catalogue.rows("SELECT count(*) FROM main.pictures WHERE id > ?", (catalogue.prepared(),)))[0])
+    return int(next(catalogue.rows(f"SELECT count(*) FROM ({catalogue.without_texts()})"))[0])
 
 
 def make_ready(catalogue: Catalogue, report: Report = say_nothing) -> None:
@@ -56,21 +56,26 @@ def make_ready(catalogue: Catalogue, report: Report = say_nothing) -> None:
     with catalogue.guarded():
         for statement in ("DROP VIEW IF EXISTS temp.texts", f"DROP TABLE IF EXISTS {_OTHERS}"):
             catalogue.base.execute(statement)
-        if not due:
-            return
-        catalogue.base.execute(texts_table(_OTHERS))
-        catalogue.base.execute("CREATE INDEX temp.other_short_texts ON other_texts (label, head, text) WHERE long = 0")
-        catalogue.base.execute(f"CREATE TEMP VIEW texts AS SELECT * FROM main.texts UNION ALL SELECT * FROM {_OTHERS}")
-    done, last = 0, catalogue.prepared()
+        if due:
+            catalogue.base.execute(texts_table(_OTHERS))
+            catalogue.base.execute("CREATE INDEX temp.other_short_texts ON other_texts (label, head, text) WHERE long = 0")
+        show_as_texts(catalogue, [*catalogue.texts, *[_OTHERS] * bool(due)])
+    done, last = 0, 0
     while done < due:
         numbers = _add(catalogue, _OTHERS, last)
         done, last = done + len(numbers), numbers[-1]
         report(done, due)
 
 
+def show_as_texts(catalogue: Catalogue, tables: Sequence[str]) -> None:
+    """Makes the name `texts` stand for all rows of some tables."""
+    if len(tables) > 1:
+        catalogue.base.execute(f"CREATE TEMP VIEW texts AS {' UNION ALL '.join(f'SELECT * FROM {table}' for table in tables)}")
+
+
 def _add(catalogue: Catalogue, table: str, after: int) -> List[int]:
     """Adds the texts of some pictures to a table: of the next ones after a number. Returns their numbers."""
-    query = "SELECT id FROM main.pictures WHERE id > ? ORDER BY id LIMIT ?"
+    query = f"SELECT id FROM ({catalogue.without_texts()}) WHERE id > ? ORDER BY id LIMIT ?"
     numbers = [row[0] for row in catalogue.rows(query, (after, AT_ONCE))]
     with catalogue.guarded():
         catalogue.base.executemany(put_text(table), (row for number in numbers for row in _rows(catalogue, number)))

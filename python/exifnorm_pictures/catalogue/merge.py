@@ -4,7 +4,7 @@ from __future__ import annotations
 
 import contextlib
 import os
-from typing import Sequence
+from typing import Callable, Optional, Sequence
 
 from ..files import rights
 from .store import Catalogue, NoCatalogue, check_schema, unlike
@@ -12,7 +12,12 @@ from .store import Catalogue, NoCatalogue, check_schema, unlike
 _RUNS = "INSERT INTO main.runs SELECT id + ?, started, ended, exifnorm, exiftool, exiv2, sidecars FROM other.runs"
 
 
-def merge(name: str, others: Sequence[str]) -> int:
+# Looks at a catalogue that is attached, before its pictures are added: the one that is written, the name under which it is attached, the names
+# of those that were added before it, and its name
+Before = Callable[[Catalogue, str, Sequence[str], str], None]
+
+
+def merge(name: str, others: Sequence[str], before: Optional[Before] = None) -> int:
     """Adds the pictures of other catalogues to the one of this name, which is made if it is missing. Returns their number afterwards. The
     last catalogue with a picture replaces the others.
 
@@ -21,8 +26,8 @@ def merge(name: str, others: Sequence[str]) -> int:
     _check(name, others)  # before it is made: a mistyped name would leave a catalogue of no pictures
     rights.make(name, others)
     with Catalogue(name, make=True) as all_:
-        for source in others:
-            _add(all_, source)
+        for number, source in enumerate(others):
+            _add(all_, source, others[:number], before)
         return int(next(all_.rows("SELECT count(*) FROM pictures"))[0])
 
 
@@ -42,9 +47,11 @@ def _check(name: str, others: Sequence[str]) -> None:
             first = first or open_.enter_context(Catalogue(source))
 
 
-def _add(all_: Catalogue, name: str) -> None:
+def _add(all_: Catalogue, name: str, earlier: Sequence[str], before: Optional[Before]) -> None:
     with all_.attached(name, "other") as other, all_.transaction():
         check_schema(all_.base, name, other)
+        if before:
+            before(all_, other, earlier, name)
         runs = all_.greatest("runs")
         all_.base.execute(_RUNS, (runs,))
         all_.add_rows(other, runs)

@@ -35,6 +35,8 @@ PATIENCE = 200  # milliseconds that closing waits for other programs; while they
 WAIT = 10  # seconds for other processes that set the journal's mode
 SHORT_WAIT = 2  # seconds for other runs, where there is a way without writing
 
+NUMBERS = 1 << 32  # of pictures and of runs, for each of the catalogues that `index --shards` makes
+
 HEAD = 40  # characters of a text that its index has
 
 
@@ -109,6 +111,7 @@ _ADD_ROWS = (
     "INSERT INTO main.not_read SELECT picture + :pictures, number, what, digest FROM {other}.not_read",
     "INSERT INTO main.maker_notes SELECT picture + :pictures, readings FROM {other}.maker_notes",
 )
+_BEGIN_RUN = "INSERT INTO runs (id, started, sidecars) SELECT max(ifnull(max(id), 0), ?) + 1, ?, ? FROM runs"
 # What is equal of a picture that is read again and is as it was: nobody has written to its file or its sidecars
 _SAME = ("size", "modified", "changed", "inode", "sidecars", "problem", "exif_octets", "iptc_octets", "xmp_octets", "file")
 # The same tables without keys, for rows that are only written and read once
@@ -287,10 +290,12 @@ def check_schema(base: sqlite3.Connection, name: str, schema: str = "main") -> N
 class Catalogue:
     """A catalogue that is open. Use it in a `with`."""
 
+    texts: Tuple[str, ...] = ("main.texts",)  # the tables of texts by label
+
     def __init__(self, name: str, make: bool = False, adds: bool = False) -> None:
         """Opens a catalogue to read it, or with `make` to write to it; then a missing one is made. With `adds` one that is there is written to,
         if other runs that have it open allow it within `SHORT_WAIT`. Raises `NoCatalogue`."""
-        self.name = name
+        self.name = self.file = name
         self._is_written = make or adds
         self._was_cut = False
         _check_head(name, make)
@@ -383,10 +388,17 @@ class Catalogue:
 
     # Writing
 
+    def number_above(self, first: int) -> None:
+        """Lets a new catalogue number its pictures and runs from the one after this multiple of `NUMBERS` on, so that they differ from others'."""
+        with self.transaction():
+            if not self.last_number():
+                self.set_prepared(first)
+
     def begin_run(self, started: str, sidecars: bool = False) -> int:
         """A new run; its number."""
         with self.guarded():
-            return int(self.base.execute("INSERT INTO runs (started, sidecars) VALUES (?, ?)", (started, sidecars)).lastrowid or 0)
+            values = (self.prepared() // NUMBERS * NUMBERS, started, sidecars)
+            return int(self.base.execute(_BEGIN_RUN, values).lastrowid or 0)
 
     def has_sidecars(self) -> bool:
         """Whether XMP files beside pictures are blocks of them here, as in one of its runs."""
@@ -475,6 +487,10 @@ class Catalogue:
     def prepared(self) -> int:
         """The number of a picture: the texts of the pictures up to it are kept."""
         return self._number("SELECT ifnull(max(picture), 0) FROM main.prepared")
+
+    def without_texts(self) -> str:
+        """A query for the numbers of the pictures whose texts aren't kept."""
+        return f"SELECT id FROM main.pictures WHERE id > {self.prepared()}"
 
     def set_prepared(self, number: int) -> None:
         """Keeps that the texts of the pictures up to this number are there, in a transaction."""
@@ -577,7 +593,7 @@ class Catalogue:
 
     def packed_fields(self, columns: str) -> Iterator[Tuple[int, List[Tuple[Any, ...]]]]:
         """Each picture's number, and for each of its blocks some columns and its packed fields."""
-        rows = self.rows(f"SELECT picture, {columns}, fields FROM main.blocks ORDER BY picture, number")
+        rows = self.rows(f"SELECT picture, {columns}, fields FROM blocks ORDER BY picture, number")
         for picture, ours in groupby(rows, key=itemgetter(0)):
             blocks = list(ours)
             with self.guarded():

@@ -28,7 +28,7 @@ from ..model.texts import shown_path
 from . import changed_tables
 from .choice import choice_of, listings_of, note_absent, refuse_unknown
 from .exit_codes import status_of_results
-from .looking import catalogue_of
+from .looking import catalogue_of, files_of, is_of_pictures
 from .names import from_list, refuse_pictures, say_unknown
 from .output import print_line, table_of
 from .summary import lines
@@ -50,7 +50,7 @@ def run(arguments: argparse.Namespace) -> int:
     notes = _Notes(arguments, pictures)
     with contextlib.ExitStack() as open_:
         _go_on_with_sidecars(arguments)
-        before, after = (open_.enter_context(catalogue_of(it, arguments)) for it in (arguments.before, arguments.after))
+        before, after = (open_.enter_context(catalogue_of(it, arguments, True)) for it in (arguments.before, arguments.after))
         choice = choice_of(arguments)
         refuse_unknown(choice, itertools.chain(listings_of(before), listings_of(after)))
         comparisons = changes.changed(
@@ -88,7 +88,7 @@ class _Notes:
     """What was compared of the coded pictures, once all are compared."""
 
     def __init__(self, arguments: argparse.Namespace, counts: "Counter[Coded]") -> None:
-        folders = sum(map(os.path.isdir, (arguments.before, arguments.after)))
+        folders = sum(map(is_of_pictures, (arguments.before, arguments.after)))
         self.pixels = ("index --pixels", "index --pixels, and --pixels here,", "--pixels")[folders]
         self.is_asked = not (arguments.only or arguments.only_file)  # the words of --only are all that is asked
         self.counts = counts
@@ -147,7 +147,7 @@ def _refuse_missing(*names: str) -> None:
 def _refuse_for_catalogues(arguments: argparse.Namespace) -> None:
     """Raises `SidecarsDiffer` if an option is for folders, and two catalogues are compared."""
     given = [it for it in ("pixels", "whole") if getattr(arguments, it)]
-    if given and not any(map(os.path.isdir, (arguments.before, arguments.after))):
+    if given and not any(map(is_of_pictures, (arguments.before, arguments.after))):
         raise SidecarsDiffer(f"--{given[0]} is for folders: a catalogue has what index --{given[0]} read")
 
 
@@ -155,8 +155,8 @@ def _go_on_with_sidecars(arguments: argparse.Namespace) -> None:
     """A folder is read with XMP sidecars if the catalogue that it is compared with has them. Raises `SidecarsDiffer`."""
     asked = arguments.sidecars
     for name in (arguments.before, arguments.after):
-        if not os.path.isdir(name):
-            with Catalogue(name) as catalogue:
+        for file in files_of(name):
+            with Catalogue(file) as catalogue:
                 if asked and not catalogue.has_sidecars() and not catalogue.is_empty():
                     raise SidecarsDiffer(f"{catalogue.name} was made without --sidecars: leave it out, or make a new catalogue")
                 arguments.sidecars = arguments.sidecars or catalogue.has_sidecars()

@@ -18,6 +18,7 @@ from ..files import atomic
 from ..model.errors import WrongUse
 from ..model.texts import path_members, shown_path
 from .exit_codes import SUCCESS
+from .looking import files_of, opened
 from .names import chosen_paths, say_unknown
 from .objects import print_object
 from .output import print_line
@@ -28,7 +29,7 @@ def run(arguments: argparse.Namespace) -> int:
     """Writes a catalogue as plain tables of SQLite."""
     _refuse_table(arguments.file)
     chosen = chosen_paths(arguments)
-    with Catalogue(settle(arguments)) as catalogue:
+    with opened(settle(arguments), arguments) as catalogue:
         file = os.path.join(arguments.session.room, "export")
         with tables(file) as written:
             _add_about(written, catalogue)
@@ -89,7 +90,7 @@ def _put(text: str, arguments: argparse.Namespace) -> None:
     """Copies the tables to their place, where they may replace an earlier export and no other file."""
     with open(text, "rb") as whole:
         try:
-            kept = (arguments.catalogue,)
+            kept = tuple(files_of(arguments.catalogue))
             atomic.replace(os.fsencode(arguments.file), lambda file: shutil.copyfileobj(whole, file), head_is_ours, kept)
         except atomic.NotReplaced as error:
             raise atomic.NotReplaced(atomic.not_written(arguments.file, error)) from None

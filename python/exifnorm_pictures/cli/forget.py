@@ -8,6 +8,7 @@ import os
 from ..catalogue.store import Catalogue
 from ..model.texts import path_members, shown_path
 from .exit_codes import SUCCESS
+from .looking import files_of
 from .names import named
 from .objects import print_object
 from .output import print_line
@@ -18,14 +19,21 @@ def run(arguments: argparse.Namespace) -> int:
     """Removes folders and pictures from a catalogue; the files stay."""
     name = settle_first(arguments)
     names = named(arguments, arguments.folders)
-    with Catalogue(name):  # it is one; a missing one isn't made
-        pass
-    with Catalogue(name, make=True) as catalogue:
-        for folder in names:
-            count = catalogue.forget(os.path.abspath(folder))
-            plural = "s" * (count != 1)
-            if arguments.json:
-                print_object("forget", "folder", {**path_members(folder), "forgotten": count})
-            else:
-                print_line(f"{shown_path(folder)}: {count} picture{plural} forgotten")
+    files = files_of(name) or [name]
+    for file in files:
+        with Catalogue(file):  # it is one; a missing one isn't made
+            pass
+    for folder in names:
+        count = sum(_forgotten(file, os.path.abspath(folder)) for file in files)
+        plural = "s" * (count != 1)
+        if arguments.json:
+            print_object("forget", "folder", {**path_members(folder), "forgotten": count})
+        else:
+            print_line(f"{shown_path(folder)}: {count} picture{plural} forgotten")
     return SUCCESS
+
+
+def _forgotten(file: str, path: bytes) -> int:
+    """How many pictures a catalogue forgets."""
+    with Catalogue(file, make=True) as catalogue:
+        return catalogue.forget(path)

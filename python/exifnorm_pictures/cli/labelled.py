@@ -33,10 +33,10 @@ def pictures(arguments: argparse.Namespace) -> Iterator[Reading]:
     for name in each_name(arguments, arguments.pictures):
         if arguments.block or not is_of_many(name):
             yield _reading(arguments, name)
-        elif os.path.isdir(name):
+        elif os.path.isdir(name) and not _is_of_catalogues(name):
             yield from _in_folder(arguments, name)
         else:
-            yield from _in_catalogue(name)
+            yield from _in_catalogue(arguments, name)
 
 
 def is_of_many(name: bytes) -> bool:
@@ -55,12 +55,18 @@ def is_of_many(name: bytes) -> bool:
     return head_is_ours(head)
 
 
-def _in_catalogue(name: bytes) -> Iterator[Reading]:
-    """The pictures of a catalogue as they were when it looked at them. Their files aren't needed."""
-    from ..catalogue.store import Catalogue
-    from ..catalogue.texts import texts_of
+def _is_of_catalogues(folder: bytes) -> bool:
+    from ..catalogue import shards  # which takes long to import, and most names are those of pictures
 
-    with Catalogue(os.fsdecode(name)) as catalogue:
+    return shards.is_folder(os.fsdecode(folder))
+
+
+def _in_catalogue(arguments: argparse.Namespace, name: bytes) -> Iterator[Reading]:
+    """The pictures of a catalogue as they were when it looked at them. Their files aren't needed."""
+    from ..catalogue.texts import texts_of
+    from .looking import opened
+
+    with opened(os.fsdecode(name), arguments) as catalogue:
         for picture in catalogue.pictures():
             if picture.problem in (Problem.NO_PICTURE, *NOT_THERE):
                 continue

@@ -8,10 +8,13 @@ import sys
 import tempfile
 from typing import List, Optional
 
+from ..catalogue import shards
 from ..catalogue.store import Catalogue, NoCatalogue
+from ..files import signals
 from ..scan.batches import How, Lines
 from ..scan.index import IndexOptions, index
 from ..scan.progress import Progress
+from .exit_codes import UNKNOWN
 from .output import closed_folder
 from .parser import refuse
 
@@ -22,10 +25,36 @@ def how_of(arguments: argparse.Namespace, room: str, lines: Optional[Lines] = No
     return How(arguments.jobs, notes, arguments.whole, pixels, sidecars, arguments.limit, room, arguments.session.debug, lines)
 
 
-def catalogue_of(name: str, arguments: argparse.Namespace) -> Catalogue:
-    """A catalogue, or a new one of a folder, which is removed with the session. Raises `NoCatalogue`, also if a folder below can't be read."""
-    if not os.path.isdir(name):
+def opened(name: str, arguments: argparse.Namespace, in_one_file: bool = False) -> Catalogue:
+    """A catalogue, or all of a folder of catalogues as one."""
+    if not shards.is_folder(name):
         return Catalogue(name)
+    known = shards.shards_of(name)
+    say_missing(known, arguments)
+    return shards.opened(known, arguments.session.room, in_one_file)
+
+
+def say_missing(known: shards.Shards, arguments: argparse.Namespace) -> None:
+    """Says which catalogues of a folder an answer is without; the status is 2 at least then."""
+    for note in known.notes():
+        signals.say(f"exifnorm-pictures: note: {note}")
+        arguments.least_status = UNKNOWN
+
+
+def files_of(name: str) -> List[str]:
+    """The file of a catalogue, or those of a folder of catalogues; none of a folder of pictures."""
+    return shards.shards_of(name).there if shards.is_folder(name) else [name] * (not os.path.isdir(name))
+
+
+def is_of_pictures(name: str) -> bool:
+    """Whether a name is that of a folder of pictures, and not of catalogues."""
+    return os.path.isdir(name) and not shards.is_folder(name)
+
+
+def catalogue_of(name: str, arguments: argparse.Namespace, in_one_file: bool = False) -> Catalogue:
+    """A catalogue, or a new one of a folder, which is removed with the session. Raises `NoCatalogue`, also if a folder below can't be read."""
+    if not is_of_pictures(name):
+        return opened(name, arguments, in_one_file)
     room = tempfile.mkdtemp(dir=arguments.session.room)
     catalogue = Catalogue(os.path.join(room, "catalogue"), make=True)
     try:
@@ -62,15 +91,21 @@ class Preparing:
 
 def catalogue_for_questions(name: str, arguments: argparse.Namespace) -> Catalogue:
     """The same catalogue as of `catalogue_of`; one that is a file keeps the texts of its pictures, if it can be written."""
-    if not os.path.isdir(name):
-        from ..catalogue import kept_texts  # which takes long to import
-
-        kept_texts.keep(name, Preparing(arguments).report)
+    if not is_of_pictures(name):
+        keep_texts(name, arguments)
     return catalogue_of(name, arguments)
+
+
+def keep_texts(name: str, arguments: argparse.Namespace) -> None:
+    """Lets a catalogue, or each of a folder of catalogues, keep the texts of its pictures, if it can be written."""
+    from ..catalogue import kept_texts  # which takes long to import
+
+    for file in files_of(name):
+        kept_texts.keep(file, Preparing(arguments).report)
 
 
 def refuse_for_catalogues(arguments: argparse.Namespace, source: str) -> None:
     """Refuses options that say how pictures are read, if these were read by `index`."""
     given = [option for option in ("whole", "sidecars") if getattr(arguments, option)]
-    if given and not os.path.isdir(source):
+    if given and not is_of_pictures(source):
         refuse(arguments.command, f"--{given[0]} is for folders: a catalogue has what index --{given[0]} read")

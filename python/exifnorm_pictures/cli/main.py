@@ -18,7 +18,7 @@ from ..files.session import Session
 from ..model import errors
 from ..model.budgets import PROGRAM_SECONDS
 from ..model.texts import described, reason, shown_path
-from .exit_codes import FAILURE, STOPPED, USAGE
+from .exit_codes import FAILURE, STOPPED, SUCCESS, USAGE
 from .parser import parsed
 
 COLLECTED = 50_000  # objects after which Python looks for rings of objects: what a picture needs makes none, so mostly it looks in vain
@@ -52,7 +52,7 @@ def _run(words: Optional[Sequence[str]]) -> int:
         arguments = parsed(words)
         session.debug = session.debug or arguments.debug
         session.seconds = getattr(arguments, "limit", PROGRAM_SECONDS)
-        arguments.session, arguments.sheet = session, None
+        arguments.session, arguments.sheet, arguments.least_status = session, None, SUCCESS
         # importing the modules of all commands would take longer than most commands do
         command = arguments.command
         goes_on = command in ("index", "nightly") or bool(getattr(arguments, "state", None))
@@ -60,9 +60,8 @@ def _run(words: Optional[Sequence[str]]) -> int:
         gc.freeze()
         gc.set_threshold(COLLECTED)
         with session:
-            if not getattr(arguments, "xlsx", None):
-                return int(module.run(arguments))
-            return _with_spreadsheet(module, arguments)
+            status = _with_spreadsheet(module, arguments) if getattr(arguments, "xlsx", None) else int(module.run(arguments))
+            return max(status, arguments.least_status)
     except KeyboardInterrupt:
         more = "; the same command goes on from there" if goes_on else ""
         signals.say(f"exifnorm-pictures: stopped{more}")

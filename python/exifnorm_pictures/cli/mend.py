@@ -8,7 +8,6 @@ import shlex
 from collections import Counter
 from typing import Dict, Iterator, List, Optional, Sequence, Tuple, Type
 
-from ..catalogue.store import Catalogue
 from ..extract import programs
 from ..files import atomic
 from ..model import steps
@@ -19,6 +18,7 @@ from ..model.texts import Members, escaped, shown_path
 from ..refusals import mend
 from ..refusals.damage import REMEDY
 from .exit_codes import DIFFERENCE, FAILURE, SUCCESS, UNKNOWN
+from .looking import opened
 from .names import chosen_paths, each_of_list, is_catalogue
 from .objects import picture_object, print_object
 from .output import print_line
@@ -116,7 +116,7 @@ def _refused(arguments: argparse.Namespace) -> List[Tuple[bytes, bytes]]:
     """The pictures of a catalogue with a block that isn't accepted, and the names of their copies: below the folder that was indexed, if that
     is one alone. With --files-from only those of the list."""
     only = chosen_paths(arguments)
-    with Catalogue(arguments.catalogue) as catalogue:
+    with opened(arguments.catalogue, arguments) as catalogue:
         roots = catalogue.roots()
         paths = [it.path for it in catalogue.pictures() if it.problem is None and None in it.meanings and (only is None or it.path in only)]
     root = roots[0].rstrip(b"/") + b"/" if len(roots) == 1 else b"/"

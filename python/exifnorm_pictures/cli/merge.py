@@ -4,15 +4,19 @@ from __future__ import annotations
 
 import argparse
 
+from ..catalogue import shards
 from ..catalogue.merge import merge
 from .exit_codes import SUCCESS
+from .looking import files_of, say_missing
 from .objects import print_object
 from .output import print_line
 
 
 def run(arguments: argparse.Namespace) -> int:
     """Joins catalogues."""
-    count = merge(arguments.catalogue, arguments.catalogues)
+    for name in filter(shards.is_folder, arguments.catalogues):
+        say_missing(shards.shards_of(name), arguments)
+    count = merge(arguments.catalogue, [file for name in arguments.catalogues for file in files_of(name) or [name]])
     if arguments.json:
         print_object("merge", "summary", {"pictures": count})
     else:

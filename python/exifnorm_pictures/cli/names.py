@@ -74,7 +74,11 @@ class WrongCommand(WrongUse):
 
 
 def is_catalogue(name: str) -> bool:
-    """Whether a name is that of a file of SQLite, such as a catalogue."""
+    """Whether a name is that of a file of SQLite, such as a catalogue, or of a folder of catalogues."""
+    if os.path.isdir(name):
+        from ..catalogue import shards  # which takes long to import, and most names are those of files
+
+        return shards.is_folder(name)
     try:
         with reading(os.fsencode(name)) as file:
             return file.read(16) == b"SQLite format 3\0"

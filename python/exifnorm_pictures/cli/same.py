@@ -27,7 +27,7 @@ from ..model.texts import Members, path_members, shown_path
 from . import listed_texts
 from .choice import choice_of, listings_of, note_absent, refuse_unknown
 from .exit_codes import UNKNOWN, status_of_results
-from .looking import Preparing
+from .looking import Preparing, keep_texts, opened
 from .names import chosen_paths, say_unknown
 from .objects import line_of, print_object
 from .output import print_line, table_of
@@ -116,11 +116,9 @@ def run(arguments: argparse.Namespace) -> int:
     kinds = KINDS if arguments.kind in ("all", PIXELS, FILE) else (arguments.kind,)
     chosen = chosen_paths(arguments)
     if arguments.columns or arguments.differ:
-        from ..catalogue import kept_texts  # which takes long to import
-
-        kept_texts.keep(arguments.catalogue, Preparing(arguments).report)
+        keep_texts(arguments.catalogue, arguments)
     with contextlib.ExitStack() as open_:
-        catalogue = open_.enter_context(Catalogue(arguments.catalogue))
+        catalogue = open_.enter_context(opened(arguments.catalogue, arguments))
         only = None if chosen is None else catalogue.choose(chosen)
         choice = choice_of(arguments)
         refuse_unknown(choice, listings_of(catalogue))

@@ -21,6 +21,7 @@ from ..scan.batches import How
 from ..scan.hashing import looker
 from ..scan.index import IndexOptions, index
 from .exit_codes import DIFFERENCE, SUCCESS, UNKNOWN
+from .looking import opened
 from .names import named
 from .objects import print_object
 from .output import closed_folder, print_line
@@ -52,7 +53,7 @@ def run(arguments: argparse.Namespace) -> int:
         raise atomic.NotReplaced(atomic.not_written(escaped(arguments.evidence), "it is there already"))
     told = Told(arguments)
     with contextlib.ExitStack() as open_:
-        before = open_.enter_context(_of_bag(arguments) if arguments.bag else Catalogue(arguments.catalogue))
+        before = open_.enter_context(_of_bag(arguments) if arguments.bag else opened(arguments.catalogue, arguments))
         given = bool(arguments.folders or arguments.files_from)
         folders = _folders(named(arguments, arguments.folders) if given else [], before)
         reading = Reading(folders, arguments, before)

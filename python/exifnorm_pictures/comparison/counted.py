@@ -57,7 +57,7 @@ def make_table(catalogue: Catalogue, choice: Choice, table: str) -> None:
 
 _SUMS = "whole, listing, other_whole, other_listing"
 _MORE = f"{_SUMS}, pictures.maker_notes || ' ' || ifnull(pictures.not_read, '') AS place"
-_JOINED = "main.pictures LEFT JOIN temp.remaining USING (id)"
+_JOINED = "pictures LEFT JOIN temp.remaining USING (id)"
 
 
 def _columns(choice: Choice) -> str:

@@ -135,7 +135,7 @@ def _found(catalogue: Catalogue, query: _Query, kinds: Tuple[str, ...], table: s
             continue
         is_partial = meanings > 1 or places > 1
         basis = Basis.FIELDS if is_partial and query.basis == Basis.MEANING else query.basis
-        rows = f"SELECT {PICTURE_COLUMNS} FROM {table} WHERE id IN ({ids}) AND {own} ORDER BY +path"
+        rows = f"SELECT {PICTURE_COLUMNS} FROM {table} WHERE id IN ({ids}) AND {own} ORDER BY path"
         yield Shared(basis, kinds, is_partial, table == COUNTED), catalogue.rows(rows, (*row, *row), picture_of_row)
 
 

@@ -105,7 +105,7 @@ class Pairs:
 
     def _open(self, only: Optional[Set[bytes]]) -> None:
         for base, catalogue in zip(_BASES, self.catalogues):
-            self.base.execute(f"ATTACH ? AS {base}", (address(catalogue.name),))
+            self.base.execute(f"ATTACH ? AS {base}", (address(catalogue.file),))
             check_schema(self.base, catalogue.name, base)
         self.base.executescript(_TABLES)
         self.base.create_function("last", 1, os.path.basename, deterministic=True)

@@ -1,0 +1,214 @@
+"""Catalogues of one archive that are asked together, its shards: a folder of them, in which a file names each.
+
+Up to ten are read where they are: SQLite attaches them to one connection, on which the name of each table is a view of the tables of all. Where
+they have numbers of pictures in common, or are more than SQLite attaches, they are merged to a temporary file first.
+"""
+
+from __future__ import annotations
+
+import itertools
+import os
+import tempfile
+from typing import BinaryIO, Iterator, List, NamedTuple, Optional, Sequence, Tuple
+
+from ..files import atomic, opening
+from ..model.errors import WrongUse
+from ..model.texts import shown_path
+from .merge import merge
+from .store import Catalogue, NoCatalogue, address, check_schema, connect, head_is_ours, unlike
+
+LIST = "catalogues"  # the file that names the catalogues of a folder ..
+_HEAD = b"exifnorm-pictures: catalogues of one archive\n"  # .. and begins with this line
+_LONGEST = 1 << 24  # bytes of it
+MOST = 10  # that SQLite attaches
+_TABLES = ("runs", "pictures", "blocks", "not_read", "maker_notes")
+
+
+class Twice(WrongUse):
+    """Two catalogues have the same picture, so nobody knows which of them is right."""
+
+
+class Shards(NamedTuple):
+    """The catalogues of a folder."""
+
+    folder: str
+    there: List[str]  # those that are listed, in the order of the list
+    missing: List[str]  # that are listed, and aren't there
+    unlisted: List[str]  # that are there, and aren't listed
+
+    def notes(self) -> Iterator[str]:
+        """What makes that an answer isn't about the whole archive."""
+        for what, names in (("which isn't there", self.missing), ("which its list doesn't name", self.unlisted)):
+            for name in names:
+                yield f"the answer is without the catalogue {shown_path(os.fsencode(name))}, {what}"
+
+
+def is_folder(name: str) -> bool:
+    """Whether a name is that of a folder of catalogues: its file says so."""
+    return os.path.isdir(name) and _list_of(name) is not None
+
+
+def shards_of(folder: str) -> Shards:
+    """The catalogues of a folder. Raises `NoCatalogue` if none is there."""
+    names = [os.path.join(folder, name) for name in listed(folder)]
+    there = [name for name in names if os.path.exists(name)]
+    if not there:
+        raise NoCatalogue(f"{folder}: none of its {len(names):,} catalogues is there")
+    return Shards(folder, there, [name for name in names if name not in there], list(_unlisted(folder, there)))
+
+
+def listed(folder: str) -> List[str]:
+    """The names of the catalogues of a folder, relative to it."""
+    return [os.fsdecode(line) for line in (_list_of(folder) or b"").split(b"\n") if line]
+
+
+def put_list(folder: str, names: Sequence[str]) -> None:
+    """Names the catalogues of a folder, of which an earlier list is replaced as a whole."""
+    octets = _HEAD + b"".join(os.fsencode(name) + b"\n" for name in names)
+
+    def write(file: BinaryIO) -> None:
+        file.write(octets)
+
+    atomic.replace(os.fsencode(os.path.join(folder, LIST)), write, lambda head: head.startswith(_HEAD))
+
+
+def _list_of(folder: str) -> Optional[bytes]:
+    """What follows the first line of the list of a folder; None if there is no list."""
+    try:
+        with opening.reading(os.path.join(folder, LIST)) as file:
+            octets = file.read(_LONGEST)
+    except (FileNotFoundError, NotADirectoryError):
+        return None
+    return octets[len(_HEAD) :] if octets.startswith(_HEAD) else None
+
+
+def _unlisted(folder: str, there: Sequence[str]) -> Iterator[str]:
+    """The catalogues in a folder that its list doesn't name."""
+    known = {(status.st_dev, status.st_ino) for status in map(os.stat, there)}
+    with os.scandir(folder) as entries:
+        for entry in sorted(entries, key=lambda entry: entry.name):
+            if entry.is_file() and (entry.stat().st_dev, entry.stat().st_ino) not in known and _is_catalogue(entry.path):
+                yield entry.path
+
+
+def _is_catalogue(name: str) -> bool:
+    with opening.reading(name) as file:
+        return head_is_ours(file.read(100))
+
+
+# How they are read
+
+
+def opened(shards: Shards, room: str, in_one_file: bool = False) -> Catalogue:
+    """The catalogues as one. Those that can't be attached are merged in a folder for temporary files, and all with `in_one_file`. Raises
+    `NoCatalogue`, and `Twice` if two have the same picture."""
+    about = list(map(_about, shards.there))
+    _refuse_unlike(about)
+    if not in_one_file and len(about) <= MOST and _are_apart([one.numbers for one in about]) and _are_apart([one.runs for one in about]):
+        return Together(shards.folder, about)
+    return _merged(shards, room)
+
+
+class About(NamedTuple):
+    """What has to be known of a catalogue before it is read with others."""
+
+    name: str
+    numbers: Tuple[int, int]  # the least and the greatest of its pictures
+    runs: Tuple[int, int]
+    paths: Tuple[bytes, bytes]  # the first one and the last one
+    sidecars: Optional[bool]  # None if it has no picture
+
+
+def _about(name: str) -> About:
+    with Catalogue(name) as catalogue:
+        numbers, runs = (next(catalogue.rows(_ENDS.format(table))) for table in ("pictures", "runs"))
+        ends = [next(catalogue.rows(f"SELECT path FROM pictures ORDER BY path {way} LIMIT 1"), (b"",))[0] for way in ("ASC", "DESC")]
+        return About(name, numbers, runs, (ends[0], ends[1]), None if catalogue.is_empty() else catalogue.has_sidecars())
+
+
+_ENDS = "SELECT ifnull((SELECT min(id) FROM {0}), 0), ifnull((SELECT max(id) FROM {0}), 0)"
+
+
+def _refuse_unlike(about: Sequence[About]) -> None:
+    """Raises `NoCatalogue` if some catalogues have XMP sidecars and others don't."""
+    known = {one.sidecars: one for one in about if one.sidecars is not None}
+    if len(known) > 1:
+        with Catalogue(known[True].name) as catalogue, Catalogue(known[False].name) as other:
+            raise unlike(catalogue, other)
+
+
+def _are_apart(ranges: Sequence[Tuple[int, int]]) -> bool:
+    """Whether each range begins after the one before it.
+
+    >>> _are_apart([(1, 3), (0, 0), (4, 4)]), _are_apart([(1, 3), (3, 5)])
+    (True, False)
+    """
+    some = [ends for ends in ranges if ends != (0, 0)]
+    return all(before[1] < after[0] for before, after in zip(some, some[1:]))
+
+
+class Together(Catalogue):
+    """Several catalogues that are open to be read, each attached to one connection. A view of each table has the rows of all."""
+
+    def __init__(self, folder: str, about: Sequence[About]) -> None:
+        self.name = self.file = folder
+        self._is_written = self._was_cut = False
+        self._schemas = [f"shard{number}" for number in range(len(about))]
+        self.texts = tuple(f"{schema}.texts" for schema in self._schemas)
+        with self.guarded():
+            self.base = connect("")
+        try:
+            self._attach(about)
+            self._refuse_twice(about)
+        except BaseException:
+            self.base.close()
+            raise
+
+    def _attach(self, about: Sequence[About]) -> None:
+        with self.guarded():
+            for one, schema in zip(about, self._schemas):
+                self.base.execute(f"ATTACH ? AS {schema}", (address(one.name),))
+                check_schema(self.base, one.name, schema)
+            for table in _TABLES:
+                rows = " UNION ALL ".join(f"SELECT * FROM {schema}.{table}" for schema in self._schemas)
+                self.base.execute(f"CREATE TEMP VIEW {table} AS {rows}")
+
+    def _refuse_twice(self, about: Sequence[About]) -> None:
+        """Raises `Twice`. Where the paths of one catalogue lie behind those of the other, none is read."""
+        for (one, schema), (other, its) in itertools.combinations(zip(about, self._schemas), 2):
+            if one.paths[0] <= other.paths[1] and other.paths[0] <= one.paths[1]:
+                if one.numbers[1] - one.numbers[0] > other.numbers[1] - other.numbers[0]:
+                    one, schema, other, its = other, its, one, schema  # the smaller one is read, and each path is looked up in the other
+                query = f"SELECT path FROM {schema}.pictures AS mine CROSS JOIN {its}.pictures AS other USING (path) LIMIT 1"
+                for (path,) in self.rows(query):
+                    raise twice(path, one.name, other.name)
+
+    def without_texts(self) -> str:
+        """A query for the numbers of the pictures whose texts aren't kept."""
+        kept = [self._number(f"SELECT ifnull(max(picture), 0) FROM {schema}.prepared") for schema in self._schemas]
+        return " UNION ALL ".join(f"SELECT id FROM {schema}.pictures WHERE id > {number}" for schema, number in zip(self._schemas, kept))
+
+
+def twice(path: bytes, name: str, other: str) -> Twice:
+    """The error for a picture in two catalogues."""
+    return Twice(f"{shown_path(path)} is in {shown_path(os.fsencode(name))} and in {shown_path(os.fsencode(other))}: which is right?")
+
+
+def _merged(shards: Shards, room: str) -> Catalogue:
+    """A temporary catalogue with the rows of all. Only its name is that of their folder."""
+    file = os.path.join(tempfile.mkdtemp(dir=room), "catalogue")
+    merge(file, shards.there, _refuse_known)
+    catalogue = Catalogue(file)
+    catalogue.name = shards.folder
+    return catalogue
+
+
+def _refuse_known(all_: Catalogue, other: str, earlier: Sequence[str], name: str) -> None:
+    """Raises `Twice` if an attached catalogue has a picture of those that are merged already."""
+    for (path,) in all_.rows(f"SELECT path FROM {other}.pictures WHERE path IN (SELECT path FROM main.pictures) LIMIT 1"):
+        raise twice(path, next(it for it in earlier if _has(it, path)), name)
+
+
+def _has(name: str, path: bytes) -> bool:
+    with Catalogue(name) as catalogue:
+        return catalogue.has(path)

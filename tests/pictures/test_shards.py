@@ -1,0 +1,331 @@
+"""Catalogues of one archive that are asked together: each command answers as it does over one catalogue into which they were merged."""
+
+import contextlib
+import io
+import os
+import shutil
+import sqlite3
+
+import hypothesis
+import hypothesis.strategies as st
+import pytest
+from test_groups import FILES, with_short_note
+from test_query_steps import SIZES, TIMES, make
+from work import Counting, compiled
+
+from exifnorm_pictures.catalogue import shards
+from exifnorm_pictures.catalogue.store import NUMBERS, Catalogue
+from exifnorm_pictures.cli import main
+
+COMMANDS = (
+    "same --catalogue {}",
+    "same --catalogue {} --json",
+    "same --catalogue {} --csv --columns title",
+    "same --catalogue {} --kind exif",
+    "same --catalogue {} --kind pixels",
+    "same --catalogue {} --kind file --json",
+    "same --catalogue {} --ignore Model --ignore creator",
+    "same --catalogue {} --only Make --json",
+    "same --catalogue {} --differ title",
+    "same --catalogue {} --least-fields 2 --no-look",
+    "list {} --columns title,keywords",
+    "list {} --with title --json",
+    "list {} --without title",
+    "list {} --where title=one -0",
+    "list {} --count title",
+    "list {} --where XMP-dc:title=two --columns Make",
+    "list {} --with damage",
+    "list {} --since 2001-01-01 --json",
+    "check rules {}",
+    "captions {} --json",
+    "conflicts {} --all",
+    "report {} --json --no-look",
+    "report {} --json --ignore Model",
+    "verify --catalogue {} --jobs 1 --quiet",
+)
+OF_TWO = (
+    "changed {} {}",
+    "changed {} {} --each",
+    "changed {} {} --all --json",
+    "changed {} {} --ignore Make --csv",
+    "changed {} {} --only title",
+    "report {1} --since {0} --json --no-look",
+)
+FOLDERS = ("one", "two", "three")
+BEYOND = 12  # catalogues, of which SQLite attaches ten
+
+
+def called(words):
+    """The status of a command, and what it prints."""
+    with contextlib.redirect_stdout(io.TextIOWrapper(io.BytesIO(), "utf-8", "surrogateescape")) as out, contextlib.redirect_stderr(
+        io.StringIO()
+    ) as errors:
+        status = main._run(words.split())
+    out.flush()
+    return status, out.buffer.getvalue(), errors.getvalue()
+
+
+@contextlib.contextmanager
+def inside(folder):
+    here = os.getcwd()
+    os.chdir(folder)
+    try:
+        yield
+    finally:
+        os.chdir(here)
+        shutil.rmtree(folder)
+
+
+def make_shards(folder, are_apart):
+    """A catalogue of each folder of pictures, and the list of them; `are_apart`: no two have a number in common."""
+    os.makedirs(folder, exist_ok=True)
+    for number, name in enumerate(FOLDERS):
+        if are_apart:
+            with Catalogue(f"{folder}/{name}", make=True) as catalogue:
+                catalogue.number_above(number * NUMBERS)
+        status, _, errors = called(f"index pictures/{name} --catalogue {folder}/{name} --pixels --quiet")
+        assert status in (0, 2), errors
+    shards.put_list(folder, FOLDERS)
+
+
+def merged(folder, all_):
+    status, _, errors = called(f"merge {' '.join(f'{folder}/{name}' for name in FOLDERS)} --catalogue {all_}")
+    assert status == 0, errors
+
+
+def put(files):
+    """The pictures, each in a folder."""
+    for number, (name, folder) in enumerate(files):
+        with open(f"pictures/{folder}/{number}.jpg", "wb") as file:
+            file.write(FILES[name])
+
+
+def change(files, changes):
+    """Each picture goes on: as it is, as another, or in another folder."""
+    for number, ((_, folder), (what, other, elsewhere)) in enumerate(zip(files, changes)):
+        path = f"pictures/{folder}/{number}.jpg"
+        if what == "changes":
+            with open(path, "wb") as file:
+                file.write(FILES[other])
+        elif what == "moves":
+            os.rename(path, f"pictures/{elsewhere}/{number}.moved.jpg")
+        elif what == "goes":
+            os.remove(path)
+
+
+NAMES, PLACES = st.sampled_from(sorted(FILES)), st.sampled_from(FOLDERS)
+WHAT = st.sampled_from(("stays", "stays", "changes", "moves", "goes"))
+
+
+@hypothesis.settings(max_examples=10, deadline=None)  # each makes two states of an archive, and runs sixty commands
+@hypothesis.given(
+    st.lists(st.tuples(NAMES, PLACES), min_size=6, max_size=14),
+    st.lists(st.tuples(WHAT, NAMES, PLACES), min_size=14, max_size=14),
+    st.booleans(),
+)
+def test_many_answer_as_one(tmp_path_factory, files, changes, are_apart):
+    with inside(str(tmp_path_factory.mktemp("shards"))):
+        for name in FOLDERS:
+            os.makedirs(f"pictures/{name}")
+        with open("rules", "w") as file:
+            file.write("every picture needs title\ntitle is one\n")
+        put(files)
+        make_shards("before", are_apart)
+        merged("before", "BEFORE")
+        change(files, changes)
+        shutil.copytree("before", "after")
+        make_shards("after", are_apart)
+        merged("after", "AFTER")
+        for words in COMMANDS:
+            assert called(words.format("after")) == named(called(words.format("AFTER")), "AFTER", "after"), words
+        for words in OF_TWO:
+            expected = named(called(words.format("BEFORE", "AFTER")), "AFTER", "after", "BEFORE", "before")
+            assert called(words.format("before", "after")) == expected, words
+        assert exported("after") == exported("AFTER")
+
+
+def named(answer, *names):
+    """An answer with other names of catalogues."""
+    status, out, errors = answer
+    for old, new in zip(names[::2], names[1::2]):
+        out, errors = out.replace(old.encode(), new.encode()), errors.replace(old, new)
+    return status, out, errors
+
+
+def exported(name):
+    """The rows of an export, each with the path of its picture in place of its number."""
+    status, _, errors = called(f"export {name} {name}.tables --quiet")
+    assert status == 0, errors
+    with contextlib.closing(sqlite3.connect(f"{name}.tables")) as base:
+        paths = dict(base.execute("SELECT id, path FROM pictures"))
+        rows = [("pictures", *row[1:]) for row in base.execute("SELECT * FROM pictures ORDER BY path")]
+        for table in ("blocks", "fields", "captions", "conflicts", "not_read"):
+            rows += sorted(((table, paths[row[0]], *row[1:]) for row in base.execute(f"SELECT * FROM {table}")), key=repr)
+        for number, *about, picture, keep, note in base.execute("SELECT * FROM groups"):
+            rows.append(("groups", number, *about, paths[picture], keep, note))
+    return rows
+
+
+# What is wrong with a folder of catalogues
+
+
+@pytest.fixture
+def archive(folder, called_lines):
+    """Two folders of pictures, each with a catalogue in the folder `shards`."""
+    (folder / "shards").mkdir()
+    for number, name in enumerate(("one", "two")):
+        (folder / name).mkdir()
+        (folder / name / f"{name}.jpg").write_bytes(FILES["a1"])
+        with Catalogue(str(folder / "shards" / f"{name}.catalogue"), make=True) as catalogue:
+            catalogue.number_above(number * NUMBERS)
+        assert called_lines("index", name, "--catalogue", f"shards/{name}.catalogue", "--quiet")[0] == 0
+    shards.put_list(str(folder / "shards"), ["one.catalogue", "two.catalogue"])
+    return folder
+
+
+def test_a_missing_catalogue_is_said(archive, called_lines):
+    assert called_lines("same", "--catalogue", "shards")[0] == 0
+    (archive / "shards" / "two.catalogue").unlink()
+    for words in (
+        ("same", "--catalogue", "shards"),
+        ("list", "shards"),
+        ("changed", "shards", "shards"),
+        ("report", "shards", "--json"),
+        ("export", "shards", "tables"),
+        ("captions", "shards", "--json"),
+        ("merge", "shards", "--catalogue", "all"),
+    ):
+        status, lines, messages = called_lines(*words)
+        assert status == 2 and lines, (words, lines)
+        assert "without the catalogue shards/two.catalogue, which isn't there" in messages, words
+    (archive / "shards" / "one.catalogue").unlink()
+    status, _, messages = called_lines("list", "shards")
+    assert status == 4 and "none of its 2 catalogues is there" in messages
+
+
+def test_a_catalogue_that_is_not_listed_is_said(archive, called_lines):
+    shards.put_list(str(archive / "shards"), ["one.catalogue"])
+    (archive / "shards" / "notes.txt").write_text("no catalogue")
+    status, lines, messages = called_lines("list", "shards")
+    assert status == 2 and lines[-1].startswith("1 of 1 picture")
+    assert "without the catalogue shards/two.catalogue, which its list doesn't name" in messages and "notes" not in messages
+
+
+@pytest.mark.parametrize("are_apart", (True, False))
+def test_a_picture_in_two_catalogues_is_refused(archive, called_lines, are_apart):
+    """Whichever of them is right, an answer would count it twice or leave one out."""
+    if not are_apart:
+        (archive / "shards" / "two.catalogue").unlink()
+    assert called_lines("index", "one", "two", "--catalogue", "shards/two.catalogue", "--quiet")[0] == 0
+    for words in (("same", "--catalogue", "shards"), ("list", "shards", "--json"), ("changed", "shards", "one")):
+        status, lines, messages = called_lines(*words)
+        assert (status, lines) == (3, []), words
+        assert "one/one.jpg is in " in messages and "shards/one.catalogue" in messages and "shards/two.catalogue" in messages
+
+
+def test_a_folder_is_one_of_pictures_unless_its_list_says_otherwise(archive, called_lines):
+    """A file of another kind with this name changes nothing."""
+    (archive / "one" / "catalogues").write_text("catalogues of one archive, which are sold out\n")
+    assert called_lines("changed", "one", "two", "--no-exiftool")[0] == 1
+    assert called_lines("list", "one")[1][-1] == "1 of 1 picture"
+    status, _, messages = called_lines("same", "--catalogue", "one")
+    assert status == 4 and "one is no catalogue" in messages
+
+
+def test_with_sidecars_and_without(archive, called_lines):
+    (archive / "shards" / "two.catalogue").unlink()
+    assert called_lines("index", "two", "--catalogue", "shards/two.catalogue", "--sidecars", "--quiet")[0] == 0
+    status, _, messages = called_lines("list", "shards")
+    assert status == 4 and "index --sidecars" in messages
+
+
+def test_a_list_replaces_a_list_alone(archive):
+    shards.put_list(str(archive / "shards"), ["two.catalogue"])
+    assert shards.listed(str(archive / "shards")) == ["two.catalogue"]
+    (archive / "other").mkdir()
+    (archive / "other" / "catalogues").write_text("mine\n")
+    with pytest.raises(Exception, match="file of another kind"):
+        shards.put_list(str(archive / "other"), ["two.catalogue"])
+    assert (archive / "other" / "catalogues").read_text() == "mine\n"
+
+
+def test_each_catalogue_keeps_its_texts(archive, called_lines):
+    """So that a second question reads the fields of no picture."""
+    assert called_lines("list", "shards", "--with", "title")[0] == 0
+    for name in ("one", "two"):
+        with Catalogue(str(archive / "shards" / f"{name}.catalogue")) as catalogue:
+            assert catalogue.prepared() == catalogue.greatest("pictures")
+
+
+def test_more_than_sqlite_attaches(folder, called_lines):
+    names = []
+    (folder / "shards").mkdir()
+    for number in range(BEYOND):
+        (folder / "p" / str(number)).mkdir(parents=True)
+        (folder / "p" / str(number) / "a.jpg").write_bytes(with_short_note(number))
+        names.append(f"{number}.catalogue")
+        assert called_lines("index", f"p/{number}", "--catalogue", f"shards/{names[-1]}", "--quiet")[0] == 0
+    shards.put_list(str(folder / "shards"), names)
+    assert called_lines("index", "p", "--catalogue", "all", "--quiet")[0] == 0
+    for words in ("same --catalogue {} --json", "list {} --json", "report {} --json"):
+        both = [called_lines(*words.format(name).split()) for name in ("shards", "all")]
+        assert both[0][0] == both[1][0], words
+    assert called_lines("changed", "shards", "all", "--no-exiftool")[0] == 0
+
+
+# What it costs
+
+MORE = 5  # times as many steps as over one catalogue
+OVER_SHARDS = (
+    "same --no-look --catalogue {}",
+    "same --no-look --catalogue {} --kind pixels --differ creator",
+    "same --no-look --catalogue {} --ignore Artist",
+    "list {} --where creator=anna --columns creator",
+    "list {} --without credit -0",
+    "list {} --count creator",
+    "list {} --where title=x",
+    "check rules {}",
+    "report {} --no-look --html page",
+    "export --no-look {} tables",
+)
+
+
+@pytest.fixture(scope="module")
+def costs(tmp_path_factory):
+    """The steps of SQLite of each command, over three catalogues and over one with the same pictures, at each size."""
+    counting = Counting(compiled(tmp_path_factory.mktemp("count")))
+    known = {}
+    for size in SIZES:
+        folder = tmp_path_factory.mktemp(str(size))
+        (folder / "shards").mkdir()
+        make(folder / "all", size)
+        (folder / "rules").write_text("every picture needs credit\ncreator is Otto\n", encoding="ascii")
+        for number in range(3):
+            _part_of(folder / "all", folder / "shards" / str(number), number)
+        shards.put_list(str(folder / "shards"), ["0", "1", "2"])
+        for words in OVER_SHARDS:
+            for name in ("shards", "all"):
+                work = counting.run(folder, *words.format(name).split())
+                assert work.status in (0, 1, 2), (words, work.err[-2000:])
+                known[words, name, size] = work
+    counting.close()
+    return known
+
+
+def _part_of(all_, name, number):
+    """A catalogue of a third of the pictures, each with its number raised."""
+    shutil.copy(all_, name)
+    with contextlib.closing(sqlite3.connect(name, isolation_level=None)) as base:
+        base.execute("DELETE FROM blocks WHERE picture % 3 != ?", (number,))
+        base.execute("DELETE FROM pictures WHERE id % 3 != ?", (number,))
+        for table, column in (("blocks", "picture"), ("pictures", "id"), ("pictures", "run"), ("runs", "id")):
+            base.execute(f"UPDATE {table} SET {column} = {column} + ?", (number * NUMBERS,))
+        base.execute("INSERT INTO prepared VALUES (?)", (number * NUMBERS,))
+
+
+@pytest.mark.parametrize("words", OVER_SHARDS)
+def test_twice_as_many_pictures_take_twice_the_steps_over_shards(costs, words):
+    few, many = (costs[words, "shards", size].steps for size in SIZES)
+    assert many <= TIMES * few + 20
+    assert many <= MORE * costs[words, "all", SIZES[1]].steps + 200, "as over one catalogue"
+    assert costs[words, "shards", SIZES[1]].out == costs[words, "all", SIZES[1]].out or "page" in words or "tables" in words
