@@ -8,16 +8,17 @@ import shlex
 from collections import Counter
 from typing import Iterator, List, Sequence
 
+from ..catalogue import shards
 from ..catalogue.nights import copy_over
 from ..catalogue.store import Catalogue, NoCatalogue
 from ..files import signals
 from ..model.errors import WrongUse
-from ..model.problems import COUNTED, NOT_READABLE
-from ..model.records import AS_BEFORE
+from ..model.problems import NOT_READABLE
 from ..model.texts import escaped, moved_line, shown_path
 from ..scan.excluded import Excluded
 from ..scan.index import IndexOptions, index
 from . import objects
+from .counted import counted
 from .exit_codes import SUCCESS, UNKNOWN
 from .looking import how_of
 from .names import named
@@ -46,7 +47,12 @@ class NothingThere(WrongUse):
 
 def run(arguments: argparse.Namespace) -> int:
     """Looks at pictures and keeps the results."""
-    settle_first(arguments)
+    if not arguments.shards:
+        settle_first(arguments)
+    if arguments.shards or shards.is_folder(arguments.catalogue):
+        from . import index_shards  # which few need
+
+        return index_shards.run(arguments)
     names = named(arguments, arguments.folders)
     if any(not it for it in names):
         raise NoCatalogue("a name is empty")
@@ -81,7 +87,7 @@ def run(arguments: argparse.Namespace) -> int:
     if arguments.json:
         objects.print_object("index", "summary", {"counts": dict(counts), "damaged": damaged})
     else:
-        for line in [*parts, _counted(counts) + f"; {damaged:,} cut off or damaged" * bool(damaged), *steps]:
+        for line in [*parts, counted(counts) + f"; {damaged:,} cut off or damaged" * bool(damaged), *steps]:
             print_line(line)
     if any(counts[it] for it in NOT_READABLE) or any(os.path.exists(it) and not _may_be_read(it) for it in names):
         return UNKNOWN
@@ -95,13 +101,6 @@ def _are_known(names: Sequence[bytes], catalogue: str) -> bool:
     with Catalogue(catalogue) as known:
         paths = [os.path.abspath(name) for name in names]
         return any(known.has(path) or any(True for _ in known.below(path)) for path in paths)
-
-
-def _counted(counts: "Counter[str]") -> str:
-    """The states in words, those of the most pictures first."""
-    words = {it: COUNTED.get(it.removesuffix(AS_BEFORE), it.removesuffix(AS_BEFORE)) for it in counts}
-    ordered = sorted(counts, key=lambda it: (-counts[it], words[it], it))
-    return ", ".join(f"{counts[it]:,} {words[it]}{AS_BEFORE * it.endswith(AS_BEFORE)}" for it in ordered) or "no file"
 
 
 def _may_be_read(name: bytes) -> bool:

@@ -28,7 +28,7 @@ def pictures(arguments: argparse.Namespace) -> Iterator[Reading]:
     if arguments.catalogue is not None:
         if arguments.pictures or arguments.files_from or arguments.null or arguments.block:
             refuse(arguments.command, "--catalogue is given alone")
-        yield from _in_catalogue(os.fsencode(arguments.catalogue))
+        yield from _in_catalogue(arguments, os.fsencode(arguments.catalogue))
         return
     for name in each_name(arguments, arguments.pictures):
         if arguments.block or not is_of_many(name):

@@ -35,7 +35,8 @@ _STATUSES = """Statuses:
        not so at the last run; nightly: what could be decided last night can't
        be, or a folder isn't there; verify: a file can't be read, or has no
        digest; mend: no remedy worked, the file is damaged, or the picture
-       wasn't read)
+       wasn't read), or of a folder of catalogues one isn't there or isn't
+       listed
   3    bad arguments; index, nightly: no name leads to a folder or a file
   4    the command itself failed: the catalogue, a stream, an output file, the
        disk or the memory
@@ -273,6 +274,8 @@ def _many_names_arguments(parser: argparse.ArgumentParser) -> None:
 def _index_arguments(parser: argparse.ArgumentParser) -> None:
     _example(parser, "index /archive --catalogue my.catalogue --exclude '*.tmp'")
     _first_arguments(parser, "a folder, with all below it, or a picture", "the catalogue; created if it is missing")
+    words = "in place of one catalogue, keep one for each folder directly in FOLDER, all in this folder, which other commands take as a catalogue"
+    parser.add_argument("--shards", type=_name, metavar="DIR", help=words)
     parser.add_argument("--keep-old", type=_name, metavar="OLD", help="first copy the catalogue to OLD, for changed and report --since")
     parser.add_argument("--exclude", action="append", default=[], type=_name, metavar="PATTERN", help=_EXCLUDE)
     parser.add_argument("--again", action="store_true", help="look at all pictures, even if they haven't changed")

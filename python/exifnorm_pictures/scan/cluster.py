@@ -7,6 +7,7 @@ few tasks wait for each of them.
 
 from __future__ import annotations
 
+import contextlib
 import logging
 import os
 import time
@@ -65,32 +66,28 @@ def looker(scheduler: str, elsewhere: Optional[str], names: Sequence[bytes]) -> 
     return look
 
 
-class _Cluster:
-    """The client of a cluster, and its unfinished tasks."""
+class Died(Exception):
+    """The workers that had a task died."""
 
-    def __init__(self, scheduler: str, elsewhere: Optional[bytes], how: How) -> None:
-        self.elsewhere, self.how = elsewhere, replace(how, room="")
-        self.scheduler = scheduler
-        self.tasks: Dict[Any, Sequence[FoundFile]] = {}
-        self.suspects: List[FoundFile] = []  # the pictures of chunks at which workers died
+
+class Tasks:
+    """The client of a cluster, and its unfinished tasks, of which some wait for each thread of a worker."""
+
+    def __init__(self, scheduler: str, how: How, waiting: int) -> None:
+        if distributed is None:
+            raise programs.Failed("--scheduler needs Dask's distributed. In Debian: apt-get install python3-distributed")
+        self.scheduler, self.how, self.waiting = scheduler, how, waiting
+        self.tasks: Dict[Any, Any] = {}
         self.threads = 0  # of all workers, when they were last counted
         self.counted = 0.0
 
-    def looked(self, work: Iterable[FoundFile]) -> Iterator[PictureRecord]:
-        """The result for each of these files, in order of arrival."""
+    @contextlib.contextmanager
+    def connected(self) -> Iterator[Any]:
+        """The client while it is connected. Raises `programs.Failed`."""
         logging.disable(logging.CRITICAL)  # Dask writes tracebacks; what is wrong is in the errors below
         try:
             with self._client() as client:
-                chunks = _chunks(work)
-                while True:
-                    for chunk in islice(chunks, self._lacking(client)):
-                        self._submit(client, chunk)
-                    if not self.tasks and not self.suspects:
-                        break
-                    if not self.tasks:  # one of these runs without any other task, so a failure has no other cause
-                        self._submit(client, [self.suspects.pop()])
-                    for task in self._finished(client):
-                        yield from self._answers(task)
+                yield client
         except (OSError, CommClosedError) as error:
             raise programs.Failed(f"the cluster {self.scheduler} failed: {error}") from error
 
@@ -101,20 +98,21 @@ class _Cluster:
         except (ValueError, TypeError, KeyError, RuntimeError) as error:
             raise programs.Failed(f"the cluster {self.scheduler} failed: {error}") from error
 
-    def _lacking(self, client: Any) -> int:
+    def lacking(self, client: Any) -> int:
         """How many tasks can be given to the workers now; one at least if none has any."""
         if not self.counted or time.monotonic() - self.counted > POLL:
             self.threads = sum(client.nthreads().values())
             self.counted = time.monotonic()
-        return max(0, TASKS * max(1, self.threads) - len(self.tasks))
+        return max(0, self.waiting * max(1, self.threads) - len(self.tasks))
 
-    def _submit(self, client: Any, chunk: Sequence[FoundFile]) -> None:
-        root = chunk[0].root
-        names = [os.path.relpath(it.path, root) for it in chunk]
-        task = client.submit(look_there, self.elsewhere or root, names, self.how, pure=False, retries=2)
-        self.tasks[task] = chunk
+    def result(self, task: Any) -> Any:
+        """What a task returns. Raises `Died`, and whatever the task raises."""
+        try:
+            return task.result()
+        except KilledWorker as error:
+            raise Died from error
 
-    def _finished(self, client: Any) -> List[Any]:
+    def finished(self, client: Any) -> List[Any]:
         """The tasks that have ended, at least one. Raises `programs.Failed` if there has been no worker for too long."""
         since = time.monotonic()
         while True:
@@ -127,11 +125,40 @@ class _Cluster:
             elif time.monotonic() - since > self.how.seconds:
                 raise programs.Failed(f"the cluster {self.scheduler} has no worker")
 
+
+class _Cluster(Tasks):
+    """The client of a cluster, of which each task is a chunk of pictures."""
+
+    def __init__(self, scheduler: str, elsewhere: Optional[bytes], how: How) -> None:
+        super().__init__(scheduler, replace(how, room=""), TASKS)
+        self.elsewhere = elsewhere
+        self.suspects: List[FoundFile] = []  # the pictures of chunks at which workers died
+
+    def looked(self, work: Iterable[FoundFile]) -> Iterator[PictureRecord]:
+        """The result for each of these files, in order of arrival."""
+        with self.connected() as client:
+            chunks = _chunks(work)
+            while True:
+                for chunk in islice(chunks, self.lacking(client)):
+                    self._submit(client, chunk)
+                if not self.tasks and not self.suspects:
+                    break
+                if not self.tasks:  # one of these runs without any other task, so a failure has no other cause
+                    self._submit(client, [self.suspects.pop()])
+                for task in self.finished(client):
+                    yield from self._answers(task)
+
+    def _submit(self, client: Any, chunk: Sequence[FoundFile]) -> None:
+        root = chunk[0].root
+        names = [os.path.relpath(it.path, root) for it in chunk]
+        task = client.submit(look_there, self.elsewhere or root, names, self.how, pure=False, retries=2)
+        self.tasks[task] = chunk
+
     def _answers(self, task: Any) -> Iterator[PictureRecord]:
         chunk = self.tasks.pop(task)
         try:
-            answers = task.result()
-        except KilledWorker:
+            answers = self.result(task)
+        except Died:
             if len(chunk) == 1:
                 yield _failed(chunk[0], "the workers that looked at it died")
             else:

@@ -27,7 +27,7 @@ from .excluded import Excluded
 from .moved import Departed, moved_folders
 from .progress import Progress
 from .seen import Numbers, Paths
-from .walk import FoundFile, Unlisted, below, can_overlap, outermost
+from .walk import FoundFile, Part, Unlisted, below, can_overlap, outermost
 
 BATCH = 1000  # pictures of one transaction
 AHEAD = 500  # files that are found at once; as many again are known before the first of them is looked at
@@ -66,6 +66,7 @@ class IndexOptions:
     moved_line: Optional[Callable[[bytes, bytes, int], str]] = None  # makes one line for all pictures that moved with their folder
     lines: Optional[Lines] = None  # makes the lines about folders that can't be read and names without a file; that of `how` by default
     own: Sequence[str] = ()  # files that aren't looked at, besides the catalogue's
+    part: Optional[Part] = None  # of the one folder that is named, of which the catalogue has no other pictures
 
 
 @dataclass
@@ -144,7 +145,7 @@ class _Finding:
                 work.unfinished.add(number)
         own = [path for name in (catalogue.name, *options.own) for path in _own_files(name)]
         on_sidecar = self._note_sidecar if options.how.sidecars else None
-        self._files = below(options.names, work.unlisted.append, own, on_sidecar, options.excluded)
+        self._files = below(options.names, work.unlisted.append, own, on_sidecar, options.excluded, options.part)
 
     def each(self, between: Callable[[], object]) -> Iterator[FoundFile]:
         """The files that have to be looked at; `between` is called each time that some are found. The catalogue is not locked outside."""

@@ -45,6 +45,7 @@ def below(
     leave_out: Collection[bytes] = (),
     on_sidecar: Optional[Callable[[bytes], object]] = None,
     excluded: Optional[Excluded] = None,
+    part: Optional[Part] = None,
 ) -> Iterator[FoundFile]:
     """Each file of the arguments, and all files below each folder, in the order of their names. Only the names of one folder are held.
 
@@ -52,6 +53,7 @@ def below(
     neither is what is excluded, with all below it.
     A folder that can't be read, and a name without a file, are passed to `unlisted`, and the other files are still returned.
     With `on_sidecar` the XMP files that belong to pictures are passed to it, and are with their pictures; a name that is given is always returned.
+    With `part` only those of a part of a folder.
     """
     folders = Folders()
     excluded = excluded or Excluded()
@@ -66,15 +68,38 @@ def below(
                 unlisted(Unlisted(top, reason(error)))
             continue
         if stat.S_ISDIR(now.st_mode):
-            yield from _below(top, unlisted, leave_out, on_sidecar, excluded)
+            yield from _below(top, unlisted, leave_out, on_sidecar, excluded, part)
         elif top not in leave_out and not excluded.passes_over(os.path.basename(top)):
             yield FoundFile(top, os.path.dirname(top), Stamp.of(now), () if on_sidecar is None else folders.of(top))
 
 
+class Part(NamedTuple):
+    """A part of what is below a folder: a folder directly in it with all below that, or the other files of the folder itself."""
+
+    top: bytes
+    folder: bytes  # `top` itself: its own files
+
+    @property
+    def is_flat(self) -> bool:
+        """Whether folders below are other parts."""
+        return self.folder == self.top
+
+
+def parts_of(top: bytes, excluded: Excluded) -> Tuple[List[Part], bool]:
+    """The folders of a folder as parts, and whether it has files of its own. Raises `OSError`."""
+    folders, files = _listed(top, len(top.rstrip(b"/")) + 1, excluded)
+    return [Part(top, os.path.join(top, name)) for name in folders], bool(files)
+
+
 def _below(
-    top: bytes, unlisted: OnUnlisted, leave_out: Collection[bytes], on_sidecar: Optional[Callable[[bytes], object]], excluded: Excluded
+    top: bytes,
+    unlisted: OnUnlisted,
+    leave_out: Collection[bytes],
+    on_sidecar: Optional[Callable[[bytes], object]],
+    excluded: Excluded,
+    part: Optional[Part] = None,
 ) -> Iterator[FoundFile]:
-    waiting = [top]
+    waiting = [part.folder if part else top]
     head = len(top.rstrip(b"/")) + 1  # bytes of a path before what is below the folder
     while waiting:
         folder = waiting.pop()
@@ -84,7 +109,8 @@ def _below(
             unlisted(Unlisted(folder, reason(error)))
             continue
         inside = os.path.join(folder, b"")
-        waiting += [inside + it for it in reversed(folders) if inside + it not in leave_out]
+        if not (part and part.is_flat):
+            waiting += [inside + it for it in reversed(folders) if inside + it not in leave_out]
         files = [it for it in files if inside + it not in leave_out] if leave_out else files
         known = Folder([] if on_sidecar is None else files)
         for name in files:

@@ -1,0 +1,196 @@
+"""`index --shards`: each folder that is directly in one of the folders is a part of the archive, with a catalogue of its own; and so are the
+other files of each. The parts are independent of each other: no two processes write to one catalogue, and none knows all pictures.
+"""
+
+from __future__ import annotations
+
+import hashlib
+import os
+import re
+from collections import Counter
+from dataclasses import replace
+from typing import Dict, FrozenSet, Iterator, List, NamedTuple, Optional, Sequence, Tuple
+
+from ..catalogue import shards
+from ..catalogue.store import NUMBERS, Catalogue
+from ..model.errors import WrongUse
+from ..model.problems import Problem
+from ..model.records import PictureRecord
+from ..model.texts import shown_path
+from .excluded import Excluded
+from .index import IndexOptions, index
+from .walk import Part, outermost, parts_of
+
+_WORD = 30  # characters of the name of a catalogue that are those of its folder
+
+
+class WrongFolder(WrongUse):
+    """The folder for catalogues, or one that is to be indexed, can't be used so."""
+
+
+class Shard(NamedTuple):
+    """A part of an archive and its catalogue."""
+
+    name: str  # below the folder of catalogues
+    part: Part
+    is_there: bool = True  # whether the folder of the part is
+
+
+class Plan(NamedTuple):
+    """The parts of a run."""
+
+    shards: List[Shard]
+    has_sidecars: bool  # whether the catalogues that are there have XMP sidecars ..
+    has_digests: bool  # .. and digests of coded pictures
+    is_empty: bool  # whether none of them has a picture
+    excluded: int  # files and folders directly in the folders that are passed over
+    unused: FrozenSet[str]  # patterns that have fitted none of these
+
+
+class Outcome(NamedTuple):
+    """What became of a part, or of all."""
+
+    counts: "Counter[str]"
+    unused: FrozenSet[str]  # patterns that have fitted nothing
+    damaged: int = 0  # of the pictures that were looked at
+    refused: int = 0  # of all pictures, with a block that isn't accepted
+    excluded: int = 0  # pictures of an earlier run that are excluded now
+    continued: int = 0  # 1: an earlier run was stopped
+    problem: Optional[PictureRecord] = None  # why the part wasn't looked at
+
+
+def plan(where: str, names: Sequence[bytes], patterns: Sequence[str]) -> Plan:
+    """The parts of some folders, whose catalogues are listed before the first of them is made: an answer over the list then knows which are
+    missing. Raises `WrongFolder`."""
+    tops = list(outermost(names))
+    listed = _check(where, tops)
+    known = {_key_of(name): name for name in listed}
+    excluded = Excluded(patterns)
+    now = {_key(part): part for top in tops for part in _parts(top, excluded, known)}
+    gone = [shard for key, name in known.items() if key not in now for shard in _gone(where, name, tops, excluded)]
+    for top in tops:
+        if not os.path.isdir(top) and not any(shard.part.top == top for shard in gone):
+            raise WrongFolder(f"there is no folder {shown_path(top)}")
+    first = max(map(_number_of, listed), default=-1) + 1
+    new = [_name(number, key, now[key]) for number, key in enumerate((key for key in now if key not in known), first)]
+    os.makedirs(where, exist_ok=True)
+    if new:
+        shards.put_list(where, [*listed, *new])
+    about = [_about(name) for name in (os.path.join(where, name) for name in listed) if os.path.exists(name)]
+    kinds = [any(one[at] for one in about) for at in range(3)]
+    found = [Shard(name, now[_key_of(name)]) for name in (*listed, *new) if _key_of(name) in now]
+    return Plan([*found, *gone], kinds[0], kinds[1], not kinds[2], excluded.count, frozenset(excluded.unused()))
+
+
+def _check(where: str, tops: Sequence[bytes]) -> List[str]:
+    """The catalogues that are listed. Raises `WrongFolder`."""
+    inside = os.path.join(os.path.realpath(os.fsencode(where)), b"")
+    shown = shown_path(os.fsencode(where))
+    for top in tops:
+        if os.path.lexists(top) and not os.path.isdir(top):
+            raise WrongFolder(f"{shown_path(top)} is no folder: --shards makes a catalogue of each folder")
+        if inside.startswith(os.path.join(os.path.realpath(top), b"")):
+            raise WrongFolder(f"{shown} lies below {shown_path(top)}, which is indexed: give another folder to --shards")
+    if not os.path.lexists(where):
+        return []
+    if not os.path.isdir(where) or (os.listdir(where) and not shards.is_folder(where)):
+        raise WrongFolder(f"{shown} is no folder of catalogues: give a new folder to --shards")
+    listed = shards.listed(where)
+    for name in listed:
+        if not re.fullmatch(r"[0-9]{5,}-.*-[0-9a-f]{16}\.catalogue", name):
+            raise WrongFolder(f"{shown} lists {shown_path(os.fsencode(name))}, which isn't of index --shards: give a new folder")
+    return listed
+
+
+def _parts(top: bytes, excluded: Excluded, known: Dict[str, str]) -> Iterator[Part]:
+    """The parts of a folder. One that can't be listed has its own files alone, and the run says why."""
+    own = Part(top, top)
+    try:
+        folders, has_files = parts_of(top, excluded)
+    except OSError:
+        folders, has_files = [], os.path.isdir(top)
+    yield from folders
+    if has_files or (os.path.isdir(top) and (not folders or _key(own) in known)):
+        yield own
+
+
+def _key(part: Part) -> str:
+    """What tells the catalogue of a part: a part has the same one in each run."""
+    return hashlib.sha256(part.folder + b"/." * part.is_flat).hexdigest()[:16]
+
+
+def _name(number: int, key: str, part: Part) -> str:
+    word = re.sub(r"[^0-9A-Za-z._-]+", "_", os.path.basename(part.folder).decode("utf-8", "replace"))[:_WORD]
+    return f"{number:05}-{word}-{key}.catalogue"
+
+
+def _key_of(name: str) -> str:
+    return name.rpartition("-")[2].partition(".")[0]
+
+
+def _number_of(name: str) -> int:
+    return int(name.partition("-")[0])
+
+
+def _gone(where: str, name: str, tops: Sequence[bytes], excluded: Excluded) -> Iterator[Shard]:
+    """A part that isn't found now, if it was one of these folders; its catalogue knows its folder if it has a picture."""
+    file = os.path.join(where, name)
+    if not os.path.exists(file):
+        return
+    with Catalogue(file) as catalogue:
+        row = next(catalogue.rows("SELECT root, path FROM pictures LIMIT 1"), None)
+        if row and row[0] in tops:
+            top, below = row[0], row[1][len(row[0].rstrip(b"/")) + 1 :]
+            part = Part(top, os.path.join(top, below.split(b"/")[0]) if b"/" in below else top)
+            if not os.path.isdir(part.folder) or not excluded.has_below(os.path.basename(part.folder)):
+                yield Shard(name, part, False)
+
+
+def _about(name: str) -> Tuple[bool, bool, bool]:
+    """Whether a catalogue has XMP sidecars, digests of coded pictures, and a picture."""
+    with Catalogue(name) as catalogue:
+        return catalogue.has_sidecars(), catalogue.has_digests(), not catalogue.is_empty()
+
+
+def indexed(where: str, shard: Shard, options: IndexOptions, patterns: Sequence[str]) -> Outcome:
+    """Looks at the pictures of a part. If its folder isn't there, as of a disk that isn't mounted, its pictures stay as they were."""
+    file = os.path.join(where, shard.name)
+    if not shard.is_there:
+        return _missing(file, shard, patterns)
+    excluded = Excluded(patterns)
+    with Catalogue(file, make=True) as catalogue:
+        catalogue.number_above(_number_of(shard.name) * NUMBERS)
+        was_stopped = next(catalogue.rows("SELECT ended IS NULL FROM runs ORDER BY id DESC LIMIT 1"), (0,))[0]
+        counts = index(replace(options, names=[shard.part.top], part=shard.part, excluded=excluded), catalogue)
+        damaged = _count(catalogue, "damage != '' AND run = (SELECT max(id) FROM runs)")
+        refused = _count(catalogue, "problem IS NULL AND (exif IS NULL OR iptc IS NULL OR xmp IS NULL)")
+    if excluded.count and not shard.part.is_flat:  # what lies directly in the folder is counted already
+        counts["excluded"] = excluded.count
+    return Outcome(counts, frozenset(excluded.unused()), damaged, refused, excluded.known, was_stopped)
+
+
+def _missing(file: str, shard: Shard, patterns: Sequence[str]) -> Outcome:
+    with Catalogue(file) as catalogue:
+        count = catalogue.count_below(shard.part.folder)
+    return not_looked_at(
+        shard, Problem.UNREADABLE, f"the folder isn't there or can't be read; its {count:,} pictures stay as they were", patterns
+    )
+
+
+def not_looked_at(shard: Shard, problem: Problem, detail: str, patterns: Sequence[str]) -> Outcome:
+    """The outcome of a part that wasn't looked at, and why."""
+    picture = PictureRecord.of(shard.part.folder, b"", problem=problem, detail=detail)
+    return Outcome(Counter([picture.state]), frozenset(patterns), problem=picture)
+
+
+def _count(catalogue: Catalogue, condition: str) -> int:
+    return int(next(catalogue.rows(f"SELECT count(*) FROM pictures WHERE {condition}"))[0])
+
+
+def together(planned: Plan, outcomes: Sequence[Outcome]) -> Outcome:
+    """What became of all parts."""
+    counts: "Counter[str]" = Counter({"excluded": planned.excluded} if planned.excluded else {})
+    for outcome in outcomes:
+        counts.update(outcome.counts)
+    numbers = [sum(values) for values in zip((0, 0, 0, 0), *(outcome[2:6] for outcome in outcomes))]
+    return Outcome(counts, planned.unused.intersection(*(outcome.unused for outcome in outcomes)), *numbers)
