@@ -1,19 +1,14 @@
 """`index --scheduler` over a Dask cluster on this machine, also where workers are killed."""
 
-import json
 import os
-import shutil
 import sqlite3
-import subprocess
 import tempfile
-import time
 import unittest
-from contextlib import ExitStack
 from types import SimpleNamespace
 from unittest import mock
 
-from made_blocks import MAKE, block, with_exif
-from studio import SMALL_JPEG, Studio, WithPictures, interpreter_with, needs, run, write
+from studio import needs, run, write
+from with_cluster import EXV, GOOD, WithCluster
 
 from exifnorm_pictures.extract import programs
 from exifnorm_pictures.model.records import PictureRecord, Stamp
@@ -21,84 +16,16 @@ from exifnorm_pictures.scan import cluster
 from exifnorm_pictures.scan.batches import How
 from exifnorm_pictures.scan.walk import FoundFile
 
-EXV = b"\xff\x01Exiv2\xff\xd9"  # exiv2's own format, which has no reader here
-GOOD = with_exif(SMALL_JPEG, block([MAKE]))
-PATIENCE = 120  # seconds that a process of the cluster may take to begin
-
 
 @needs("exiftool", "distributed")
-class Cluster(WithPictures):
-    """Each test has a scheduler and one worker with its nanny, which begins the worker again where it is killed."""
+class Cluster(WithCluster):
+    """Each test has a folder of many pictures."""
 
     def setUp(self):
         super().setUp()
-        self.python = interpreter_with("distributed")
-        self.open = ExitStack()
-        self.addCleanup(self.open.close)
         os.mkdir(self.path("p"))
         for number in range(150):
             write(self.path("p", f"a{number:03}.jpg"), GOOD)
-
-    def started(self, *words, **more):
-        log = self.open.enter_context(open(self.path("cluster.log"), "ab"))
-        # away from the folder of the pictures, so that a name that isn't absolute leads nowhere
-        it = subprocess.Popen([self.python, "-m", *words], cwd="/", env=Studio.environment(**more), stdout=log, stderr=log)
-        self.open.callback(it.wait, PATIENCE)
-        self.open.callback(it.terminate)
-
-    def cluster(self, **more):
-        """The address of a new cluster, whose scheduler drops a picture at which one worker died."""
-        told = self.path("scheduler.json")
-        self.started(
-            "distributed.cli.dask_scheduler",
-            "--host",
-            "127.0.0.1",
-            "--port",
-            "0",
-            "--no-dashboard",
-            "--scheduler-file",
-            told,
-            DASK_DISTRIBUTED__SCHEDULER__ALLOWED_FAILURES=more.pop("failures", "3"),
-        )
-        ends = time.monotonic() + PATIENCE
-        while not self.is_written(told) and time.monotonic() < ends:
-            time.sleep(0.1)
-        self.started(
-            "distributed.cli.dask_worker",
-            "--scheduler-file",
-            told,
-            "--nthreads",
-            "2",
-            "--no-dashboard",
-            "--local-directory",
-            self.path("worker"),
-            **more,
-        )
-        with open(told) as file:
-            return json.load(file)["address"]
-
-    def is_written(self, name):
-        """Whether a file is there with its JSON: the scheduler makes it before it writes to it."""
-        try:
-            with open(name) as file:
-                json.load(file)
-        except (FileNotFoundError, ValueError):
-            return False
-        return True
-
-    def index(self, *words, status=0, quiet=("--quiet",)):
-        done = run([self.python, "-m", "exifnorm_pictures", "index", *words, "--catalogue", "c", *quiet], self.folder, seconds=240)
-        self.assertEqual(done.returncode, status, done)
-        return done.stdout.decode().splitlines()
-
-    def deadly(self, condition):
-        """An ExifTool that kills the worker that calls it, if the condition is true."""
-        os.mkdir(self.path("bin"))
-        real = shutil.which("exiftool")
-        text = f'#!/bin/sh\n[ "$3" = -ver ] && exec {real} "$@"\nif {condition}; then kill -9 $PPID; exit; fi\nexec {real} "$@"\n'
-        write(self.path("bin", "exiftool"), text.encode())
-        os.chmod(self.path("bin", "exiftool"), 0o755)
-        return self.path("bin") + os.pathsep + Studio.environment()["PATH"]
 
     def test_a_worker_that_is_killed_loses_nothing(self):
         write(self.path("p", "a.exv"), EXV)
