@@ -117,7 +117,7 @@ NAMES, PLACES = st.sampled_from(sorted(FILES)), st.sampled_from(FOLDERS)
 WHAT = st.sampled_from(("stays", "stays", "changes", "moves", "goes"))
 
 
-@hypothesis.settings(max_examples=10, deadline=None)  # each makes two states of an archive, and runs sixty commands
+@hypothesis.settings(max_examples=6, deadline=None)  # each makes two states of an archive, and runs sixty commands
 @hypothesis.given(
     st.lists(st.tuples(NAMES, PLACES), min_size=6, max_size=14),
     st.lists(st.tuples(WHAT, NAMES, PLACES), min_size=14, max_size=14),
@@ -229,7 +229,7 @@ def test_a_folder_is_one_of_pictures_unless_its_list_says_otherwise(archive, cal
     assert called_lines("changed", "one", "two", "--no-exiftool")[0] == 1
     assert called_lines("list", "one")[1][-1] == "1 of 1 picture"
     status, _, messages = called_lines("same", "--catalogue", "one")
-    assert status == 4 and "one is no catalogue" in messages
+    assert status == 4 and "no catalogue" in messages
 
 
 def test_with_sidecars_and_without(archive, called_lines):
