@@ -305,7 +305,9 @@ class Messages(WithPictures):
             self.assertEqual((read(name), os.listdir(self.folder)), (octets, ["c"]))
         self.assertEqual(
             self.raised(
-                NoCatalogue, index.run, argparse.Namespace(source=None, folders=[""], files_from=None, catalogue=name, null=False, limit=60)
+                NoCatalogue,
+                index.run,
+                argparse.Namespace(source=None, folders=[""], files_from=None, catalogue=name, shards=None, null=False, limit=60),
             ),
             "a name is empty",
         )

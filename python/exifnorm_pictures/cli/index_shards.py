@@ -46,7 +46,10 @@ def _settle(arguments: argparse.Namespace) -> List[bytes]:
         arguments.shards = arguments.catalogue
     elif arguments.catalogue is not None:
         raise NotTogether("--shards is in place of a catalogue: leave one out")
-    return named(arguments, [*([] if arguments.source is None else [arguments.source]), *arguments.folders])
+    names = named(arguments, [*([] if arguments.source is None else [arguments.source]), *arguments.folders])
+    if any(not name for name in names):
+        raise NotTogether("a name is empty")
+    return names
 
 
 def _how(arguments: argparse.Namespace, planned: Plan) -> How:
