@@ -371,13 +371,18 @@ def test_long_texts_cost_a_limited_number_of_steps(monkeypatch: pytest.MonkeyPat
 def test_rules_and_moved_folders(folder: Path, called: Called) -> None:
     put(str(folder), {f"p/monday/{number}.jpg": jpeg(app1(exif(b"ab%d" % number))) for number in range(5)})
     (folder / "rules").write_text("every picture needs credit\n")
-    called("index", "p", "--catalogue", "old", "--quiet")
-    shutil.move(str(folder / "p/monday"), str(folder / "p/tuesday"))
+    (folder / "p" / "zzz").mkdir()
+    (folder / "p" / "zzz" / "big.tif").write_bytes(b"II+\0\x10\0\0\0" + bytes(16))  # offsets of 16 bytes
     called("index", "p", "--catalogue", "c", "--quiet")
+    shutil.move(str(folder / "p/monday"), str(folder / "p/tuesday"))
+    called("index", "p", "--catalogue", "c", "--keep-old", "old", "--quiet")
     called("report", "c", "--since", "old", "--rules", "rules", "--html", "page.html")
     page = Text((folder / "page.html").read_text(encoding="utf-8"))
     assert "5 pictures moved from monday to tuesday" in " ".join(page.sections["summary"])
+    assert "6 files below" in " ".join(page.texts("header")), "files that are gone are counted"
+    problems = " ".join(page.sections["problems"])
+    assert 0 < problems.index("zzz/big.tif") < problems.index("monday/0.jpg"), "what needs somebody isn't the first one"
     broken = " ".join(page.sections["broken"])
-    assert broken.count("line 1: every picture needs credit") == 5 and "1 of 1 rule broken, by 5 of 5 pictures" in broken
+    assert broken.count("line 1: every picture needs credit") == 5 and "1 of 1 rule broken, by 5 of 6 pictures" in broken
     found = [json.loads(it) for it in called("check", "rules", "c", "--json")[1].splitlines()]
     assert len([it for it in found if it.get("text") is None and "path" in it]) == 5

@@ -73,6 +73,15 @@ def report(tmp_path_factory: pytest.TempPathFactory, library: Path) -> Path:
     run("index", "p", "--catalogue", "c", "--quiet")
     for page in ("page.html", "pages/"):
         run("report", "c", "--since", "old", "--rules", "rules", "--html", page)
+    for number in range(21):  # so that each list has a page of its own
+        for name, octets in {
+            "overlap.jpg": with_exif(SMALL_JPEG, BLOCKS["Overlap"]),
+            "trailer.jpg": jpeg(app1(exif(b"abc"))) + b"TRAILER",
+        }.items():
+            put(f"many/{number}{name}", octets)
+        put(f"many/{number}.txt", b"text")
+    run("index", "p", "--catalogue", "many.catalogue", "--quiet")
+    run("report", "many.catalogue", "--since", "old", "--rules", "rules", "--html", "many/")
     return folder
 
 
@@ -125,9 +134,13 @@ CONTRAST = """(() => {
 
 
 @pytest.mark.parametrize("dark", [False, True])
-def test_each_text_has_contrast(dark: bool, browser: Browser, report: Path) -> None:
-    texts, faint = opened(browser, report, dark=dark).ask(CONTRAST)
-    assert texts > 200 and faint == []
+@pytest.mark.parametrize("page, least", [("page.html", 200), ("many/*-1.html", 10)])
+def test_each_text_has_contrast(page: str, least: int, dark: bool, browser: Browser, report: Path) -> None:
+    for file in sorted(report.glob(page)):
+        browser.show(dark=dark)
+        browser.open(f"file://{file}")
+        texts, faint = browser.ask(CONTRAST)
+        assert texts > least and faint == [], file.name
 
 
 def tree(browser: Browser) -> List[Dict[str, Any]]:
@@ -139,17 +152,32 @@ def named(nodes: List[Dict[str, Any]], *roles: str) -> List[Tuple[str, str]]:
     return [(it["role"]["value"], it.get("name", {}).get("value", "")) for it in nodes if it["role"]["value"] in roles]
 
 
-def test_what_a_screen_reader_has(browser: Browser, report: Path) -> None:
-    nodes = tree(opened(browser, report))
+LISTS = ("changed", "contradictions", "broken", "same", "refused", "unread", "problems", "folders")
+
+
+@pytest.mark.parametrize("page", ["page.html", "pages/index.html", "pages/*-1.html", "many/*-1.html"])
+def test_what_a_screen_reader_has(page: str, browser: Browser, report: Path) -> None:
+    files = sorted(report.glob(page))
+    assert page != "many/*-1.html" or {it.name for it in files} == {f"{key}-1.html" for key in LISTS}
+    for file in files:
+        browser.open(f"file://{file}")
+        has_landmarks_and_names(browser)
+
+
+def has_landmarks_and_names(browser: Browser) -> None:
+    nodes = tree(browser)
     assert {role for role, _ in named(nodes, "banner", "navigation", "main", "contentinfo")} == {
         "banner",
         "navigation",
         "main",
         "contentinfo",
     }
-    without = [it for it in named(nodes, "link", "heading", "navigation", "region", "image", "img", "table") if not it[1].strip()]
-    assert [it for it in without if it[0] != "table"] == [], "they have no name"
-    assert browser.ask("[...document.querySelectorAll('table.chart, table.summary')].every((it) => it.caption.textContent.trim())")
+    fields = named(nodes, "link", "heading", "navigation", "region", "image", "img", "table", "searchbox", "combobox")
+    assert [it for it in fields if not it[1].strip()] == [], "they have no name"
+    pages = named([it for it in nodes if it["role"]["value"] == "navigation"], "navigation")
+    assert len(set(pages)) == len(pages), "two landmarks of one name"
+    links = browser.ask("[...document.querySelectorAll('.pages a')].map((it) => it.getAttribute('aria-label'))")
+    assert len(set(links)) == len(links), "links of one name to several pages"
     assert browser.ask("document.documentElement.lang") == "en"
     levels = browser.ask("[...document.querySelectorAll('h1, h2, h3, h4')].map((it) => Number(it.tagName[1]))")
     assert levels.count(1) == 1 and levels[0] == 1
@@ -164,23 +192,31 @@ def test_contents_lead_to_each_section(browser: Browser, report: Path) -> None:
     assert links == browser.ask("[...document.querySelectorAll('section')].map((it) => it.id)")
 
 
-def test_everything_is_reached_by_the_keyboard_in_the_order_of_the_page(browser: Browser, report: Path) -> None:
-    opened(browser, report)
+@pytest.mark.parametrize("page, steps", [("page.html", 40), ("many/unread-1.html", 24), ("many/problems-1.html", 3)])
+def test_everything_is_reached_by_the_keyboard_in_the_order_of_the_page(page: str, steps: int, browser: Browser, report: Path) -> None:
+    browser.open(f"file://{report}/{page}")
     wanted = browser.ask("[...document.querySelectorAll('a, input, select')].map((it, at) => (it.dataset.at = at)).length")
     seen = []
-    for _ in range(40):
+    for _ in range(steps):
         browser.press("Tab", 9)
         seen.append(browser.ask("Number(document.activeElement.dataset.at ?? -1)"))
-    assert wanted > 40 and seen == list(range(40))
+    assert wanted > steps and seen == list(range(steps))
     ring = "(() => { const it = getComputedStyle(document.activeElement); return [it.outlineStyle, parseFloat(it.outlineWidth)]; })()"
     style, width = browser.ask(ring)
     assert style != "none" and width >= 2, "nobody sees where the keyboard is"
 
 
 @pytest.mark.parametrize("width", [320, 390, 1280])
-def test_nothing_is_cut_off(width: int, browser: Browser, report: Path) -> None:
+@pytest.mark.parametrize("page", ["page.html", "many/*-1.html"])
+def test_nothing_is_cut_off(page: str, width: int, browser: Browser, report: Path) -> None:
     """No sideways scrolling (WCAG 2.1, 1.4.10), and no text beyond its box."""
-    opened(browser, report, width=width)
+    for file in sorted(report.glob(page)):
+        browser.show(width=width)
+        browser.open(f"file://{file}")
+        has_all_in_its_width(browser, width)
+
+
+def has_all_in_its_width(browser: Browser, width: int) -> None:
     assert browser.ask("document.documentElement.scrollWidth <= document.documentElement.clientWidth")
     beyond = """[...document.querySelectorAll('th, td, a, p, li, h2, h3, caption')].filter((it) => it.scrollWidth > it.clientWidth + 1 &&
       getComputedStyle(it).display !== 'inline').map((it) => it.outerHTML.slice(0, 100))"""

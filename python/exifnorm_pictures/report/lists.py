@@ -42,6 +42,11 @@ class Counts:
     parts: "List[Tuple[str, int]]" = field(default_factory=list)  # the most frequent unread parts, and the number of pictures with each
     maker_notes: int = 0  # pictures with a MakerNote
 
+    @property
+    def there(self) -> int:
+        """The files, without those that are gone or have moved."""
+        return self.total - sum(self.states[it] for it in NOT_THERE)
+
 
 def counts_of(about: About) -> Counts:
     """What SQLite counts."""
@@ -191,11 +196,14 @@ def unread(about: About) -> Iterator[Entry]:
 
 
 def problems(about: About) -> Iterator[Entry]:
-    """The files without an answer: first those that should have one, then those that are no pictures."""
+    """The files without an answer: first those that should have one, then those that are gone or have moved, then those that are no pictures."""
     where = f"ifnull(problem, '') != ''{_and_chosen(about)}"
-    query = f"SELECT {PICTURE_COLUMNS} FROM pictures WHERE {where} ORDER BY problem = '{Problem.NO_PICTURE}', path"
+    query = f"SELECT {PICTURE_COLUMNS} FROM pictures WHERE {where} ORDER BY problem = '{Problem.NO_PICTURE}', {_IS_GONE}, path"
     for picture in about.catalogue.rows(query, (), picture_of_row):
         yield Entry(picture._replace(maker_notes="", sidecars=""), (picture.path,))
+
+
+_IS_GONE = f"ifnull(problem, '') IN {tuple(map(str, NOT_THERE))}"
 
 
 def _and_chosen(about: About) -> str:
@@ -215,7 +223,7 @@ def folders(about: About) -> Iterator[Entry]:
     catalogue = about.catalogue
     with catalogue.guarded():
         catalogue.base.create_function("folder_of", 1, os.path.dirname, deterministic=True)
-    is_shown = f"ifnull(problem, '') NOT IN {(*NOT_THERE, str(Problem.NO_PICTURE))}{_and_chosen(about)}"
+    is_shown = f"NOT {_IS_GONE} AND problem IS NOT '{Problem.NO_PICTURE}'{_and_chosen(about)}"
     query = f"SELECT path, {_STATE} FROM pictures WHERE {is_shown} ORDER BY folder_of(path), path"
     rows = catalogue.rows(query, (), _two_words)
     for folder, of_folder in groupby(rows, lambda row: os.path.dirname(row[0])):
