@@ -566,3 +566,26 @@ def test_digests_without_the_maker_note(one, other):
 def _place(fields):
     """Where the MakerNote is: in a listing that depends on the other fields alone."""
     return [(it.directory, it.tag) for it in fields].index(MAKER_NOTE)
+
+
+@pytest.mark.parametrize("command", ("index p --catalogue c --jobs 1 --quiet", "nightly p --catalogue c --jobs 1"))
+def test_maker_notes_without_exiftool(command, folder, called, monkeypatch):
+    """The pictures are read all the same, which is said once, what needs the MakerNotes says that it isn't known, and the next run with ExifTool
+    asks for them."""
+    (folder / "p").mkdir()
+    for name, picture in (("a", noted()), ("b", noted(moved=64))):
+        (folder / "p" / f"{name}.jpg").write_bytes(picture)
+    path = os.environ["PATH"]
+    monkeypatch.setenv("PATH", "/nowhere")
+    status, out, messages = called(*command.split(), "--maker-notes")
+    assert status in (0, 1) and messages.count("ExifTool isn't installed") == 1 and "NeedsExifTool" not in out, out + messages
+    query = "SELECT count(*), sum(problem IS NULL), sum(not_read != ''), (SELECT count(*) FROM maker_notes) FROM pictures"
+    with sqlite3.connect("c") as base:
+        assert base.execute(query).fetchall() == [(2, 2, 0, 0)]
+    status, out, _ = called("same", "c")
+    assert status == 2 and "ExifTool isn't installed" in out, out
+    assert called("list", "c", "--with", "serial")[0] == 2
+    monkeypatch.setenv("PATH", path)
+    assert "installed" not in called(*command.split(), "--maker-notes")[2]
+    with sqlite3.connect("c") as base:
+        assert base.execute(query).fetchall() == [(2, 2, 0, 2)]

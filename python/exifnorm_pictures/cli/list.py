@@ -156,7 +156,7 @@ def _unread(labels: Sequence[str]) -> str:
             ", or they were not wholly read" if set(labels) != {DAMAGE} else ""
         )
     if any(map(is_in_maker_notes, labels)):
-        return "they were not wholly read, or have a MakerNote, which index --maker-notes reads"
+        return "they were not wholly read, or have a MakerNote, which index --maker-notes --again reads"
     return "they were not wholly read"
 
 

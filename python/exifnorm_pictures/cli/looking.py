@@ -10,6 +10,7 @@ from typing import List, Optional
 
 from ..catalogue import shards
 from ..catalogue.store import Catalogue, NoCatalogue
+from ..extract import programs
 from ..files import signals
 from ..scan.batches import How, Lines
 from ..scan.index import IndexOptions, index
@@ -19,9 +20,14 @@ from .output import closed_folder
 from .parser import refuse
 
 
+_DEBIAN = f"Debian: {programs.PACKAGES['exiftool']}"
+
+
 def how_of(arguments: argparse.Namespace, room: str, lines: Optional[Lines] = None) -> How:
     """How a command looks at pictures."""
     notes, pixels, sidecars = (getattr(arguments, it, False) for it in ("maker_notes", "pixels", "sidecars"))
+    if notes and not getattr(arguments, "scheduler", None) and not programs.is_there("exiftool"):
+        signals.say(f"exifnorm-pictures: note: no MakerNote is read, because ExifTool isn't installed ({_DEBIAN}); later runs ask again")
     return How(arguments.jobs, notes, arguments.whole, pixels, sidecars, arguments.limit, room, arguments.session.debug, lines)
 
 

@@ -46,7 +46,7 @@ def _look(file: FoundFile, how: How, session: Session, packs: bool) -> PictureRe
         whole_file = file_digest(file.path, blocks, how.whole)
         if file.sidecars:
             whole_file = sidecars.with_sidecars(whole_file, file.path, file.sidecars)
-        reading = _maker_notes(session, file.path, blocks, judged) if how.maker_notes else None
+        reading, is_known = _maker_notes(session, file.path, blocks, judged) if how.maker_notes else (None, True)
         pixels = _pixels(file.path, blocks) if how.pixels else (None, "", "", None)
     except LibraryMissing:  # an OSError too, but not of this file
         raise
@@ -64,7 +64,7 @@ def _look(file: FoundFile, how: How, session: Session, packs: bool) -> PictureRe
     notes = None if reading is None else _packed(reading)
     more = {"notes": notes, "coded_picture": coded, "beside": beside, "damage": damage, "sha256": whole, "sidecars": marks}
     stamp = _unless_changed(file, began)
-    if stamp and any(it.what == UNREAD_NOTES for it in blocks.not_read):
+    if stamp and not is_known:
         stamp = stamp._replace(changed=RACY)  # the next run asks again
     return PictureRecord.of_blocks(file.path, file.root, stamp, blocks, judged, file=whole_file, **more)
 
@@ -84,18 +84,21 @@ def _read(file: FoundFile, how: How, session: Session, packs: bool) -> Tuple[Blo
         return Blocks(problem=Problem.TOO_SLOW, detail=str(error)), []
 
 
-def _maker_notes(session: Session, path: bytes, blocks: Blocks, judged: Sequence[BlockRecord]) -> "Optional[NotesReading]":
-    """What ExifTool reads of the MakerNotes of a picture that has one. If it fails at them, they are a part that was not read."""
+def _maker_notes(session: Session, path: bytes, blocks: Blocks, judged: Sequence[BlockRecord]) -> "Tuple[Optional[NotesReading], bool]":
+    """What ExifTool reads of the MakerNotes of a picture that has one, and whether that is known. If it fails at them, they are a part that was
+    not read; without it the picture is as it is if nobody asks for them."""
     with_note = [block.octets for block in judged if block.note is not None]
     if not with_note:
-        return None
+        return None, True
     from ..judge import maker_notes
 
     try:
-        return maker_notes.readings_of(session, [path])[0]
+        return maker_notes.readings_of(session, [path])[0], True
     except programs.Failed:
         blocks.leave(UNREAD_NOTES, "".join(with_note).encode("ascii"))
-        return None
+        return None, False
+    except programs.Missing:
+        return None, False
 
 
 def _packed(reading: "NotesReading") -> bytes:
