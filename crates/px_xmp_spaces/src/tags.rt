@@ -180,7 +180,8 @@ impl<'a> Scope<'a> {
 
     // Whether an attribute has so with one of those at the start.
     fn is_among(&self, octets: &[u8], name: Name) -> bool
-        ensures { (attributes : List Attr) → AreListed octets.now attributes → result ≡ is_among self.now (name_view name.entry) attributes }
+        ensures { (attributes : List Attr) → AreListed octets.now attributes
+            → result ≡ is_among self.now (name_view name.entry) attributes }
     {
         px_xmp_marks::laws::attributes_in_order();
         let mut rest = octets;
