@@ -1,16 +1,14 @@
 -- The first fault of a document: octets with one are no document, and have no other.
-use Rattle.std.proofs.Common.{◌≡◌, ℕ, Bool, true, false, Option, Some, None, List, [], ◌++◌, length, drop, refl, sym, ap, subst, ◌∙◌, inl, inr, arith}
+use Rattle.std.proofs.Common.{◌≡◌, ◌⊎◌, ◌+◌, ℕ, Bool, true, false, Option, Some, None, List, [], ◌++◌, length, drop, refl, sym, ap, subst, ◌∙◌, inl, inr, arith}
 use Rattle.std.proofs.lemmas.List.{drop_at}
-use Rattle.px_xmp_text.specs.Characters.{CharactersOrFault}
+use Rattle.px_xmp_text.specs.Characters.{IsFirstBad, CharactersOrFault}
 use Rattle.px_xmp_marks.specs.Declarations.{Declared, declaration, DeclarationsAreRead}
-use Rattle.px_xmp_tree.specs.Nesting.{IsTree}
-use Rattle.px_xmp_tree.specs.Faults.{IsFault as IsTreeFault}
-use Rattle.px_xmp_tree.specs.Laws.{OneFault as OneTreeFault}
 use Rattle.px_xmp_document.specs.declared.faults.Cause.{Cause}
-use Rattle.px_xmp_document.specs.declared.faults.Cause.TheVariants.{NoCharacter, OtherEncoding, Nesting}
-use Rattle.px_xmp_document.specs.Document.{is_read, IsSplit, IsDocument}
-use Rattle.px_xmp_document.specs.Faults.{IsFault}
-use Rattle.px_xmp_document.specs.Laws.{OneFault}
+use Rattle.px_xmp_document.specs.declared.faults.Cause.TheVariants.{NoCharacter, OtherEncoding, Nesting, Attributes, Spaces}
+use Rattle.px_xmp_document.specs.Elements.{AreElements, IsElementFault}
+use Rattle.px_xmp_document.specs.Document.{is_read, IsSplit, IsDocument, order_mark_len}
+use Rattle.px_xmp_document.specs.Faults.{HasEncoding, HasElementFault, IsFault}
+use Rattle.px_xmp_document.specs.Laws.{OneElementFault, OneFault}
 
 declared_same : (p q : Declared) → Some p ≡ Some q → (p.encoding ≡ q.encoding) × (p.size ≡ q.size)
 declared_same p q h = let e : p ≡ q = cc in (ap (λ (u : Declared). u.encoding) e, ap (λ (u : Declared). u.size) e)
@@ -34,38 +32,66 @@ split_once law x d y f z e g (w, inr (k, n, none)) (v, inr (l, o, nothing)) = (
 both_bools : (b : Bool) → b ≡ true → b ≡ false → ⊥
 both_bools b t f = let e : true ≡ false = sym t ∙ f in absurd (cc)
 
-no_document : CharactersOrFault → DeclarationsAreRead → OneTreeFault → (x : List ℕ) (c : Cause) (n : ℕ) → IsFault x c n → IsDocument x → ⊥
-no_document cs ds ts x NoCharacter n h a = (cs x n h).0 a.characters
-no_document cs ds ts x OtherEncoding n (h, z) a =
+-- ---- the first fault, by layers
+
+abbrev Layered : List ℕ → Cause → ℕ → Type 0
+Layered x c n = ((c ≡ NoCharacter) × IsFirstBad x n) ⊎ ((c ≡ OtherEncoding) × HasEncoding x × (n ≡ 0)) ⊎ HasElementFault x c n
+
+layered : (x : List ℕ) (c : Cause) (n : ℕ) → IsFault x c n → Layered x c n
+layered x NoCharacter n h = inl (refl, h)
+layered x OtherEncoding n h = inr (inl (refl, h.0, h.1))
+layered x (Nesting c) n h = inr (inr h)
+layered x (Attributes c) n h = inr (inr h)
+layered x (Spaces c) n h = inr (inr h)
+
+no_document : CharactersOrFault → DeclarationsAreRead → OneElementFault → (x : List ℕ) (c : Cause) (n : ℕ) → Layered x c n → IsDocument x → ⊥
+no_document cs ds es x c n (inl (k, h)) a = (cs x n h).0 a.characters
+no_document cs ds es x c n (inr (inl (k, h, z))) a =
     let same = split_once ds x h.declaration h.tree a.declaration a.tree h.encoding a.encoding h.parts a.parts in
     both_bools (is_read a.encoding) a.encoded (subst (λ (e : Option (List ℕ)). is_read e ≡ false) same.1 h.other)
-no_document cs ds ts x (Nesting c) n h a =
+no_document cs ds es x c n (inr (inr h)) a =
     let same = split_once ds x h.declaration h.tree a.declaration a.tree h.encoding a.encoding h.parts a.parts in
-    (ts h.tree c h.offset h.wrong).0 (subst IsTree (sym same.2) a.rooted)
+    (es h.tree c h.offset h.wrong).0 (subst AreElements (sym same.2) a.elements)
 
-other_fault : CharactersOrFault → DeclarationsAreRead → OneTreeFault → (x : List ℕ) (c d : Cause) (n m : ℕ) → IsFault x c n → IsFault x d m
+-- another encoding, and elements with a fault
+encoded_once : DeclarationsAreRead → (x : List ℕ) (c : Cause) (n : ℕ) → HasEncoding x → HasElementFault x c n → ⊥
+encoded_once ds x c n h g =
+    let same = split_once ds x h.declaration h.tree g.declaration g.tree h.encoding g.encoding h.parts g.parts in
+    both_bools (is_read g.encoding) g.encoded (subst (λ (e : Option (List ℕ)). is_read e ≡ false) same.1 h.other)
+
+other_fault : CharactersOrFault → DeclarationsAreRead → OneElementFault → (x : List ℕ) (c d : Cause) (n m : ℕ) → Layered x c n → Layered x d m
     → (c ≡ d) × (n ≡ m)
-other_fault cs ds ts x NoCharacter NoCharacter n m h g = (refl, (cs x n h).1 m g)
-other_fault cs ds ts x NoCharacter OtherEncoding n m h g = absurd ((cs x n h).0 g.0.characters)
-other_fault cs ds ts x NoCharacter (Nesting d) n m h g = absurd ((cs x n h).0 g.characters)
-other_fault cs ds ts x OtherEncoding NoCharacter n m h g = absurd ((cs x m g).0 h.0.characters)
-other_fault cs ds ts x OtherEncoding OtherEncoding n m h g = (refl, h.1 ∙ sym g.1)
-other_fault cs ds ts x OtherEncoding (Nesting d) n m (h, z) g =
+other_fault cs ds es x c d n m (inl (k, h)) (inl (l, g)) = (k ∙ sym l, (cs x n h).1 m g)
+other_fault cs ds es x c d n m (inl (k, h)) (inr (inl (l, g, z))) = absurd ((cs x n h).0 g.characters)
+other_fault cs ds es x c d n m (inl (k, h)) (inr (inr g)) = absurd ((cs x n h).0 g.characters)
+other_fault cs ds es x c d n m (inr (inl (k, h, y))) (inl (l, g)) = absurd ((cs x m g).0 h.characters)
+other_fault cs ds es x c d n m (inr (inl (k, h, y))) (inr (inl (l, g, z))) = (k ∙ sym l, y ∙ sym z)
+other_fault cs ds es x c d n m (inr (inl (k, h, y))) (inr (inr g)) = absurd (encoded_once ds x d m h g)
+other_fault cs ds es x c d n m (inr (inr h)) (inl (l, g)) = absurd ((cs x m g).0 h.characters)
+other_fault cs ds es x c d n m (inr (inr h)) (inr (inl (l, g, z))) = absurd (encoded_once ds x c n g h)
+other_fault cs ds es x c d n m (inr (inr h)) (inr (inr g)) =
     let same = split_once ds x h.declaration h.tree g.declaration g.tree h.encoding g.encoding h.parts g.parts in
-    absurd (both_bools (is_read g.encoding) g.encoded (subst (λ (e : Option (List ℕ)). is_read e ≡ false) same.1 h.other))
-other_fault cs ds ts x (Nesting c) NoCharacter n m h g = absurd ((cs x m g).0 h.characters)
-other_fault cs ds ts x (Nesting c) OtherEncoding n m h (g, z) =
-    let same = split_once ds x h.declaration h.tree g.declaration g.tree h.encoding g.encoding h.parts g.parts in
-    absurd (both_bools (is_read h.encoding) h.encoded (subst (λ (e : Option (List ℕ)). is_read e ≡ false) (sym same.1) g.other))
-other_fault cs ds ts x (Nesting c) (Nesting d) n m h g =
-    let same = split_once ds x h.declaration h.tree g.declaration g.tree h.encoding g.encoding h.parts g.parts in
-    let wrong : IsTreeFault g.tree c h.offset = subst (λ (y : List ℕ). IsTreeFault y c h.offset) same.2 h.wrong in
-    let one = (ts g.tree c h.offset wrong).1 d g.offset g.wrong in
+    let wrong : IsElementFault g.tree c h.offset = subst (λ (y : List ℕ). IsElementFault y c h.offset) same.2 h.wrong in
+    let one = (es g.tree c h.offset wrong).1 d g.offset g.wrong in
     let p = h.place in
-    let q = g.place in (ap Nesting one.0, omega (arith, p, q, same.0, one.1))
+    let q = g.place in (one.0, omega (arith, p, q, same.0, one.1))
 
-pub one_fault : CharactersOrFault → DeclarationsAreRead → OneTreeFault → OneFault
-one_fault cs ds ts x c n h = (no_document cs ds ts x c n h, λ d m g. other_fault cs ds ts x c d n m h g)
+pub one_fault : CharactersOrFault → DeclarationsAreRead → OneElementFault → OneFault
+one_fault cs ds es x c n (k, h, p) =
+    let y = drop (order_mark_len x) x in (
+      no_document cs ds es y c k (layered y c k h),
+      λ d m (j, g, q).
+          let one = other_fault cs ds es y c d k j (layered y c k h) (layered y d j g) in
+          (one.0, p ∙ ap (λ (z : ℕ). order_mark_len x + z) one.1 ∙ sym q),
+    )
+
+-- what is wrong with elements is wrong with the document
+pub element_is_fault : (x : List ℕ) (c : Cause) (n : ℕ) → HasElementFault x c n → IsFault x c n
+element_is_fault x NoCharacter n h = absurd h.wrong
+element_is_fault x OtherEncoding n h = absurd h.wrong
+element_is_fault x (Nesting c) n h = h
+element_is_fault x (Attributes c) n h = h
+element_is_fault x (Spaces c) n h = h
 
 -- octets without a declaration
 

@@ -1,1 +1,3 @@
 pub mod DocumentLaws
+pub mod ElementLaws
+pub mod TreeLaws

@@ -1,3 +1,4 @@
+pub mod Elements
 pub mod Document
 pub mod Faults
 pub mod Laws

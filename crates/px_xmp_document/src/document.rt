@@ -1,8 +1,9 @@
 // The first fault of a document.
-ghost use Rattle.std.specs.Prelude.{◌≡◌, ◌≤◌, length, drop, take, option_map, MatchOption};
-ghost use Rattle.px_xmp_document.specs.Document.{is_utf, is_utf8, is_read, IsSplit, IsDocument};
-ghost use Rattle.px_xmp_document.specs.Faults.{IsFault};
+ghost use Rattle.std.specs.Prelude.{◌≡◌, ◌≤◌, length, drop, take, option_map, IfSome, MatchOption};
+ghost use Rattle.px_xmp_document.specs.Document.{is_utf, is_utf8, is_read, IsSplit, IsDocument, order_mark_len, IsFile};
+ghost use Rattle.px_xmp_document.specs.Faults.{IsFault, IsFileFault};
 
+use crate::elements::element_fault;
 use crate::faults::{Cause, Fault};
 use px_xmp_marks::{Declaration, read_declaration};
 use px_xmp_text::first_bad_character;
@@ -48,10 +49,10 @@ fn read_start<'a>(octets: &'a [u8]) -> Declaration<'a>
     }
 }
 
-/// The first fault of some octets. None: they are a document without a document type, in UTF-8. It allocates nothing.
-/// XML 1.0, productions 1 and 22.
-pub fn first_fault(octets: &[u8]) -> Option<Fault>
-    ensures { MatchOption result (IsDocument octets.now) (λ f. IsFault octets.now f.cause f.offset) }
+// The first fault of a document.
+fn document_fault(octets: &[u8]) -> Option<Fault>
+    ensures fault { MatchOption result (IsDocument octets.now) (λ f. IsFault octets.now f.cause f.offset) }
+    ensures within { IfSome result (λ f. f.offset ≤ length octets.now) }
 {
     if let Some(offset) = first_bad_character(octets) {
         return Some(Fault {
@@ -66,10 +67,36 @@ pub fn first_fault(octets: &[u8]) -> Option<Fault>
             offset: 0,
         });
     }
-    match px_xmp_tree::first_fault(octets.split_at(start.size).1) {
+    match element_fault(octets.split_at(start.size).1) {
         Some(fault) => Some(Fault {
-            cause: Cause::Nesting(fault.cause),
+            cause: fault.cause,
             offset: start.size + fault.offset,
+        }),
+        None => None,
+    }
+}
+
+// The length of the byte order mark at the start.
+fn order_mark_len(octets: &[u8]) -> usize
+    ensures value { result ≡ order_mark_len octets.now }
+    ensures within { result ≤ length octets.now }
+{
+    if octets.starts_with(b"\xEF\xBB\xBF") {
+        return 3;
+    }
+    0
+}
+
+/// The first fault of some octets. None: they are a document without a document type, in UTF-8, whose prefixes are
+/// declared; a byte order mark may precede it. It allocates nothing. XML 1.0, productions 1 and 22, and 4.3.3.
+pub fn first_fault(octets: &[u8]) -> Option<Fault>
+    ensures { MatchOption result (IsFile octets.now) (λ f. IsFileFault octets.now f.cause f.offset) }
+{
+    let size = order_mark_len(octets);
+    match document_fault(octets.split_at(size).1) {
+        Some(fault) => Some(Fault {
+            cause: fault.cause,
+            offset: size + fault.offset,
         }),
         None => None,
     }

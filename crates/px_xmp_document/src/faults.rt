@@ -9,6 +9,10 @@ pub enum Cause {
     OtherEncoding,
     /// The marks or the elements that follow the declaration are wrong.
     Nesting(px_xmp_tree::Cause),
+    /// The elements are nested, and the attributes of one are wrong.
+    Attributes(px_xmp_attributes::Cause),
+    /// The elements are nested with distinct attributes, and a prefix of one is wrong.
+    Spaces(px_xmp_spaces::Cause),
 }
 
 /// What is wrong, and where.

@@ -1,0 +1,30 @@
+// The first fault of the marks that follow the declaration.
+ghost use Rattle.std.specs.Prelude.{MatchOption};
+ghost use Rattle.px_xmp_document.specs.Elements.{AreElements, IsElementFault};
+
+use crate::faults::{Cause, Fault};
+
+// The first fault of the elements. None: they are nested, with distinct attributes, and their prefixes are declared.
+pub(crate) fn element_fault(octets: &[u8]) -> Option<Fault>
+    ensures { MatchOption result (AreElements octets.now) (λ f. IsElementFault octets.now f.cause f.offset) }
+{
+    if let Some(fault) = px_xmp_tree::first_fault(octets) {
+        return Some(Fault {
+            cause: Cause::Nesting(fault.cause),
+            offset: fault.offset,
+        });
+    }
+    if let Some(fault) = px_xmp_attributes::first_fault(octets) {
+        return Some(Fault {
+            cause: Cause::Attributes(fault.cause),
+            offset: fault.offset,
+        });
+    }
+    match px_xmp_spaces::first_fault(octets) {
+        Some(fault) => Some(Fault {
+            cause: Cause::Spaces(fault.cause),
+            offset: fault.offset,
+        }),
+        None => None,
+    }
+}
