@@ -134,6 +134,29 @@ def test_a_file(name, tmp_path):
     assert any(word in it for it in found) if word else "TooMuch" not in found, found
 
 
+def installed_command(folder):
+    """The command, as it is installed."""
+    command = folder / "bin" / "exifnorm-pictures"
+    words = [sys.executable, os.path.join(TOP, "packaging", "command.py"), command.parent, os.path.join(TOP, "python")]
+    write(command, subprocess.run(words, stdout=subprocess.PIPE, check=True).stdout)
+    os.chmod(command, 0o755)
+    return [command]
+
+
+def script_of_pip(folder):
+    (folder / "bin" / "script").write_text("import sys\nfrom exifnorm_pictures.cli.main import main\nsys.exit(main())\n")
+    return [sys.executable, "bin/script"]
+
+
+# Each way to start it in a folder
+WAYS = {
+    "installed": installed_command,
+    "pip's script": script_of_pip,
+    "python3 -m": lambda _: [sys.executable, "-m", "exifnorm_pictures"],
+    "from the sources": lambda _: [os.path.join(TOP, "exifnorm-pictures")],
+}
+
+
 class TestCurrentFolder:
     """Modules in the current folder, which may be the archive, are never imported in place of Python's."""
 
@@ -148,25 +171,16 @@ class TestCurrentFolder:
 
     @pytest.mark.parametrize("path", (":/x", ".", "../{name}:/x", "/x::/y", ""))
     def test_the_installed_command(self, folder, path):
-        command = folder / "bin" / "exifnorm-pictures"
-        script = subprocess.run(
-            [sys.executable, os.path.join(TOP, "packaging", "command.py"), command.parent, os.path.join(TOP, "python")],
-            stdout=subprocess.PIPE,
-            check=True,
-        ).stdout
-        write(command, script)
-        os.chmod(command, 0o755)
         (folder / "exifnorm_pictures").mkdir()
         (folder / "exifnorm_pictures" / "__init__.py").write_text("raise SystemExit('a package of the current folder was taken')\n")
-        self.see_that_it_runs([command], folder, path.format(name=folder.name))
+        self.see_that_it_runs(installed_command(folder), folder, path.format(name=folder.name))
 
     @pytest.mark.parametrize("path", ("", ":/x", ".", "/x:"))
     def test_the_package(self, folder, path):
         """As `python3 -m`, and as the script that pip makes."""
         python = os.path.join(TOP, "python")
         self.see_that_it_runs([sys.executable, "-m", "exifnorm_pictures"], folder, os.pathsep.join((python, path)))
-        (folder / "bin" / "script").write_text("import sys\nfrom exifnorm_pictures.cli.main import main\nsys.exit(main())\n")
-        self.see_that_it_runs([sys.executable, "bin/script"], folder, os.pathsep.join((python, path)))
+        self.see_that_it_runs(script_of_pip(folder), folder, os.pathsep.join((python, path)))
 
     @pytest.mark.parametrize("path", (":{}", ".:{}", "{}:", "bin:{}"))
     def test_programs(self, folder, path):
@@ -180,6 +194,29 @@ class TestCurrentFolder:
             [sys.executable, "-m", "exifnorm_pictures", "mend", "a.jpg", "b.jpg"], cwd=folder, capture_output=True, env=environment
         )
         assert b"isn't installed" in done.stdout and not (folder / "taken").exists(), done
+
+    @pytest.mark.parametrize("way", WAYS)
+    def test_what_python_imports_by_itself(self, way, folder):
+        """Python imports two modules if PYTHONPATH leads to them, of which an empty part or a point is the current folder, and no other way does."""
+        own = ("sitecustomize", "usercustomize")
+        for name in own:
+            (folder / f"{name}.py").write_text(f"open('{name} was imported', 'w').close()\n")
+        python = os.path.join(TOP, "python") if way in ("pip's script", "python3 -m") else ""  # how these find the packages here
+        for path, is_taken in {"": False, "/x": False, "..:/x": False, ":": True, ".": True, ":/x": True, "/x:": True}.items():
+            self.see_that_it_runs(WAYS[way](folder), folder, os.pathsep.join(filter(None, (path, python))))
+            taken = [name for name in own if (folder / f"{name} was imported").exists()]
+            assert taken == list(own) * is_taken, path
+            for name in taken:
+                (folder / f"{name} was imported").unlink()
+
+    @pytest.mark.parametrize("way", WAYS)
+    def test_a_folder_that_is_named_as_a_whole(self, way, folder):
+        """As any other folder of PYTHONPATH."""
+        path = os.pathsep.join((str(folder), os.path.join(TOP, "python")))
+        done = subprocess.run(
+            [*WAYS[way](folder), "--version"], cwd=folder, capture_output=True, env={**Studio.environment(), "PYTHONPATH": path}
+        )
+        assert b"a file of the current folder was taken" in done.stderr, done
 
     def see_that_it_runs(self, command, folder, path):
         done = subprocess.run(
