@@ -6,7 +6,7 @@ import sqlite3
 
 import pytest
 from made_blocks import with_exif
-from made_files import app1, app1_xmp, exif, jpeg, xmp
+from made_files import app1, app1_xmp, exif, jpeg, title, xmp
 from studio import SMALL_JPEG, errors, put
 from test_repairs import REFUSED
 
@@ -142,9 +142,34 @@ def test_fields_of_many_blocks(words, catalogue, capsys, monkeypatch):
             base.execute(query.format(names))
         base.execute("UPDATE blocks SET fields = ? WHERE picture = 1", (LONG,))
     base.close()
-    monkeypatch.setattr(block_fields, "fields_of", lambda _: pytest.fail("unpacked"))
+    monkeypatch.setattr(block_fields, "unpacked", lambda _: pytest.fail("unpacked"))
     assert main.main(words) == 4
     assert "too long" in capsys.readouterr().err
+
+
+def test_fields_are_unpacked_where_they_are_needed(tmp_path, monkeypatch, called):
+    """Those of all blocks of a picture at once, and of a picture whose fields nobody asks for never."""
+    monkeypatch.chdir(tmp_path)
+    first = jpeg(app1(exif(b"Anna")), app1_xmp(title("one")))
+    put("p", {"a.jpg": first, "a.jpg.xmp": title("two"), "b.jpg": with_exif(SMALL_JPEG, b"no block")})
+    called("index", "p", "--catalogue", "before", "--pixels", "--sidecars", "--quiet")
+    put("p", {"b.jpg": with_exif(SMALL_JPEG, b"no block either")})
+    called("index", "p", "--catalogue", "after", "--pixels", "--sidecars", "--quiet")
+    asked = []
+    monkeypatch.setattr(block_fields, "parted", lambda cells: asked.append(cells) or lines.parted(cells))
+    for words in (
+        ["changed", "before", "after"],
+        ["verify", "--catalogue", "after", "--quiet"],
+        ["same", "--catalogue", "after", "--no-look"],
+    ):
+        assert called(*words)[0] in (0, 2) and not asked, words
+    with Catalogue("before") as base:
+        blocks = base.blocks_of(next(base.pictures()))
+        assert [block.name for block in blocks] == ["XMP", "Exif", "XMP sidecar"] and not asked
+        assert [len(block_fields.fields_of(block)) for block in blocks * 2] == [1, 1, 1] * 2 and len(asked) == 1
+    put("p", {"a.jpg": jpeg(app1(exif(b"Otto")), app1_xmp(title("one")))})
+    called("index", "p", "--catalogue", "after", "--sidecars", "--quiet")
+    assert called("changed", "before", "after")[0] == 2 and len(asked) == 3, "once for each side"
 
 
 def test_rows_that_share_their_bytes(catalogue, monkeypatch):

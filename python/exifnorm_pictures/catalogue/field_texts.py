@@ -6,7 +6,6 @@ from __future__ import annotations
 from decimal import Decimal
 from typing import Any, Iterator, List, Sequence, Tuple
 
-from ..fields.block_fields import with_fields
 from ..fields.choosing import Choice
 from ..fields.field import Field
 from ..fields.labels import DAMAGE
@@ -52,7 +51,7 @@ def add_fields(catalogue: Catalogue, words: Sequence[str], report: Report = say_
 
 def _rows(catalogue: Catalogue, number: int, choices: Sequence[Tuple[str, Choice]]) -> Iterator[Tuple[object, ...]]:
     """The texts of a picture as rows, each once."""
-    blocks = with_fields(catalogue.blocks_of(PictureRecord(number)))
+    blocks = catalogue.blocks_with_fields(PictureRecord(number))
     for word, choice in choices:
         texts = []
         for block, fields in blocks:

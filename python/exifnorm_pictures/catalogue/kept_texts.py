@@ -10,7 +10,6 @@ import os
 from contextlib import suppress
 from typing import Callable, Iterator, List, Sequence, Tuple
 
-from ..fields.block_fields import with_fields
 from ..model.records import PictureRecord
 from .label_texts import rows_of
 from .store import Catalogue, NoCatalogue, put_text, texts_table
@@ -85,7 +84,7 @@ def _add(catalogue: Catalogue, table: str, after: int) -> List[int]:
 def _rows(catalogue: Catalogue, number: int) -> Iterator[Tuple[object, ...]]:
     """The texts of a picture as rows."""
     picture = PictureRecord(number)
-    blocks = with_fields(catalogue.blocks_of(picture))
+    blocks = catalogue.blocks_with_fields(picture)
     reading = None
     if any(block.note is not None for block, _ in blocks):
         from ..judge.maker_notes import unpacked_reading  # which takes long to import

@@ -19,6 +19,8 @@ from itertools import groupby
 from operator import itemgetter
 from typing import Any, Callable, Iterable, Iterator, List, NamedTuple, Optional, Sequence, Tuple, Type, TypeVar, overload
 
+from ..fields.block_fields import fields_of, with_kept_fields
+from ..fields.field import Field
 from ..fields.lines import joined, parted
 from ..files import mounts, opening as files, signals
 from ..model.budgets import ROW_BYTES, ROW_NUMBER, SQL_STEPS
@@ -586,10 +588,14 @@ class Catalogue:
         return list(self.rows(query, (picture.id,), _bounded(not_read_of_row)))
 
     def blocks_of(self, picture: PictureRecord) -> List[BlockRecord]:
-        """The blocks of a picture."""
+        """The blocks of a picture. Their fields are unpacked when they are asked for."""
         query = f"SELECT {BLOCK_COLUMNS} FROM blocks WHERE picture = ? ORDER BY number"
+        return with_kept_fields(list(self.rows(query, (picture.id,), _bounded(block_of_row))))
+
+    def blocks_with_fields(self, picture: PictureRecord) -> List[Tuple[BlockRecord, List[Field]]]:
+        """The blocks of a picture, each with its fields."""
         with self.guarded():
-            return with_own_fields(list(self.rows(query, (picture.id,), _bounded(block_of_row))))
+            return [(block, fields_of(block)) for block in self.blocks_of(picture)]
 
     def packed_fields(self, columns: str) -> Iterator[Tuple[int, List[Tuple[Any, ...]]]]:
         """Each picture's number, and for each of its blocks some columns and its packed fields."""
@@ -685,12 +691,6 @@ def _rows_of_blocks(blocks: Sequence[BlockRecord]) -> Iterator[Tuple[object, ...
     cells = joined([block.fields for block in blocks])
     for number, (block, cell) in enumerate(zip(blocks, cells)):
         yield (number, *block[: BLOCKS.width - 1], cell)
-
-
-def with_own_fields(blocks: Sequence[BlockRecord]) -> List[BlockRecord]:
-    """The blocks of a picture, of all its rows in their order, each with its own fields. Raises `Damaged`."""
-    texts = parted(block.fields for block in blocks)
-    return [block if block.fields is text else block._replace(fields=text) for block, text in zip(blocks, texts)]
 
 
 def root_of_row(row: Tuple[bytes]) -> bytes:

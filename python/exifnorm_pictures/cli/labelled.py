@@ -8,7 +8,6 @@ from typing import Dict, Iterator, List, Sequence
 
 from ..extract.named import blocks_of_named
 from ..fields.labels import LabelText
-from ..fields.block_fields import with_fields
 from ..files import opening
 from ..judge.reading import Reading
 from ..model import steps
@@ -70,8 +69,7 @@ def _in_catalogue(arguments: argparse.Namespace, name: bytes) -> Iterator[Readin
         for picture in catalogue.pictures():
             if picture.problem in (Problem.NO_PICTURE, *NOT_THERE):
                 continue
-            with catalogue.guarded():
-                blocks = with_fields(catalogue.blocks_of(picture))
+            blocks = catalogue.blocks_with_fields(picture)
             texts = texts_of(blocks)
             parts = catalogue.not_read_of(picture) + [
                 NotRead(f"the {word}, which is too long for the catalogue", "") for word in sorted(texts.long)

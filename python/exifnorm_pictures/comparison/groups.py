@@ -12,7 +12,7 @@ from typing import Dict, Iterator, List, NamedTuple, Optional, Sequence, Tuple
 from ..catalogue.store import PICTURE_COLUMNS, Catalogue
 from ..extract.sidecars import Folders
 from ..fields.choosing import EVERYTHING, Choice, UnknownField
-from ..fields.packing import unpacked
+from ..fields.block_fields import known_fields
 from ..files.session import Session
 from ..model import steps
 from ..model.found import EXIF, KINDS, NAMES, each_kind
@@ -230,9 +230,11 @@ def _fields_of(catalogue: Catalogue, group: Group, choice: Choice) -> Optional[i
     for block in [] if group.members[0].file else catalogue.blocks_of(group.members[0]):
         if block.kind not in group.shared.kinds:
             continue
-        if not block.fields:
+        with catalogue.guarded():
+            fields = known_fields(block)
+        if fields is None:
             return None
-        count += len(choice.of(unpacked(block.fields), "" if block.name in NAMES.values() else block.name))
+        count += len(choice.of(fields, "" if block.name in NAMES.values() else block.name))
     return None if group.members[0].file else count
 
 

@@ -9,7 +9,6 @@ from typing import Dict, Iterator, List, NamedTuple, Optional, Set, Tuple
 
 from ..catalogue.label_texts import rows_of
 from ..catalogue.store import PICTURE_COLUMNS, Catalogue
-from ..fields.block_fields import with_fields
 from ..fields.labels import POSITION, fields_by_label
 from ..files.session import Session
 from ..model.problems import NOT_READABLE, Problem
@@ -133,7 +132,7 @@ class Between:
         catalogue = self._sides[side]
         texts: Dict[str, Set[str]] = {}
         with catalogue.guarded():
-            for row in rows_of(with_fields(catalogue.blocks_of(self._picture(side, name)))):
+            for row in rows_of(catalogue.blocks_with_fields(self._picture(side, name))):
                 texts.setdefault(row.label, set()).add(row.text)
         texts.pop("", None)
         return texts

@@ -7,7 +7,7 @@ import hashlib
 import os
 import sqlite3
 from collections import Counter
-from typing import Callable, Iterator, List, NamedTuple, Optional, Sequence, Set, Tuple, TypeVar
+from typing import Any, Callable, Iterator, List, NamedTuple, Optional, Sequence, Set, Tuple, TypeVar
 
 from ..catalogue.store import (
     BLOCK_COLUMNS,
@@ -18,10 +18,9 @@ from ..catalogue.store import (
     check_schema,
     connect,
     unlike,
-    with_own_fields,
 )
 from ..fields.field import Field
-from ..fields.block_fields import fields_of
+from ..fields.block_fields import fields_of, with_kept_fields
 from ..files import signals
 from ..model.columns import Damaged
 from ..model.found import NotRead
@@ -196,7 +195,7 @@ class Pairs:
         new = row[PICTURES.width : 2 * PICTURES.width]
         if is_edited:
             new = self.base.execute(f"SELECT {PICTURE_COLUMNS} FROM after.pictures WHERE id = ?", (moved,)).fetchone()
-        pictures = self._guarded_value(BEFORE, picture_of_row, row[: PICTURES.width]), self._guarded_value(AFTER, picture_of_row, new)
+        pictures = self._picture(BEFORE, row[: PICTURES.width]), self._picture(AFTER, new)
         return Pair(name, *pictures, self._named(AFTER, place) if is_edited else None)
 
     def came(self) -> Iterator[bytes]:
@@ -232,11 +231,12 @@ class Pairs:
     def blocks(self, side: int, picture: PictureRecord) -> List[BlockRecord]:
         """A picture's blocks."""
         query = f"SELECT {BLOCK_COLUMNS} FROM {_BASES[side]}.blocks WHERE picture = ? ORDER BY number"
-        return self._guarded_value(side, with_own_fields, self._of(side, query, picture, block_of_row))
+        return with_kept_fields(self._of(side, query, picture, block_of_row))
 
     def fields(self, side: int, block: Optional[BlockRecord]) -> List[Field]:
         """The fields of a block; none if they aren't kept, or if there is no block."""
-        return self._guarded_value(side, fields_of, block) if block else []
+        with self.catalogues[side].guarded():
+            return fields_of(block) if block else []
 
     def maker_notes(self, side: int, picture: PictureRecord, unpack: Callable[[bytes], Made]) -> Optional[Made]:
         """The result of `unpack` for what ExifTool read of a picture's MakerNotes, if it was asked."""
@@ -251,9 +251,9 @@ class Pairs:
         with self.catalogues[side].guarded():
             return [factory(row) for row in self.base.execute(query, (picture.id,))]
 
-    def _guarded_value(self, side: int, make: Callable[..., Made], value: object) -> Made:
+    def _picture(self, side: int, row: Tuple[Any, ...]) -> PictureRecord:
         with self.catalogues[side].guarded():
-            return make(value)
+            return picture_of_row(row)
 
     def _rows(self, query: str, factory: Callable[..., Made]) -> Iterator[Made]:
         with self._guarded():

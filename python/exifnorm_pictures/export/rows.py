@@ -12,6 +12,7 @@ from ..comparison.conflicts import conflicts
 from ..comparison.group_sentence import sentence_of
 from ..comparison.groups import Groups
 from ..comparison.keeping import Keep, keeping
+from ..fields.block_fields import packed_fields
 from ..fields.field import Field
 from ..fields.labels import LabelText, names_camera, word_of
 from ..fields.listing import exact, is_rest
@@ -56,7 +57,7 @@ class Export:
 
     def _picture(self, picture: PictureRecord) -> None:
         with self.catalogue.guarded():
-            blocks = [(it, self._fields.of_block(it.fields)) for it in self.catalogue.blocks_of(picture)]
+            blocks = [(block, self._fields.of_block(packed_fields(block))) for block in self.catalogue.blocks_of(picture)]
         angles = [row.angle for _, rows in blocks for row in rows if row.angle]
         place = position_of(angles) if angles else None
         self.tables.add("pictures", [(*_picture_row(picture), *(place or (None, None)))])

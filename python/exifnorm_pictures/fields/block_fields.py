@@ -6,6 +6,7 @@ from typing import Callable, Generic, Iterable, List, Optional, Sequence, Tuple,
 
 from ..model.records import BlockRecord
 from .field import Field
+from .lines import parted
 from .listing import rest_of
 from .packing import unpacked
 
@@ -13,33 +14,76 @@ Source = TypeVar("Source")
 
 
 class Fields(Generic[Source]):
-    """The fields of a normal form or of the statements of a packet: made once, when somebody asks for them."""
+    """The fields of a normal form, of the statements of a packet, or of a block of a catalogue: made once, when somebody asks for them."""
 
     __slots__ = ("_make", "_source", "_fields")
 
-    def __init__(self, make: Callable[[Source], List[Field]], source: Source) -> None:
+    def __init__(self, make: Callable[[Source], Optional[List[Field]]], source: Source) -> None:
         self._make, self._source = make, source
         self._fields: Optional[List[Field]] = None
 
-    def all(self) -> List[Field]:
-        """The fields, in the order of a listing."""
+    def all(self) -> Optional[List[Field]]:
+        """The fields, in the order of a listing; None if a catalogue doesn't have them."""
         if self._fields is None:
             self._fields = self._make(self._source)
         return self._fields
 
 
-def fields_of(block: BlockRecord) -> List[Field]:
-    """The fields of a block; none of one that has no meaning, or in a catalogue that doesn't have them. Raises `Damaged`."""
+class _KeptTexts:
+    """The packed fields of a picture's blocks as a catalogue keeps them together. They are unpacked when those of a block are asked for."""
+
+    __slots__ = ("_cells", "_texts")
+
+    def __init__(self, cells: Sequence[Optional[bytes]]) -> None:
+        self._cells = cells
+        self._texts: Optional[List[Optional[bytes]]] = None
+
+    def of(self, number: int) -> Optional[bytes]:
+        """Those of one block."""
+        if self._texts is None:
+            self._texts = parted(self._cells)
+        return self._texts[number]
+
+
+class _KeptFields(Fields[Tuple[_KeptTexts, int]]):
+    """The fields of a block of a catalogue, by its number in the picture."""
+
+    __slots__ = ()
+
+    def packed(self) -> Optional[bytes]:
+        """The packed fields."""
+        texts, number = self._source
+        return texts.of(number)
+
+
+def _unpacked(source: Tuple[_KeptTexts, int]) -> Optional[List[Field]]:
+    text = source[0].of(source[1])
+    return unpacked(text) if text else None
+
+
+def with_kept_fields(blocks: Sequence[BlockRecord]) -> List[BlockRecord]:
+    """The blocks of a picture of a catalogue, of all its rows in their order, each with its own fields."""
+    texts = _KeptTexts([block.fields for block in blocks])
+    return [block._replace(fields=None, fresh=_KeptFields(_unpacked, (texts, number))) for number, block in enumerate(blocks)]
+
+
+def packed_fields(block: BlockRecord) -> Optional[bytes]:
+    """The packed fields of a block of a catalogue, if it has them. Raises `Damaged`."""
+    return block.fresh.packed() if isinstance(block.fresh, _KeptFields) else block.fields
+
+
+def known_fields(block: BlockRecord) -> Optional[List[Field]]:
+    """The fields of a block; None of one that has no meaning, or in a catalogue that doesn't have them. Raises `Damaged`."""
     if isinstance(block.fresh, Fields):
         return block.fresh.all()
-    return unpacked(block.fields) if block.fields else []
+    return unpacked(block.fields) if block.fields else None
+
+
+def fields_of(block: BlockRecord) -> List[Field]:
+    """The same, where those that aren't known count as none. Raises `Damaged`."""
+    return known_fields(block) or []
 
 
 def rests_of(blocks: Iterable[Tuple[BlockRecord, List[Field]]]) -> List[str]:
     """What is said of blocks that have more fields than are kept: a text may be among these."""
     return [f"the fields of {block.name}{rest}" for block, fields in blocks for rest in [rest_of(fields)] if rest]
-
-
-def with_fields(blocks: Sequence[BlockRecord]) -> List[Tuple[BlockRecord, List[Field]]]:
-    """The blocks of a picture of a catalogue, each with its fields. Raises `Damaged`."""
-    return [(it, fields_of(it)) for it in blocks]

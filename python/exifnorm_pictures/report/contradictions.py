@@ -14,7 +14,6 @@ from ..catalogue.texts import PictureTexts, texts_of
 from ..comparison.conflicts import Conflict, conflicts
 from ..fields.labels import COMMENT, LABEL_WORDS
 from ..model.found import STANDARDS
-from ..fields.block_fields import with_fields
 from ..model.records import BlockRecord, PictureRecord
 
 _COMPARED = tuple(it for it in LABEL_WORDS if it != COMMENT)
@@ -61,8 +60,7 @@ def checked(catalogue: Catalogue, pictures: Iterator[PictureRecord]) -> Iterator
             if picture.problem is None and _is_cut(picture):
                 yield Checked(picture.path, [], False, False)
             continue
-        with catalogue.guarded():
-            blocks = with_fields(catalogue.blocks_of(picture))
+        blocks = catalogue.blocks_with_fields(picture)
         texts = texts_of(blocks, _COMPARED)
         yield _checked(picture, [block for block, _ in blocks], texts)
 
