@@ -177,15 +177,7 @@ def _judge_maker_notes(
     notes = maker_notes.compared_notes(session, pairs, old, new) if session else None
     if notes is None:
         gone = [word for word, picture in (("earlier", old), ("later", new)) if session and not maker_notes.is_as_it_was(picture)]
-        if gone:
-            note = f"differs in bytes, the {' and the '.join(gone)} picture {'is' if len(gone) == 1 else 'are'} gone or changed"
-            comparison.changes = [change._replace(note=note) if change in lines else change for change in comparison.changes]
-        is_open = rewritten and not reached and any(one.kind == EXIF and one.result == Result.SAME for one in comparison.verdicts)
-        if not lines and (moved or is_open):
-            what = "a MakerNote that has moved" if moved else "a MakerNote in a block that was written anew"
-            parts = [*parts, f"{what}, for which ExifTool and both files are needed"]
-            comparison.result = result_of(comparison.verdicts, parts)
-        return parts
+        return _not_asked(comparison, lines, gone, moved, rewritten and not reached, parts)
     if notes.doubt and not notes.differences:
         return _in_doubt(comparison, lines, moved, notes, parts)
     comparison.maker_note = notes.differences
@@ -194,34 +186,52 @@ def _judge_maker_notes(
         return parts
     if not moved:  # an edit in place: ExifTool may overlook it, since it corrects some MakerNotes before it reads them
         comparison.note += "; MakerNote reads the same (ExifTool)" if lines or reached else ""
-        comparison.changes = [
-            change._replace(note="differs in bytes, reads the same (ExifTool)") if change in lines else change
-            for change in comparison.changes
-        ]
+        _set_note(comparison, lines, "differs in bytes, reads the same (ExifTool)")
         return parts
+    return _moved_note(comparison, lines, [part for part in parts if part not in reached])
+
+
+def _set_note(comparison: Compared, lines: List[FieldDifference], note: str) -> None:
+    """Says of some changes what is known in place of their values."""
+    comparison.changes = [change._replace(note=note) if change in lines else change for change in comparison.changes]
+
+
+def _not_asked(
+    comparison: Compared, lines: List[FieldDifference], gone: List[str], moved: bool, is_rewritten: bool, parts: List[str]
+) -> List[str]:
+    """MakerNotes that ExifTool doesn't read, as of a file that is gone. Returns the parts that stay open."""
+    if gone:
+        which = f"the {' and the '.join(gone)} picture {'is' if len(gone) == 1 else 'are'} gone or changed"
+        _set_note(comparison, lines, f"differs in bytes, {which}")
+    is_open = is_rewritten and any(verdict.kind == EXIF and verdict.result == Result.SAME for verdict in comparison.verdicts)
+    if not lines and (moved or is_open):
+        what = "a MakerNote that has moved" if moved else "a MakerNote in a block that was written anew"
+        parts = [*parts, f"{what}, for which ExifTool and both files are needed"]
+        comparison.result = result_of(comparison.verdicts, parts)
+    return parts
+
+
+def _moved_note(comparison: Compared, lines: List[FieldDifference], parts: List[str]) -> List[str]:
+    """A MakerNote that has moved, and of which all values are as before. Returns the parts that stay open."""
     comparison.note += "; MakerNote moved, reads the same (ExifTool)"
     comparison.changes = [change for change in comparison.changes if change not in lines]
     if not any(change.directory in _OF_EXIF for change in comparison.changes):
-        plain = [
-            verdict.kind == EXIF and verdict.result in (Result.SAME, Result.DIFFERENT, Result.DIFFERENT_REPAIRED)
+        comparison.verdicts = [
+            Verdict(EXIF, Result.MOVED_NOTE) if verdict.kind == EXIF and verdict.result in _MAY_HAVE_MOVED else verdict
             for verdict in comparison.verdicts
         ]
-        comparison.verdicts = [
-            Verdict(EXIF, Result.MOVED_NOTE) if is_exif else verdict for verdict, is_exif in zip(comparison.verdicts, plain)
-        ]
-    parts = [part for part in parts if part not in reached]
     comparison.result = result_of(comparison.verdicts, parts)
     return parts
+
+
+_MAY_HAVE_MOVED = (Result.SAME, Result.DIFFERENT, Result.DIFFERENT_REPAIRED)
 
 
 def _in_doubt(
     comparison: Compared, lines: List[FieldDifference], moved: bool, notes: "maker_notes.ComparedNotes", parts: List[str]
 ) -> List[str]:
     """A MakerNote of which no value differs, though that may mean nothing. Returns the parts that stay open."""
-    has_moved = "has moved, " * moved
-    comparison.changes = [
-        change._replace(note=f"{has_moved}differs in bytes, {notes.doubt}") if change in lines else change for change in comparison.changes
-    ]
+    _set_note(comparison, lines, f"{'has moved, ' * moved}differs in bytes, {notes.doubt}")
     if not lines and (moved or notes.is_new):
         parts = [*parts, f"a MakerNote that {'has moved' if moved else 'may be damaged'} ({notes.doubt})"]
         comparison.result = result_of(comparison.verdicts, parts)

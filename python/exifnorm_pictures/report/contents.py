@@ -128,50 +128,44 @@ def record_of(members: Members) -> str:
 
 def members(about: About) -> Iterator[Members]:
     """All that is known, as JSON objects."""
-    catalogue = about.catalogue
-    states: "Counter[str]" = Counter(it.state for it in catalogue.pictures(about.table()))
-    causes: "Counter[str]" = Counter(it.cause for it in refused(about))
-    without_proof = unproved(catalogue.runs())
-    yield {
-        "pictures": sum(states.values()),
-        "states": dict(states),
-        "causes": dict(causes),
-        **({"unproved": without_proof} if without_proof else {}),
-    }
-    by_files = groups.Groups(catalogue, about.table(), about.look, about.session)
-    for group in by_files.by_meaning(choice=about.choice):
-        yield {
-            "same": [path_members(it) for it in group.pictures()],
-            "description": sentence_of(group),
-            "basis": group.basis,
-            "same_bytes": group.same_bytes,
-            "wholly_read": group.is_wholly_read,
-        }
-    if by_files.unknown:
-        yield {"maker_notes_unknown": dict(by_files.unknown)}
+    yield _summary_members(about)
+    yield from _group_members(about)
     if about.old is not None:
         yield from _changed_members(about)
-    for checked_picture in checked(catalogue, catalogue.pictures(about.table())):
-        if checked_picture.real:
-            yield {
-                "contradicts_itself": path_members(checked_picture.path),
-                "conflicts": [_conflict_members(label) for label in checked_picture.real],
-            }
+    for picture in checked(about.catalogue, about.catalogue.pictures(about.table())):
+        if picture.real:
+            yield {"contradicts_itself": path_members(picture.path), "conflicts": [_conflict_members(label) for label in picture.real]}
     for block in refused(about):
-        yield {
-            "refused": path_members(block.path),
-            "kind": block.kind,
-            "name": block.name,
-            "cause": block.cause,
-            "refusal": block.refusal,
-        }
-    for picture in catalogue.pictures(about.table()):
+        of_block = {"kind": block.kind, "name": block.name, "cause": block.cause, "refusal": block.refusal}
+        yield {"refused": path_members(block.path), **of_block}
+    yield from _unread_members(about)
+
+
+def _summary_members(about: About) -> Members:
+    states: "Counter[str]" = Counter(picture.state for picture in about.catalogue.pictures(about.table()))
+    causes: "Counter[str]" = Counter(block.cause for block in refused(about))
+    counts = {"pictures": sum(states.values()), "states": dict(states), "causes": dict(causes)}
+    without_proof = unproved(about.catalogue.runs())
+    return {**counts, **({"unproved": without_proof} if without_proof else {})}
+
+
+def _group_members(about: About) -> Iterator[Members]:
+    by_files = groups.Groups(about.catalogue, about.table(), about.look, about.session)
+    for group in by_files.by_meaning(choice=about.choice):
+        of_group = {"basis": group.basis, "same_bytes": group.same_bytes, "wholly_read": group.is_wholly_read}
+        yield {"same": [path_members(path) for path in group.pictures()], "description": sentence_of(group), **of_group}
+    if by_files.unknown:
+        yield {"maker_notes_unknown": dict(by_files.unknown)}
+
+
+def _unread_members(about: About) -> Iterator[Members]:
+    for picture in about.catalogue.pictures(about.table()):
         if picture.damage:
             yield {"damaged": picture.damage, **path_members(picture.path)}
         if picture.problem:
             yield {"problem": picture.problem, **path_members(picture.path), "detail": picture.detail}
         elif picture.not_read != "":
-            yield {"not_read": [it.what for it in catalogue.not_read_of(picture)], **path_members(picture.path)}
+            yield {"not_read": [part.what for part in about.catalogue.not_read_of(picture)], **path_members(picture.path)}
 
 
 def _conflict_members(conflict: Conflict) -> Members:
