@@ -3,17 +3,18 @@
 from __future__ import annotations
 
 import contextlib
+import errno
 import io
 import os
 import re
 from datetime import datetime, timedelta, timezone
 from fractions import Fraction
-from typing import BinaryIO, Callable, Dict, Iterator, List, NamedTuple, Optional, Tuple, Union
+from typing import Callable, Dict, Iterator, List, NamedTuple, Optional, Tuple, Union
 
 from .comparison import differing, proved
 from .comparison.conflicts import chosen, conflicts
 from .extract import coded_picture, extraction, programs
-from .extract.file_objects import FileObject, seekable
+from .extract.file_objects import BinaryFile, FileObject, seekable
 from .extract.formats.streams import File, Parts, digest_of
 from .fields import labels
 from .fields.block_fields import fields_of
@@ -31,7 +32,7 @@ from .model.results import Result
 from .model.texts import described
 
 PathLike = Union[str, bytes, "os.PathLike[str]", "os.PathLike[bytes]"]
-Source = Union[PathLike, BinaryIO]
+Source = Union[PathLike, BinaryFile]
 
 
 # Errors
@@ -204,7 +205,8 @@ class _Whole(NamedTuple):
 
 
 class Picture:
-    """The metadata of a picture, as they were when it was read. `picture[name]` is the value of the first field with this name."""
+    """The metadata of a picture, as they were when it was read. `picture[name]` is the value of the first field with this name, `name in picture`
+    tells whether there is one, and a loop over a picture has the names."""
 
     __slots__ = ("_name", "_reading", "_path", "_stamp", "_whole", "_blocks", "_names", "_known")
 
@@ -324,12 +326,15 @@ class Picture:
         return same[0].value if len(same) == 1 else tuple(it.value for it in same)
 
     def __getitem__(self, name: str) -> Value:
-        if not self.find(name):
+        if name not in self:
             raise KeyError(name)
         return self.get(name)
 
-    def __contains__(self, name: str) -> bool:
-        return bool(self.find(name))
+    def __contains__(self, name: object) -> bool:
+        return isinstance(name, str) and bool(self.find(name))
+
+    def __iter__(self) -> Iterator[str]:
+        return iter(self.names)
 
     @property
     def captions(self) -> Tuple[Caption, ...]:
@@ -422,13 +427,15 @@ def _read(source: Source, whole: bool, session: Optional[Session] = None, compar
     try:
         number, size = opening.opened(path)
     except OSError as error:
+        if os.path.isdir(path):
+            raise IsADirectoryError(errno.EISDIR, os.strerror(errno.EISDIR), os.fspath(source)) from None
         error.filename = os.fspath(source)  # as open() has it
         raise
     stamp = Stamp.of(os.fstat(number))
     return Picture(os.fsdecode(path), _reading(File(number, size, Budget(whole)), path, os.fsdecode(path), whole, session), path, stamp)
 
 
-def _read_object(source: BinaryIO, name: str, whole: bool, compares: bool) -> Picture:
+def _read_object(source: BinaryFile, name: str, whole: bool, compares: bool) -> Picture:
     try:
         with seekable(source, Budget(whole)) as file:
             reading = _reading(FileObject(file, Budget(whole)), os.fsencode(name), name, whole)

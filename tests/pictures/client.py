@@ -2,10 +2,14 @@
 
 from __future__ import annotations
 
+import gzip
+import io
 import sys
+import tempfile
+import zipfile
 from datetime import datetime
 from fractions import Fraction
-from typing import Optional, Tuple
+from typing import Iterator, Optional, Tuple
 
 import exifnorm_pictures as pictures
 
@@ -20,7 +24,7 @@ def described(picture: pictures.Picture) -> str:
 
 
 def main(before: str, after: str) -> None:
-    """Prints four lines."""
+    """Prints five lines."""
     picture = pictures.read(before)
     print(described(picture))
     keywords: Tuple[str, ...] = picture.texts("keywords")
@@ -31,6 +35,22 @@ def main(before: str, after: str) -> None:
     assert proved == ("same" if same else "different")
     print(comparison.result if same else f"{comparison.result}: {', '.join(it.name for it in comparison.differences)}")
     print(*(type(found).__name__ for _, found in pictures.read_all([before, after], jobs=2)))
+    print(*models_in_archive(before))
+
+
+def models_in_archive(path: str) -> Iterator[str]:
+    """The camera of a member of an archive; file objects of other kinds are taken, too."""
+    archive = io.BytesIO()
+    with zipfile.ZipFile(archive, "w") as whole:
+        whole.write(path, "bowl.jpg")
+    with zipfile.ZipFile(archive) as whole, whole.open("bowl.jpg") as member:
+        yield f"bowl.jpg: {pictures.read(member).find('Model')[0].text}"
+    with open(path, "rb", buffering=0) as raw, tempfile.SpooledTemporaryFile() as copy:
+        data = raw.readall()
+        raw.seek(0), copy.write(data), copy.seek(0)
+        with gzip.open(io.BytesIO(gzip.compress(data))) as packed:
+            keys = {pictures.read(raw).key, pictures.read(copy).key, pictures.read(packed).key}
+    assert len(keys) == 1 and None not in keys
 
 
 if __name__ == "__main__":

@@ -48,6 +48,10 @@ def test_values_have_types():
     assert bowl["model"] == "Canon EOS 5D Mark II" and "GPS:GPSLatitude" not in bowl and bowl.get("GPS:GPSLatitude") is None
     with pytest.raises(KeyError, match="Nothing"):
         bowl["Nothing"]
+    assert list(bowl) == list(bowl.names) and {name: bowl[name] for name in bowl}["IFD0:Model"] == "Canon EOS 5D Mark II"
+    assert bowl and 3 not in bowl and bowl.get("IFD0:Model") in ("Canon EOS 5D Mark II", *bowl)
+    with pytest.raises(KeyError, match="0"):
+        bowl[0]
 
 
 def test_dates_and_numbers_of_iptc():
@@ -399,8 +403,11 @@ def test_errors_name_the_file(tmp_path):
     with pytest.raises(FileNotFoundError) as missing:
         pictures.read(tmp_path / "none.jpg")
     assert missing.value.errno == 2 and str(tmp_path / "none.jpg") in str(missing.value)
-    with pytest.raises(OSError, match="no regular file"):
+    with pytest.raises(IsADirectoryError) as folder:
         pictures.read(tmp_path)
+    assert folder.value.filename == str(tmp_path)
+    with pytest.raises(OSError, match="no regular file"):
+        pictures.read("/dev/null")
     with pytest.raises(ValueError, match="the labels are title, caption"):
         pictures.read(BEFORE / BOWL).texts("caption/abstract")
     with pytest.raises(TypeError, match="binary mode"):
@@ -523,6 +530,7 @@ def test_a_typed_client():
         "2003.12: bowl, celadon",
         "different: IFD0:Copyright, IPTC:Caption-Abstract",
         "Picture Picture",
+        "bowl.jpg: Canon EOS 5D Mark II",
     ]
 
 
@@ -566,7 +574,7 @@ def test_each_name_has_words():
         assert it.__doc__ and not it.__doc__.startswith(f"{name}("), name
         for member, one in vars(it).items() if isinstance(it, type) else ():
             assert member.startswith("_") or not isinstance(one, property) or one.__doc__, (name, member)
-    assert set(pictures.__all__) <= set(dir(pictures))
+    assert [name for name in dir(pictures) if not name.startswith("_")] == sorted(pictures.__all__)
     assert callable(pictures.compare)
 
 

@@ -8,7 +8,7 @@ import os
 import re
 import sys
 import tempfile
-from typing import IO, Iterator, List, Optional, Union
+from typing import IO, Iterator, List, Optional, Protocol, Union, cast
 
 from ..model.budgets import COPIED_BYTES, Budget
 from ..model.texts import described
@@ -18,12 +18,19 @@ from .formats.streams import CHUNK, Parts
 _DECOMPRESS = (("gzip", "GzipFile"), ("bz2", "BZ2File"), ("lzma", "LZMAFile"), ("zipfile", "ZipExtFile"))
 
 
+class BinaryFile(Protocol):
+    """A file object of bytes. Whether it can seek is asked of the object itself."""
+
+    def read(self, length: int = -1, /) -> Optional[bytes]:
+        """The next bytes, `length` at most."""
+
+
 @contextlib.contextmanager
-def seekable(source: IO[bytes], budget: Budget) -> Iterator[IO[bytes]]:
+def seekable(source: BinaryFile, budget: Budget) -> Iterator[IO[bytes]]:
     """A file object itself; of one that can't seek, or decompresses, a temporary copy, which has no name, so that nothing is left of it if the
     process is killed. Raises `TooMuch` for a copy that would be too long."""
     if _is_read_in_place(source):
-        yield source
+        yield cast(IO[bytes], source)
         return
     with tempfile.TemporaryFile() as copy:
         while data := _some(source, CHUNK):
@@ -77,12 +84,12 @@ class FileObject(Parts):
 PIECES = 256  # pieces after which the time is looked at
 
 
-def _is_read_in_place(source: IO[bytes]) -> bool:
+def _is_read_in_place(source: BinaryFile) -> bool:
     """Whether a file object can seek, and doesn't decompress."""
     if any(module in sys.modules and isinstance(source, getattr(sys.modules[module], name)) for module, name in _DECOMPRESS):
         return False
     with _own_errors():
-        return source.seekable() if hasattr(source, "seekable") else hasattr(source, "seek") and hasattr(source, "tell")
+        return bool(source.seekable()) if hasattr(source, "seekable") else hasattr(source, "seek") and hasattr(source, "tell")
 
 
 @contextlib.contextmanager
@@ -112,7 +119,7 @@ def _seek(source: IO[bytes], place: int, whence: int = os.SEEK_SET) -> None:
         source.seek(place, whence)
 
 
-def _some(source: IO[bytes], most: int) -> bytes:
+def _some(source: BinaryFile, most: int) -> bytes:
     """The next bytes of a file object, `most` at most; none at its end."""
     with _own_errors():
         data: Union[bytes, bytearray, memoryview, None] = source.read(most)
