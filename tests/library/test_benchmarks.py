@@ -254,6 +254,22 @@ def test_costs_of_questions(tmp_path, capfd):
     assert 0 < lines["--without credit -0"] < 300
 
 
+def test_costs_of_shards(library, tmp_path, monkeypatch):
+    """Of each command over one catalogue and over four."""
+    monkeypatch.setenv("EXIFNORM_LIBRARY", str(library / "libexifnorm.so.1"))
+    costs = load("pictures/shards.py")
+    environment = {**os.environ, "PYTHONPATH": str(TOP / "python")}
+    folders, counts = [tmp_path / "less", tmp_path / "more"], (60, 180)
+    for folder, count in zip(folders, counts):
+        folder.mkdir()
+        costs.make(folder, count)
+    rows = dict(costs.over_rows(folders, counts, environment))
+    assert len(rows) == 8 and sum(result.count("microseconds a picture") == 2 for result in rows.values()) == 6
+    rows = dict(costs.over_files(tmp_path / "files", 40, environment))
+    shipped = [int(rows[f"bytes through the scheduler, {which}"].split()[0]) for which in ("with --shards", "without")]
+    assert 100 < shipped[0] < 2000 and 300 < shipped[1] < 2000
+
+
 def test_a_page_opens_later_than_an_empty_one(of_pictures, monkeypatch):
     monkeypatch.setattr(of_pictures.shutil, "which", lambda _: "chromium")
     monkeypatch.setattr(of_pictures, "cost", lambda words: of_pictures.Cost(1.0 if words[-1] == "about:blank" else 1.5, 1, 1))

@@ -232,6 +232,12 @@ def test_a_folder_is_one_of_pictures_unless_its_list_says_otherwise(archive, cal
     assert status == 4 and "no catalogue" in messages
 
 
+def test_a_command_that_takes_one_catalogue_says_so(archive, called_lines):
+    for words in (("history", "one/one.jpg", "shards"), ("relocate", "shards", "one", "two")):
+        status, lines, messages = called_lines(*words)
+        assert (status, lines) == (4, []) and "shards is a folder of catalogues, and this command takes one of them" in messages, words
+
+
 def test_with_sidecars_and_without(archive, called_lines):
     (archive / "shards" / "two.catalogue").unlink()
     assert called_lines("index", "two", "--catalogue", "shards/two.catalogue", "--sidecars", "--quiet")[0] == 0
@@ -301,7 +307,7 @@ def costs(tmp_path_factory):
         make(folder / "all", size)
         (folder / "rules").write_text("every picture needs credit\ncreator is Otto\n", encoding="ascii")
         for number in range(3):
-            _part_of(folder / "all", folder / "shards" / str(number), number)
+            part_of(folder / "all", folder / "shards" / str(number), number, 3)
         shards.put_list(str(folder / "shards"), ["0", "1", "2"])
         for words in OVER_SHARDS:
             for name in ("shards", "all"):
@@ -312,15 +318,16 @@ def costs(tmp_path_factory):
     return known
 
 
-def _part_of(all_, name, number):
-    """A catalogue of a third of the pictures, each with its number raised."""
+def part_of(all_, name, number, count):
+    """A catalogue of one of so many parts of the pictures, each with its number raised."""
     shutil.copy(all_, name)
     with contextlib.closing(sqlite3.connect(name, isolation_level=None)) as base:
-        base.execute("DELETE FROM blocks WHERE picture % 3 != ?", (number,))
-        base.execute("DELETE FROM pictures WHERE id % 3 != ?", (number,))
+        base.execute("DELETE FROM blocks WHERE picture % ? != ?", (count, number))
+        base.execute("DELETE FROM pictures WHERE id % ? != ?", (count, number))
         for table, column in (("blocks", "picture"), ("pictures", "id"), ("pictures", "run"), ("runs", "id")):
             base.execute(f"UPDATE {table} SET {column} = {column} + ?", (number * NUMBERS,))
         base.execute("INSERT INTO prepared VALUES (?)", (number * NUMBERS,))
+        base.execute("VACUUM")
 
 
 @pytest.mark.parametrize("words", OVER_SHARDS)

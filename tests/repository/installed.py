@@ -131,6 +131,7 @@ class Tree:
             f"{prefix}/share/doc/exifnorm/DECISIONS.md": FILE,
             f"{prefix}/share/doc/exifnorm/FORMAT.md": FILE,
             f"{prefix}/share/doc/exifnorm/JSON.md": FILE,
+            f"{prefix}/share/doc/exifnorm/LARGE-ARCHIVES.md": FILE,
             f"{prefix}/share/doc/exifnorm/PYTHON.md": FILE,
             f"{prefix}/share/doc/exifnorm/LICENSE-APACHE": FILE,
             f"{prefix}/share/doc/exifnorm/LICENSE-MIT": FILE,

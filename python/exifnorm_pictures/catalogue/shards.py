@@ -15,11 +15,8 @@ from ..files import atomic, opening
 from ..model.errors import WrongUse
 from ..model.texts import shown_path
 from .merge import merge
-from .store import Catalogue, NoCatalogue, address, check_schema, connect, head_is_ours, unlike
+from .store import LIST, LIST_HEAD, Catalogue, NoCatalogue, address, check_schema, connect, head_is_ours, list_of, unlike
 
-LIST = "catalogues"  # the file that names the catalogues of a folder ..
-_HEAD = b"exifnorm-pictures: catalogues of one archive\n"  # .. and begins with this line
-_LONGEST = 1 << 24  # bytes of it
 MOST = 10  # that SQLite attaches
 _TABLES = ("runs", "pictures", "blocks", "not_read", "maker_notes")
 
@@ -45,7 +42,7 @@ class Shards(NamedTuple):
 
 def is_folder(name: str) -> bool:
     """Whether a name is that of a folder of catalogues: its file says so."""
-    return os.path.isdir(name) and _list_of(name) is not None
+    return os.path.isdir(name) and list_of(name) is not None
 
 
 def shards_of(folder: str) -> Shards:
@@ -59,27 +56,17 @@ def shards_of(folder: str) -> Shards:
 
 def listed(folder: str) -> List[str]:
     """The names of the catalogues of a folder, relative to it."""
-    return [os.fsdecode(line) for line in (_list_of(folder) or b"").split(b"\n") if line]
+    return [os.fsdecode(line) for line in (list_of(folder) or b"").split(b"\n") if line]
 
 
 def put_list(folder: str, names: Sequence[str]) -> None:
     """Names the catalogues of a folder, of which an earlier list is replaced as a whole."""
-    octets = _HEAD + b"".join(os.fsencode(name) + b"\n" for name in names)
+    octets = LIST_HEAD + b"".join(os.fsencode(name) + b"\n" for name in names)
 
     def write(file: BinaryIO) -> None:
         file.write(octets)
 
-    atomic.replace(os.fsencode(os.path.join(folder, LIST)), write, lambda head: head.startswith(_HEAD))
-
-
-def _list_of(folder: str) -> Optional[bytes]:
-    """What follows the first line of the list of a folder; None if there is no list."""
-    try:
-        with opening.reading(os.path.join(folder, LIST)) as file:
-            octets = file.read(_LONGEST)
-    except (FileNotFoundError, NotADirectoryError):
-        return None
-    return octets[len(_HEAD) :] if octets.startswith(_HEAD) else None
+    atomic.replace(os.fsencode(os.path.join(folder, LIST)), write, lambda head: head.startswith(LIST_HEAD))
 
 
 def _unlisted(folder: str, there: Sequence[str]) -> Iterator[str]:

@@ -39,6 +39,10 @@ SHORT_WAIT = 2  # seconds for other runs, where there is a way without writing
 
 NUMBERS = 1 << 32  # of pictures and of runs, for each of the catalogues that `index --shards` makes
 
+LIST = "catalogues"  # the file that names the catalogues of a folder ..
+LIST_HEAD = b"exifnorm-pictures: catalogues of one archive\n"  # .. and begins with this line
+_LONGEST_LIST = 1 << 24  # bytes of it
+
 HEAD = 40  # characters of a text that its index has
 
 
@@ -191,6 +195,10 @@ def _check_head(name: str, make: bool) -> None:
         raise NoCatalogue(f"there is no catalogue {name}{of_day(name)}") from None
     if stat.S_ISDIR(kind):
         folder = shlex.quote(name)
+        if list_of(name) is not None:
+            raise NoCatalogue(
+                f"{name} is a folder of catalogues, and this command takes one of them: {os.path.join(name, LIST)} lists them"
+            )
         raise NoCatalogue(f"{name} is a folder, and no catalogue. Make one of it: exifnorm-pictures index {folder} --catalogue NEW")
     if not stat.S_ISREG(kind):
         raise NoCatalogue(f"{name} is no catalogue: it is no regular file")
@@ -213,6 +221,16 @@ def _check_head(name: str, make: bool) -> None:
         )
     if version > VERSION:
         raise NoCatalogue(f"{name} is a catalogue of a later release (version {version}, here {VERSION})")
+
+
+def list_of(folder: str) -> Optional[bytes]:
+    """What follows the first line of the list of a folder of catalogues; None if the folder has no such list."""
+    try:
+        with files.reading(os.path.join(folder, LIST)) as file:
+            octets = file.read(_LONGEST_LIST)
+    except (FileNotFoundError, NotADirectoryError):
+        return None
+    return octets[len(LIST_HEAD) :] if octets.startswith(LIST_HEAD) else None
 
 
 def of_day(name: str) -> str:
