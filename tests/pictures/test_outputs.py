@@ -305,3 +305,31 @@ Catalogue.close = away
         assert state(here).get(catalogue) == whole(name)[1][catalogue], about
     else:
         assert status == 4 and said.startswith("exifnorm-pictures: "), about
+
+
+GONE = {
+    "removed": lambda c: c.unlink(),
+    "moved": lambda c: c.rename(c.parent / "elsewhere"),
+    "replaced": lambda c: (c.parent / "d").rename(c),
+    "cut": lambda c: os.truncate(c, 5000),
+}
+
+
+@pytest.mark.parametrize("how", GONE)
+@pytest.mark.parametrize("words", (["list", "c"], ["check", "rules", "c"], ["list", "c", "--json"]), ids=" ".join)
+def test_a_catalogue_that_goes_away_while_it_is_read(words, how, folder, called):
+    """Somebody does so while the command waits for who reads its output, of which a pipe has not room for all."""
+    (folder / "p").mkdir()
+    for number in range(700):
+        (folder / "p" / f"{number:04}{'-' * 100}.jpg").write_bytes(jpeg(app1(exif(b"%04d" % number))))
+    (folder / "rules").write_text("every picture needs title\n")
+    assert called("index", "p", "--catalogue", "c", "--quiet", "--jobs", "1")[0] == 0
+    shutil.copy("c", "d")
+    assert called(*words)[0] == (words[0] == "check")
+    command = [sys.executable, "-m", "exifnorm_pictures", *words]
+    with subprocess.Popen(command, stdout=subprocess.PIPE, stderr=subprocess.PIPE, env=Studio.environment()) as running:
+        first = running.stdout.read(100)
+        GONE[how](folder / "c")
+        rest, said = running.communicate()
+    assert how == "cut" or len(first + rest) > 1 << 16, "it did not wait"
+    assert running.returncode == 4 and said.startswith(b"exifnorm-pictures: c"), (running.returncode, said)

@@ -173,6 +173,11 @@ def _identity(name: str) -> Optional[Tuple[int, int]]:
     return status.st_dev, status.st_ino
 
 
+def _size_of(name: str) -> int:
+    """The bytes of a file; 0 if there is none, and of a folder, which has sizes of its own."""
+    return os.path.getsize(name) if os.path.isfile(name) else 0
+
+
 def _head_of(name: str) -> Tuple[bytes, int]:
     """The first 100 bytes of a file, and its length. Raises `OSError` with its name."""
     try:
@@ -538,8 +543,10 @@ class Catalogue:
     # Reading
 
     @contextlib.contextmanager
-    def reading(self) -> Iterator[None]:
-        """All that is read inside is of one moment, and the file is locked once for all of it."""
+    def reading(self, is_answer: bool = False) -> Iterator[None]:
+        """All that is read inside is of one moment, and the file is locked once for all of it. An answer is about what is there at its end:
+        raises `NoCatalogue` if the name leads to no file then, or to another one, or the file was cut."""
+        before, size = _identity(self.name), _size_of(self.name)
         with self.guarded():
             self.base.execute("BEGIN")
         try:
@@ -547,6 +554,10 @@ class Catalogue:
         finally:
             with contextlib.suppress(sqlite3.Error):
                 self.base.execute("COMMIT")
+        now = _identity(self.name)
+        if is_answer and (now != before or _size_of(self.name) < size):
+            what = "removed" if now is None else "replaced" if now != before else "cut"
+            raise NoCatalogue(f"{self.name} was {what} while it was read, so this answer is about what it was")
 
     @overload
     def rows(self, query: str, values: Sequence[object] = ()) -> Iterator[Any]:

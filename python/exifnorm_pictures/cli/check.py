@@ -28,7 +28,7 @@ def run(arguments: argparse.Namespace) -> int:
     source = settle(arguments)
     refuse_for_catalogues(arguments, source)
     rules = rules_of_file(arguments.rules)
-    with catalogue_for_questions(source, arguments) as catalogue, catalogue.reading():
+    with catalogue_for_questions(source, arguments) as catalogue, catalogue.reading(is_answer=True):
         checked = Checked(catalogue, rules, Preparing(arguments).report)
         table = table_of(arguments, ["picture", "line", "rule", "label", "text", "damage"])
         if table:

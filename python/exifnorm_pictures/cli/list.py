@@ -40,7 +40,7 @@ def run(arguments: argparse.Namespace) -> int:
     source = settle(arguments)
     refuse_for_catalogues(arguments, source)
     arguments.pixels = DAMAGE in (*(labels_of(question) if question else ()), *columns, counted)  # of a folder
-    with catalogue_for_questions(source, arguments) as catalogue, catalogue.reading():
+    with catalogue_for_questions(source, arguments) as catalogue, catalogue.reading(is_answer=True):
         shown = [*columns, *([] if counted is None else [counted])]
         answer = Answer(catalogue, question, scope, Preparing(arguments).report, shown)
         not_known = 0
