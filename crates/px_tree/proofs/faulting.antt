@@ -1,8 +1,8 @@
 -- Blocks that are refused.
 pub mod Unsaid
-pub mod Told
-pub mod ToldDirs
-pub mod ToldThumb
-pub mod ToldAll
+pub mod Reported
+pub mod ReportedDirs
+pub mod ReportedThumb
+pub mod ReportedAll
 pub mod Bounded
 pub mod Answered

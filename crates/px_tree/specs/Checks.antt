@@ -57,8 +57,8 @@ differs None t = true
 differs (Some u) t = not (u == t)
 
 abbrev pub is_free_value : List Range → Option Range → Bool
-is_free_value held None = true
-is_free_value held (Some r) = is_free held r
+is_free_value claimed None = true
+is_free_value claimed (Some r) = is_free claimed r
 
 -- the checks of the entry at offset p, after one with tag u, before those of its value
 abbrev pub shape_checks : Dir → ℕ → Option ℕ → Entry → List Check
@@ -70,21 +70,21 @@ shape_checks d p u e =
     ∷ check PointerForm p (has_form (role d e.tag) e)
     ∷ []
 
--- the checks of its value, if `held` is claimed
+-- the checks of its value, if `claimed` is claimed
 abbrev pub value_checks : List ℕ → Order → List Range → ℕ → Entry → List Check
-value_checks b o held p e =
+value_checks b o claimed p e =
     check ValueOutside p (has_raw b o e)
-    ∷ check Overlap p (is_free_value held (placed_range o e))
+    ∷ check Overlap p (is_free_value claimed (placed_range o e))
     ∷ []
 
 unfoldable pub entry_checks : List ℕ → Order → Dir → List Range → ℕ → Option ℕ → Entry → List Check
-entry_checks b o d held p u e = shape_checks d p u e ++ value_checks b o held p e
+entry_checks b o d claimed p u e = shape_checks d p u e ++ value_checks b o claimed p e
 
 -- the checks of all entries; each passed value is claimed for the next ones
 abbrev pub entries_checks : List ℕ → Order → Dir → List Range → ℕ → Option ℕ → List Entry → List Check
-entries_checks b o d held p u [] = []
-entries_checks b o d held p u (e ∷ es) =
-    entry_checks b o d held p u e ++ entries_checks b o d (option_to_list (placed_range o e) ++ held) (p + 12) (Some e.tag) es
+entries_checks b o d claimed p u [] = []
+entries_checks b o d claimed p u (e ∷ es) =
+    entry_checks b o d claimed p u e ++ entries_checks b o d (option_to_list (placed_range o e) ++ claimed) (p + 12) (Some e.tag) es
 
 -- ---- one directory
 
@@ -94,17 +94,17 @@ is_earlier_at earlier a = list_any (λ x. x == a) earlier
 
 -- the checks of the table at a with a pointer at p, if the tables at the earlier offsets were read
 abbrev pub opening_checks : List ℕ → Order → List ℕ → List Range → ℕ → ℕ → List Check
-opening_checks b o earlier held p a =
+opening_checks b o earlier claimed p a =
     check Loop p (not (is_earlier_at earlier a))
     ∷ check DirectoryOutside p (nat_le (a + 2) (length b))
     ∷ check EmptyDirectory a (nat_le 1 (short o (part b a 2)))
     ∷ check DirectoryOutside p (nat_le (a + table_size (short o (part b a 2))) (length b))
-    ∷ check Overlap p (is_free held (table_range b o a))
+    ∷ check Overlap p (is_free claimed (table_range b o a))
     ∷ []
 
 unfoldable pub dir_checks : List ℕ → Order → List ℕ → List Range → ℕ → Dir → ℕ → List Check
-dir_checks b o earlier held p d a =
-    opening_checks b o earlier held p a ++ entries_checks b o d (table_range b o a ∷ held) (a + 2) None (entries_at b o a)
+dir_checks b o earlier claimed p d a =
+    opening_checks b o earlier claimed p a ++ entries_checks b o d (table_range b o a ∷ claimed) (a + 2) None (entries_at b o a)
 
 -- the offset of the first entry that passes a test, if the first of all is at p
 abbrev pub place_of : (Entry → Bool) → ℕ → List Entry → ℕ
@@ -124,19 +124,20 @@ named_at b o Thumb = main_at b o + 2 + 12 * length (entries_at b o (main_at b o)
 
 -- the checks of a directory, if a pointer leads to it
 abbrev pub checks_at : List ℕ → Order → List ℕ → List Range → Dir → Option ℕ → List Check
-checks_at b o earlier held d None = []
-checks_at b o earlier held d (Some a) = dir_checks b o earlier held (named_at b o d) d a
+checks_at b o earlier claimed d None = []
+checks_at b o earlier claimed d (Some a) = dir_checks b o earlier claimed (named_at b o d) d a
 
 -- the checks of the directories in order; the offsets of passed ones are earlier, and their ranges are claimed
 abbrev pub dirs_checks : List ℕ → Order → List ℕ → List Range → List Dir → List Check
-dirs_checks b o earlier held [] = []
-dirs_checks b o earlier held (d ∷ ds) =
-    checks_at b o earlier held d (dir_at b o d) ++ dirs_checks b o (option_to_list (dir_at b o d) ++ earlier) (ranges_at b o d ++ held) ds
+dirs_checks b o earlier claimed [] = []
+dirs_checks b o earlier claimed (d ∷ ds) =
+    checks_at b o earlier claimed d (dir_at b o d)
+    ++ dirs_checks b o (option_to_list (dir_at b o d) ++ earlier) (ranges_at b o d ++ claimed) ds
 
 -- the ranges that are claimed after them
-abbrev pub dirs_held : List ℕ → Order → List Range → List Dir → List Range
-dirs_held b o held [] = held
-dirs_held b o held (d ∷ ds) = dirs_held b o (ranges_at b o d ++ held) ds
+abbrev pub dirs_claimed : List ℕ → Order → List Range → List Dir → List Range
+dirs_claimed b o claimed [] = claimed
+dirs_claimed b o claimed (d ∷ ds) = dirs_claimed b o (ranges_at b o d ++ claimed) ds
 
 -- ---- the thumbnail
 
@@ -169,28 +170,31 @@ end_checks b o a = check ExtraDirectory (a + 2 + 12 * length (entries_at b o a))
 
 -- the checks of ranges: each is inside the block and shares no byte with those that are claimed
 abbrev pub range_checks : List ℕ → ℕ → List Range → List Range → List Check
-range_checks b p held [] = []
-range_checks b p held (r ∷ rs) =
-    check ThumbnailOutside p (nat_le (r.start + r.size) (length b)) ∷ check Overlap p (is_free held r) ∷ range_checks b p (r ∷ held) rs
+range_checks b p claimed [] = []
+range_checks b p claimed (r ∷ rs) =
+    check ThumbnailOutside p (nat_le (r.start + r.size) (length b)) ∷ check Overlap p (is_free claimed r)
+    ∷ range_checks b p (r ∷ claimed) rs
 
 -- the JPEG, then each strip
 abbrev pub part_checks : List ℕ → Order → List Range → ℕ → List Entry → List Check
-part_checks b o held p es =
-    range_checks b (place_with jpeg_offset_tag p es) held (option_to_list (jpeg_range o es))
-    ++ range_checks b (place_with strip_offsets_tag p es) (option_to_list (jpeg_range o es) ++ held) (listed (strip_ranges b o es))
+part_checks b o claimed p es =
+    range_checks b (place_with jpeg_offset_tag p es) claimed (option_to_list (jpeg_range o es))
+    ++ range_checks b (place_with strip_offsets_tag p es) (option_to_list (jpeg_range o es) ++ claimed) (listed (strip_ranges b o es))
 
 -- the checks of the thumbnail directory at a, after its entries
 unfoldable pub thumb_checks : List ℕ → Order → List Range → ℕ → List Check
-thumb_checks b o held a = pair_checks (a + 2) (entries_at b o a) ++ end_checks b o a ++ part_checks b o held (a + 2) (entries_at b o a)
+thumb_checks b o claimed a =
+    pair_checks (a + 2) (entries_at b o a) ++ end_checks b o a ++ part_checks b o claimed (a + 2) (entries_at b o a)
 
 abbrev pub thumb_checks_at : List ℕ → Order → List Range → Option ℕ → List Check
-thumb_checks_at b o held None = []
-thumb_checks_at b o held (Some a) = thumb_checks b o held a
+thumb_checks_at b o claimed None = []
+thumb_checks_at b o claimed (Some a) = thumb_checks b o claimed a
 
 -- ---- all checks
 
 unfoldable pub tree_checks : List ℕ → Order → List Check
-tree_checks b o = dirs_checks b o [] (range 0 8 ∷ []) dirs ++ thumb_checks_at b o (dirs_held b o (range 0 8 ∷ []) dirs) (dir_at b o Thumb)
+tree_checks b o =
+    dirs_checks b o [] (range 0 8 ∷ []) dirs ++ thumb_checks_at b o (dirs_claimed b o (range 0 8 ∷ []) dirs) (dir_at b o Thumb)
 
 abbrev pub checks_in : List ℕ → Option Order → List Check
 checks_in b None = []

@@ -12,23 +12,23 @@ use px_bytes::{Cause, Memory, Ranges, Refusal};
 // Claims a range for the entry or pointer at an offset.
 pub fn claim_range(
     memory: &mut Memory,
-    held: &mut Ranges,
+    claimed: &mut Ranges,
     at: u32,
     start: u32,
     len: u32,
 ) -> Result<(), Refusal>
     requires bounded { start + len ≤ limit }
-    requires room { start + len ≤ held.old.room }
-    ensures judged { (taken : List Range) → Agrees taken held.old.ranges →
+    requires room { start + len ≤ claimed.old.room }
+    ensures judged { (taken : List Range) → Agrees taken claimed.old.ranges →
         Judges result (check Overlap at (is_free taken (range start len)) ∷ [])
-        (λ _. Agrees (range start len ∷ taken) held.new.ranges) }
+        (λ _. Agrees (range start len ∷ taken) claimed.new.ranges) }
     ensures memory { LacksBlock result memory.old memory.new }
-    ensures claimed { OnOk result (memory.new.asked + paid held.old + fields_request len ≡ memory.old.asked + paid held.new) }
-    ensures asked { Pays 0 memory.old memory.new held.old held.new }
-    ensures below { StaysBelow (start + len) held.old held.new }
-    ensures room { held.old.room ≤ held.new.room }
+    ensures claimed { OnOk result (memory.new.asked + paid claimed.old + fields_request len ≡ memory.old.asked + paid claimed.new) }
+    ensures asked { Pays 0 memory.old memory.new claimed.old claimed.new }
+    ensures below { StaysBelow (start + len) claimed.old claimed.new }
+    ensures room { claimed.old.room ≤ claimed.new.room }
 {
-    if !held.add_in(memory, start, len)? {
+    if !claimed.add_in(memory, start, len)? {
         return Err(Cause::Overlap.at(at));
     }
     Ok(())

@@ -13,7 +13,7 @@ ghost use Rattle.px_tree.specs.calls.Reading.{Shows, bare, IsShape, Follows, spa
 ghost use Rattle.px_tree.specs.calls.Paying.{Pays, StaysBelow};
 
 use crate::claiming::claim_range;
-use crate::source::Source;
+use crate::source::BlockReader;
 use px_bytes::{Cause, Memory, Order, Ranges, Refusal};
 use px_field::Form;
 use px_meaning::{Dir, Role, has_no_use, needs_place, number16, number32, part_of, role_where};
@@ -102,22 +102,22 @@ fn shape_of(dir: Dir, at: u32, before: Option<u16>, head: Head) -> Result<Shape,
 fn claim_value(
     memory: &mut Memory,
     block: &[u8],
-    held: &mut Ranges,
+    claimed: &mut Ranges,
     at: u32,
     shape: Shape,
 ) -> Result<(), Refusal>
     requires bounded { length block.now ≤ limit }
-    requires room { length block.now ≤ held.old.room }
+    requires room { length block.now ≤ claimed.old.room }
     ensures judged { let start = shape.head.offset in let len = shape.head.count * size shape.form in
-        (taken : List Range) → Agrees taken held.old.ranges →
+        (taken : List Range) → Agrees taken claimed.old.ranges →
         Judges result (span_checks block.now taken at start len)
-        (λ _. Agrees (option_to_list (span start len) ++ taken) held.new.ranges) }
+        (λ _. Agrees (option_to_list (span start len) ++ taken) claimed.new.ranges) }
     ensures inside { let start = shape.head.offset in let len = shape.head.count * size shape.form in
         IfOk result (λ _. 4 < len → start + len ≤ length block.now) }
     ensures memory { LacksBlock result memory.old memory.new }
-    ensures asked { Pays 0 memory.old memory.new held.old held.new }
-    ensures below { StaysBelow (length block.now) held.old held.new }
-    ensures room { held.old.room ≤ held.new.room }
+    ensures asked { Pays 0 memory.old memory.new claimed.old claimed.new }
+    ensures below { StaysBelow (length block.now) claimed.old claimed.new }
+    ensures room { claimed.old.room ≤ claimed.new.room }
 {
     let start = shape.head.offset;
     let len = u64::from(shape.head.count) * u64::from(shape.form.size());
@@ -127,25 +127,25 @@ fn claim_value(
     if u64::from(start) + len > block.len() as u64 {
         return Err(Cause::ValueOutside.at(at));
     }
-    claim_range(memory, held, at, start, len as u32)
+    claim_range(memory, claimed, at, start, len as u32)
 }
 
 // Judges the entry at an offset, after an entry with a given tag, and claims its value.
 pub fn judge_entry(
     memory: &mut Memory,
-    source: &Source,
-    held: &mut Ranges,
+    source: &BlockReader,
+    claimed: &mut Ranges,
     at: u32,
     before: Option<u16>,
 ) -> Result<Shape, Refusal>
     requires inside { at + 12 ≤ length source.now.block.now }
     requires bounded { length source.now.block.now ≤ limit }
-    requires room { length source.now.block.now ≤ held.old.room }
+    requires room { length source.now.block.now ≤ claimed.old.room }
     ensures judged { let b = source.now.block.now in let o = source.now.order in
         let e = entry o (part b at 12) in
-        (taken : List Range) → Agrees taken held.old.ranges →
+        (taken : List Range) → Agrees taken claimed.old.ranges →
         Judges result (entry_checks b o source.now.dir taken at before e)
-        (λ s. Agrees (option_to_list (placed_range o e) ++ taken) held.new.ranges) }
+        (λ s. Agrees (option_to_list (placed_range o e) ++ taken) claimed.new.ranges) }
     ensures shape { let o = source.now.order in
         IfOk result (λ s. IsShape o source.now.dir s (entry o (part source.now.block.now at 12))) }
     ensures inside { IfOk result
@@ -154,12 +154,12 @@ pub fn judge_entry(
     ensures follows { IfOk result (λ s. Follows before s.head.tag) }
     ensures common { IfOk result (λ s. s.is_common ≡ true → HasNoUse s.head.tag) }
     ensures memory { LacksBlock result memory.old memory.new }
-    ensures asked { Pays 0 memory.old memory.new held.old held.new }
-    ensures below { StaysBelow (length source.now.block.now) held.old held.new }
-    ensures room { held.old.room ≤ held.new.room }
+    ensures asked { Pays 0 memory.old memory.new claimed.old claimed.new }
+    ensures below { StaysBelow (length source.now.block.now) claimed.old claimed.new }
+    ensures room { claimed.old.room ≤ claimed.new.room }
 {
     let head = head_at(source.block, source.order, at);
     let shape = shape_of(source.dir, at, before, head)?;
-    claim_value(memory, source.block, held, at, shape)?;
+    claim_value(memory, source.block, claimed, at, shape)?;
     Ok(shape)
 }

@@ -4,7 +4,7 @@ ghost use Rattle.px_bytes.specs.Parts.{limit, part};
 ghost use Rattle.px_field.specs.declared.Kind.TheVariants.{Of};
 ghost use Rattle.px_field.specs.Forms.{size};
 ghost use Rattle.px_meaning.specs.Entry.{entry, raw, entry_elements};
-ghost use Rattle.px_tree.specs.calls.Reading.{IsHeld};
+ghost use Rattle.px_tree.specs.calls.Reading.{IsReadable};
 
 use crate::entries::Head;
 use px_bytes::Order;
@@ -13,7 +13,7 @@ use px_meaning::{needs_place, part_of};
 
 // The raw bytes of an entry.
 pub fn raw_of<'a>(block: &'a [u8], order: Order, at: u32, head: Head, form: Form) -> &'a [u8]
-    requires { IsHeld block.now order at head form }
+    requires { IsReadable block.now order at head form }
     ensures bytes { result.now ≡ raw block.now order (entry order (part block.now at 12)) }
     ensures size { head.count * size form ≡ length result.now }
     ensures bounded { length result.now ≤ limit }
@@ -27,7 +27,7 @@ pub fn raw_of<'a>(block: &'a [u8], order: Order, at: u32, head: Head, form: Form
 
 // The value of an entry.
 pub fn value_at<'a>(block: &'a [u8], order: Order, at: u32, head: Head, form: Form) -> Value<'a>
-    requires { IsHeld block.now order at head form }
+    requires { IsReadable block.now order at head form }
     ensures { result
         ≡ record {
           kind = Of form;

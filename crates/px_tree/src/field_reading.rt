@@ -8,7 +8,7 @@ ghost use Rattle.px_field.specs.declared.Kind.TheVariants.{Of};
 ghost use Rattle.px_meaning.specs.Entry.{entry, raw, entry_elements, widened_value, record_in, unless_record, value_in, field};
 ghost use Rattle.px_meaning.specs.Footprint.{placed_range};
 ghost use Rattle.px_tree.specs.Checks.{entries_checks};
-ghost use Rattle.px_tree.specs.calls.Reading.{IsHeld, is_whole, if_kept, entries_from};
+ghost use Rattle.px_tree.specs.calls.Reading.{IsReadable, is_whole, if_kept, entries_from};
 ghost use Rattle.px_tree.specs.calls.Uses.{AreUses};
 ghost use Rattle.px_bytes.specs.Lacking.{Lacks, AsksAtMost};
 ghost use Rattle.px_meaning.specs.Asking.{field_bytes};
@@ -16,7 +16,7 @@ ghost use Rattle.px_tree.specs.calls.Paying.{Pays, StaysBelow};
 
 use crate::entries::{Head, Shape, judge_entry};
 use crate::entry_values::{raw_of, value_at};
-use crate::source::Source;
+use crate::source::BlockReader;
 use crate::uses::{Uses, keep_use, no_uses};
 use px_bytes::{Memory, Order, Ranges, Refusal, Refused};
 use px_field::{Form, Value, read_whole};
@@ -31,7 +31,7 @@ fn is_whole_form(form: Form) -> bool
 
 // The value of an entry for which SHORT and LONG mean the same.
 fn widened_at<'a>(block: &'a [u8], order: Order, at: u32, head: Head, form: Form) -> Value<'a>
-    requires { IsHeld block.now order at head form }
+    requires { IsReadable block.now order at head form }
     ensures { result
         ≡ widened_value form (entry_elements block.now order (entry order
         (part block.now at 12)) form) }
@@ -50,7 +50,7 @@ fn unless_record_at<'a>(
     head: Head,
     form: Form,
 ) -> Option<Value<'a>>
-    requires { IsHeld block.now order at head form }
+    requires { IsReadable block.now order at head form }
     ensures { let e = entry order (part block.now at 12) in
         result ≡ unless_record (record_in form (raw block.now order e))
         (record { kind = Of form; elements = entry_elements block.now order e form }) }
@@ -63,7 +63,7 @@ fn unless_record_at<'a>(
 
 // The value of a field, or None for pointers, entries of the thumbnail, and a record.
 fn field_of<'a>(block: &'a [u8], order: Order, at: u32, shape: Shape) -> Option<Value<'a>>
-    requires { IsHeld block.now order at shape.head shape.form }
+    requires { IsReadable block.now order at shape.head shape.form }
     ensures { result
         ≡ value_in block.now order (entry order (part block.now at 12)) shape.role shape.form }
 {
@@ -76,8 +76,13 @@ fn field_of<'a>(block: &'a [u8], order: Order, at: u32, shape: Shape) -> Option<
 }
 
 // Keeps the field of any entry, in a list that has capacity for it.
-fn keep_any_field<'a>(list: &mut Vec<(u16, Value<'a>)>, source: &Source<'a>, at: u32, shape: Shape)
-    requires held { IsHeld source.now.block.now source.now.order at shape.head shape.form }
+fn keep_any_field<'a>(
+    list: &mut Vec<(u16, Value<'a>)>,
+    source: &BlockReader<'a>,
+    at: u32,
+    shape: Shape,
+)
+    requires claimed { IsReadable source.now.block.now source.now.order at shape.head shape.form }
     requires room { vec_len list.old < vec_capacity list.old }
     ensures kept { let b = source.now.block.now in let o = source.now.order in
         list.new.items ≡ list.old.items
@@ -93,8 +98,8 @@ fn keep_any_field<'a>(list: &mut Vec<(u16, Value<'a>)>, source: &Source<'a>, at:
 }
 
 // Keeps the field of an entry, if it is one and fields are kept. Most are plain.
-fn keep_field<'a>(list: &mut Vec<(u16, Value<'a>)>, source: &Source<'a>, at: u32, shape: Shape)
-    requires held { IsHeld source.now.block.now source.now.order at shape.head shape.form }
+fn keep_field<'a>(list: &mut Vec<(u16, Value<'a>)>, source: &BlockReader<'a>, at: u32, shape: Shape)
+    requires claimed { IsReadable source.now.block.now source.now.order at shape.head shape.form }
     requires room { source.now.keeps_fields ≡ true → vec_len list.old < vec_capacity list.old }
     ensures kept { let b = source.now.block.now in let o = source.now.order in
         list.new.items ≡ list.old.items
@@ -145,33 +150,33 @@ fn list_for<'a>(
 // Reads so many entries: judges each, claims its value and keeps its field, if fields are kept.
 pub fn read_entries<'a>(
     memory: &mut Memory,
-    source: &Source<'a>,
-    held: &mut Ranges,
+    source: &BlockReader<'a>,
+    claimed: &mut Ranges,
     start: u32,
     count: u16,
 ) -> Result<Entries<'a>, Refusal>
     requires inside { start + 12 * count ≤ length source.now.block.now }
     requires bounded { length source.now.block.now ≤ limit }
-    requires room { length source.now.block.now ≤ held.old.room }
+    requires room { length source.now.block.now ≤ claimed.old.room }
     ensures judged { let b = source.now.block.now in let o = source.now.order in
         let d = source.now.dir in let es = entries_from b o start count in
-        (taken : List Range) → Agrees taken held.old.ranges →
+        (taken : List Range) → Agrees taken claimed.old.ranges →
         Judges result (entries_checks b o d taken start None es)
         (λ v. (source.now.keeps_fields ≡ true → v.fields ≡ filter_map (field b o d) es)
-        × Agrees (filter_map (placed_range o) es ++ taken) held.new.ranges) }
+        × Agrees (filter_map (placed_range o) es ++ taken) claimed.new.ranges) }
     ensures uses { let b = source.now.block.now in let o = source.now.order in
         IfOk result (λ v. AreUses b o (entries_from b o start count) start v.uses) }
     ensures memory { LacksBlock result memory.old memory.new }
-    ensures asked { Pays (count * field_bytes) memory.old memory.new held.old held.new }
-    ensures below { StaysBelow (length source.now.block.now) held.old held.new }
-    ensures room { held.old.room ≤ held.new.room }
+    ensures asked { Pays (count * field_bytes) memory.old memory.new claimed.old claimed.new }
+    ensures below { StaysBelow (length source.now.block.now) claimed.old claimed.new }
+    ensures room { claimed.old.room ≤ claimed.new.room }
 {
     let mut list = list_for(memory, source.keeps_fields, count)?;
     let mut uses = no_uses();
     let mut at = start;
     let mut before = None;
     for _ in 0..count {
-        let shape = judge_entry(memory, source, held, at, before)?;
+        let shape = judge_entry(memory, source, claimed, at, before)?;
         keep_field(&mut list, source, at, shape);
         keep_use(&mut uses, shape, at);
         before = Some(shape.head.tag);

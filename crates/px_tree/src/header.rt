@@ -53,7 +53,7 @@ pub fn judge_header(block: &[u8]) -> Result<(), Refusal>
 pub fn order_in(block: &[u8]) -> Order
     requires least { 8 ≤ length block.now }
     requires begun { begins_header block.now ≡ true }
-    ensures told { order_of block.now ≡ Some result }
+    ensures is_order { order_of block.now ≡ Some result }
     ensures bytes { AreBytes block.now }
 {
     if block[0] == FIRST_OF_LEAST {

@@ -3,7 +3,7 @@ ghost use Rattle.std.specs.Prelude.{◌≤◌, length, IfOk, IfErr, ⊤};
 ghost use Rattle.px_bytes.specs.Parts.{limit};
 ghost use Rattle.px_bytes.specs.Checks.{LacksBlock, Judges};
 ghost use Rattle.px_bytes.specs.Lacking.{AsksAtMost};
-ghost use Rattle.px_meaning.specs.Tree as said;
+ghost use Rattle.px_meaning.specs.Tree as spec;
 ghost use Rattle.px_meaning.specs.Fits.{Fits};
 ghost use Rattle.px_meaning.specs.Says.{SaysExif};
 ghost use Rattle.px_tree.specs.Checks.{tree_checks};
@@ -11,7 +11,7 @@ ghost use Rattle.px_tree.specs.Refused.{IsRefused};
 ghost use Rattle.px_tree.specs.Asking.{exif_request};
 
 use crate::header::{judge_header, order_in};
-use crate::source::Source;
+use crate::source::BlockReader;
 use crate::thumbnail::read_thumb;
 use crate::tree::{Directories, is_alone, read_main, read_others};
 use px_bytes::{Block, Memory, Order, Ranges, Refusal};
@@ -25,20 +25,20 @@ fn judge_tree(memory: &mut Memory, block: &[u8], order: Order) -> Result<(), Ref
     ensures memory { LacksBlock result memory.old memory.new }
     ensures asked { AsksAtMost (exif_request (length block.now)) memory.old memory.new }
 {
-    let mut held = Ranges::with_room_in(memory, block.len() as u32)?;
-    let source = Source {
+    let mut claimed = Ranges::with_room_in(memory, block.len() as u32)?;
+    let source = BlockReader {
         block,
         order,
         dir: Dir::Main,
         keeps_fields: false,
     };
-    let main = read_main(memory, &source, &mut held)?;
+    let main = read_main(memory, &source, &mut claimed)?;
     if is_alone(block, order, &main) {
         return Ok(());
     }
-    let directories = read_others(memory, &source, &mut held, main)?;
+    let directories = read_others(memory, &source, &mut claimed, main)?;
     let Directories { thumb, .. } = directories;
-    let thumb = read_thumb(memory, block, order, &mut held, thumb)?;
+    let thumb = read_thumb(memory, block, order, &mut claimed, thumb)?;
     drop(thumb);
     Ok(())
 }
@@ -49,7 +49,7 @@ fn judge_tree(memory: &mut Memory, block: &[u8], order: Order) -> Result<(), Ref
 /// Allocates the claimed ranges and the fields of the thumbnail directory while it judges, and asks for at
 /// most what `read_block_in` does. The cost is linear in the block's length. `Content` and `OutOfMemory`: as for `read_block_in`.
 pub fn judge_block_in(memory: &mut Memory, block: Block) -> Result<(), Refusal>
-    ensures said { IfOk result (λ _. (m : said.Meaning) × SaysExif block.entry m × Fits m) }
+    ensures said { IfOk result (λ _. (m : spec.Meaning) × SaysExif block.entry m × Fits m) }
     ensures refused { IfErr result (IsRefused block.entry memory.new.refusals) }
     ensures memory { LacksBlock result memory.old memory.new }
     ensures asked { AsksAtMost (exif_request (length block.entry)) memory.old memory.new }

@@ -28,7 +28,7 @@ pub struct Found {
 // The pointer to the next directory after the table at an offset.
 pub fn next_link(block: &[u8], order: Order, at: u32, count: u16) -> Option<Link>
     requires bounded { length block.now ≤ limit }
-    requires stands { HasTable block.now order at count }
+    requires has_table { HasTable block.now order at count }
     ensures leads { option_map
         (λ l. l.at) result ≡ unless_zero (next order (table block.now order at)) }
     ensures place { IfSome result

@@ -17,7 +17,7 @@ ghost use Rattle.px_tree.specs.calls.ReadTree.{IsReadMain, IsAlone};
 
 use crate::header::{judge_header, order_in};
 use crate::records::read_record;
-use crate::source::Source;
+use crate::source::BlockReader;
 use crate::tables::Directory;
 use crate::thumbnail::read_thumb;
 use crate::tree::{
@@ -86,19 +86,19 @@ fn read_tree<'a>(memory: &mut Memory, block: &'a [u8], order: Order) -> Result<M
     ensures memory { LacksBlock result memory.old memory.new }
     ensures asked { AsksAtMost (exif_request (length block.now)) memory.old memory.new }
 {
-    let mut held = Ranges::with_room_in(memory, block.len() as u32)?;
-    let source = Source {
+    let mut claimed = Ranges::with_room_in(memory, block.len() as u32)?;
+    let source = BlockReader {
         block,
         order,
         dir: Dir::Main,
         keeps_fields: true,
     };
-    let main = read_main(memory, &source, &mut held)?;
+    let main = read_main(memory, &source, &mut claimed)?;
     if is_alone(block, order, &main) {
-        drop(held);
+        drop(claimed);
         return read_alone(memory, block, order, main);
     }
-    let directories = read_others(memory, &source, &mut held, main)?;
+    let directories = read_others(memory, &source, &mut claimed, main)?;
     let Directories {
         main,
         exif,
@@ -106,9 +106,9 @@ fn read_tree<'a>(memory: &mut Memory, block: &'a [u8], order: Order) -> Result<M
         gps,
         thumb,
     } = directories;
-    let thumb = read_thumb(memory, block, order, &mut held, thumb)?;
+    let thumb = read_thumb(memory, block, order, &mut claimed, thumb)?;
     // Frees the marks of the claimed ranges first: the record's list can be the largest allocation.
-    drop(held);
+    drop(claimed);
     let iptc = read_record(memory, block, order, &main)?;
     let MainDirectory { fields, .. } = main;
     Ok(Meaning {

@@ -4,7 +4,7 @@ use px_meaning::Dir;
 
 // A block, its byte order, the directory to read, and whether its fields are kept. A check keeps none.
 #[derive(Clone, Copy)]
-pub struct Source<'a> {
+pub struct BlockReader<'a> {
     pub block: &'a [u8],
     pub order: Order,
     pub dir: Dir,

@@ -16,7 +16,7 @@ ghost use Rattle.px_tree.specs.calls.Paying.{paid, Pays, StaysBelow};
 use crate::claiming::claim_range;
 use crate::field_reading::{Entries, read_entries};
 use crate::links::{Link, is_earlier};
-use crate::source::Source;
+use crate::source::BlockReader;
 use crate::uses::Uses;
 use px_bytes::{Cause, Memory, Ranges, Refusal};
 use px_meaning::{Fields, number16, table_len};
@@ -33,23 +33,23 @@ pub struct Directory<'a> {
 // The number of entries of the table at a pointer. It claims the table.
 fn open_table(
     memory: &mut Memory,
-    source: &Source,
-    held: &mut Ranges,
+    source: &BlockReader,
+    claimed: &mut Ranges,
     earlier: &[Option<Link>],
     link: Link,
 ) -> Result<u16, Refusal>
     requires bounded { length source.now.block.now ≤ limit }
-    requires room { length source.now.block.now ≤ held.old.room }
-    ensures judged { (taken : List Range) → Agrees taken held.old.ranges →
+    requires room { length source.now.block.now ≤ claimed.old.room }
+    ensures judged { (taken : List Range) → Agrees taken claimed.old.ranges →
         Judges result (opening_checks source.now.block.now source.now.order
         (offsets_of earlier.now) taken link.place link.at)
-        (λ n. Agrees (range link.at (table_size n) ∷ taken) held.new.ranges) }
+        (λ n. Agrees (range link.at (table_size n) ∷ taken) claimed.new.ranges) }
     ensures there { IfOk result (λ n. HasTable source.now.block.now source.now.order link.at n) }
     ensures memory { LacksBlock result memory.old memory.new }
-    ensures table { IfOk result (λ n. memory.new.asked + paid held.old + n * field_bytes ≤ memory.old.asked + paid held.new) }
-    ensures asked { Pays 0 memory.old memory.new held.old held.new }
-    ensures below { StaysBelow (length source.now.block.now) held.old held.new }
-    ensures room { held.old.room ≤ held.new.room }
+    ensures table { IfOk result (λ n. memory.new.asked + paid claimed.old + n * field_bytes ≤ memory.old.asked + paid claimed.new) }
+    ensures asked { Pays 0 memory.old memory.new claimed.old claimed.new }
+    ensures below { StaysBelow (length source.now.block.now) claimed.old claimed.new }
+    ensures room { claimed.old.room ≤ claimed.new.room }
 {
     let block = source.block;
     let at = link.at;
@@ -68,37 +68,37 @@ fn open_table(
     if u64::from(at) + u64::from(size) > block.len() as u64 {
         return Err(Cause::DirectoryOutside.at(place));
     }
-    claim_range(memory, held, place, at, size)?;
+    claim_range(memory, claimed, place, at, size)?;
     Ok(count)
 }
 
 // Reads the directory at a pointer. Without its fields if none are kept.
 pub fn read_directory<'a>(
     memory: &mut Memory,
-    source: &Source<'a>,
-    held: &mut Ranges,
+    source: &BlockReader<'a>,
+    claimed: &mut Ranges,
     earlier: &[Option<Link>],
     link: Link,
 ) -> Result<Directory<'a>, Refusal>
     requires bounded { length source.now.block.now ≤ limit }
-    requires room { length source.now.block.now ≤ held.old.room }
+    requires room { length source.now.block.now ≤ claimed.old.room }
     ensures judged { let b = source.now.block.now in let o = source.now.order in
         let d = source.now.dir in
-        (taken : List Range) → Agrees taken held.old.ranges →
+        (taken : List Range) → Agrees taken claimed.old.ranges →
         Judges result (dir_checks b o (offsets_of earlier.now) taken link.place d link.at)
         (λ t. (source.now.keeps_fields ≡ true → t.fields ≡ fields b o d link.at)
-        × Agrees (dir_ranges b o link.at ++ taken) held.new.ranges) }
+        × Agrees (dir_ranges b o link.at ++ taken) claimed.new.ranges) }
     ensures there { let b = source.now.block.now in let o = source.now.order in
         IfOk result (λ t. (t.at ≡ link.at) × HasTable b o t.at t.count) }
     ensures uses { let b = source.now.block.now in let o = source.now.order in
         IfOk result (λ t. AreUses b o (entries_at b o t.at) (t.at + 2) t.uses) }
     ensures memory { LacksBlock result memory.old memory.new }
-    ensures asked { Pays 0 memory.old memory.new held.old held.new }
-    ensures below { StaysBelow (length source.now.block.now) held.old held.new }
-    ensures room { held.old.room ≤ held.new.room }
+    ensures asked { Pays 0 memory.old memory.new claimed.old claimed.new }
+    ensures below { StaysBelow (length source.now.block.now) claimed.old claimed.new }
+    ensures room { claimed.old.room ≤ claimed.new.room }
 {
-    let count = open_table(memory, source, held, earlier, link)?;
-    let entries = read_entries(memory, source, held, link.at + 2, count)?;
+    let count = open_table(memory, source, claimed, earlier, link)?;
+    let entries = read_entries(memory, source, claimed, link.at + 2, count)?;
     let Entries { fields, uses } = entries;
     Ok(Directory {
         fields,

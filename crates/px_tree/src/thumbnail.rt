@@ -70,7 +70,7 @@ fn judge_pairs(parts: Uses) -> Result<(), Refusal>
 // Checks that the directory at an offset has no next directory.
 fn judge_end(block: &[u8], order: Order, at: u32, count: u16) -> Result<(), Refusal>
     requires bounded { length block.now ≤ limit }
-    requires stands { HasTable block.now order at count }
+    requires has_table { HasTable block.now order at count }
     ensures judged { Judges result (end_checks block.now order at) (λ _. ⊤) }
     ensures content { ContentOnly result }
 {
@@ -91,49 +91,49 @@ struct Extent {
 fn claim(
     memory: &mut Memory,
     block: &[u8],
-    held: &mut Ranges,
+    claimed: &mut Ranges,
     place: u32,
     extent: Extent,
 ) -> Result<(), Refusal>
     requires bounded { length block.now ≤ limit }
-    requires room { length block.now ≤ held.old.room }
+    requires room { length block.now ≤ claimed.old.room }
     ensures judged { let start = extent.start in let len = extent.len in
-        (taken : List Range) → Agrees taken held.old.ranges →
+        (taken : List Range) → Agrees taken claimed.old.ranges →
         Judges result (check ThumbnailOutside place (nat_le (start + len) (length block.now))
         ∷ check Overlap place (is_free taken (range start len)) ∷ [])
-        (λ _. Agrees (range start len ∷ taken) held.new.ranges) }
+        (λ _. Agrees (range start len ∷ taken) claimed.new.ranges) }
     ensures inside { OnOk result (extent.start + extent.len ≤ length block.now) }
     ensures memory { LacksBlock result memory.old memory.new }
-    ensures asked { Pays 0 memory.old memory.new held.old held.new }
-    ensures below { StaysBelow (length block.now) held.old held.new }
-    ensures room { held.old.room ≤ held.new.room }
+    ensures asked { Pays 0 memory.old memory.new claimed.old claimed.new }
+    ensures below { StaysBelow (length block.now) claimed.old claimed.new }
+    ensures room { claimed.old.room ≤ claimed.new.room }
 {
     let Extent { start, len } = extent;
     if u64::from(start) + u64::from(len) > block.len() as u64 {
         return Err(Cause::ThumbnailOutside.at(place));
     }
-    claim_range(memory, held, place, start, len)
+    claim_range(memory, claimed, place, start, len)
 }
 
 // Claims and returns the JPEG, if both of its entries are present.
 fn claim_jpeg<'a>(
     memory: &mut Memory,
     block: &'a [u8],
-    held: &mut Ranges,
+    claimed: &mut Ranges,
     parts: Uses,
 ) -> Result<Option<&'a [u8]>, Refusal>
     requires bounded { length block.now ≤ limit }
-    requires room { length block.now ≤ held.old.room }
+    requires room { length block.now ≤ claimed.old.room }
     ensures judged { let rs = option_to_list (jpeg_of parts.jpeg_offset parts.jpeg_length) in
-        (taken : List Range) → Agrees taken held.old.ranges →
+        (taken : List Range) → Agrees taken claimed.old.ranges →
         Judges result (range_checks block.now (place_in parts.jpeg_offset) taken rs)
-        (λ _. Agrees (rs ++ taken) held.new.ranges) }
+        (λ _. Agrees (rs ++ taken) claimed.new.ranges) }
     ensures part { IfOk result (λ j. option_map
         (λ s. s.now) j ≡ option_map (bytes_of block.now) (jpeg_of parts.jpeg_offset parts.jpeg_length)) }
     ensures memory { LacksBlock result memory.old memory.new }
-    ensures asked { Pays 0 memory.old memory.new held.old held.new }
-    ensures below { StaysBelow (length block.now) held.old held.new }
-    ensures room { held.old.room ≤ held.new.room }
+    ensures asked { Pays 0 memory.old memory.new claimed.old claimed.new }
+    ensures below { StaysBelow (length block.now) claimed.old claimed.new }
+    ensures room { claimed.old.room ≤ claimed.new.room }
 {
     match (parts.jpeg_offset, parts.jpeg_length) {
         (Some(offset), Some(size)) => {
@@ -141,7 +141,7 @@ fn claim_jpeg<'a>(
                 start: offset.head.offset,
                 len: size.head.offset,
             };
-            claim(memory, block, held, offset.place, extent)?;
+            claim(memory, block, claimed, offset.place, extent)?;
             Ok(Some(part_of(block, extent.start, extent.len)))
         }
         _ => Ok(None),
@@ -178,27 +178,27 @@ fn numbers_at<'a>(block: &'a [u8], order: Order, found: Found) -> Value<'a>
 #[inline(always)]
 fn claim_each(
     memory: &mut Memory,
-    held: &mut Ranges,
+    claimed: &mut Ranges,
     place: u32,
     lists: &StripLists,
 ) -> Result<(), Refusal>
     requires bounded { length lists.now.block.now ≤ limit }
     requires same { length lists.now.starts.elements ≡ length lists.now.sizes.elements }
-    requires room { length lists.now.block.now ≤ held.old.room }
-    ensures judged { (taken : List Range) → Agrees taken held.old.ranges →
+    requires room { length lists.now.block.now ≤ claimed.old.room }
+    ensures judged { (taken : List Range) → Agrees taken claimed.old.ranges →
         Judges result (range_checks lists.now.block.now place taken (ranges_in lists.now)) (λ _. ⊤) }
     ensures inside { OnOk result (AllByRecursion (IsInside lists.now.block.now) (ranges_in lists.now)) }
     ensures memory { LacksBlock result memory.old memory.new }
-    ensures asked { Pays 0 memory.old memory.new held.old held.new }
-    ensures below { StaysBelow (length lists.now.block.now) held.old held.new }
-    ensures room { held.old.room ≤ held.new.room }
+    ensures asked { Pays 0 memory.old memory.new claimed.old claimed.new }
+    ensures below { StaysBelow (length lists.now.block.now) claimed.old claimed.new }
+    ensures room { claimed.old.room ≤ claimed.new.room }
 {
     for i in 0..lists.starts.count() {
         let extent = Extent {
             start: number_in(&lists.starts, i),
             len: number_in(&lists.sizes, i),
         };
-        claim(memory, lists.block, held, place, extent)?;
+        claim(memory, lists.block, claimed, place, extent)?;
     }
     Ok(())
 }
@@ -207,53 +207,53 @@ fn claim_each(
 // the types of the lists for each strip.
 fn claim_strips(
     memory: &mut Memory,
-    held: &mut Ranges,
+    claimed: &mut Ranges,
     place: u32,
     lists: &StripLists,
 ) -> Result<(), Refusal>
     requires bounded { length lists.now.block.now ≤ limit }
     requires same { length lists.now.starts.elements ≡ length lists.now.sizes.elements }
-    requires room { length lists.now.block.now ≤ held.old.room }
-    ensures judged { (taken : List Range) → Agrees taken held.old.ranges →
+    requires room { length lists.now.block.now ≤ claimed.old.room }
+    ensures judged { (taken : List Range) → Agrees taken claimed.old.ranges →
         Judges result (range_checks lists.now.block.now place taken (ranges_in lists.now)) (λ _. ⊤) }
     ensures inside { OnOk result (AllByRecursion (IsInside lists.now.block.now) (ranges_in lists.now)) }
     ensures memory { LacksBlock result memory.old memory.new }
-    ensures asked { Pays 0 memory.old memory.new held.old held.new }
-    ensures below { StaysBelow (length lists.now.block.now) held.old held.new }
-    ensures room { held.old.room ≤ held.new.room }
+    ensures asked { Pays 0 memory.old memory.new claimed.old claimed.new }
+    ensures below { StaysBelow (length lists.now.block.now) claimed.old claimed.new }
+    ensures room { claimed.old.room ≤ claimed.new.room }
 {
     let longs = Kind::Of(Form::Long);
     if lists.starts.kind() == longs && lists.sizes.kind() == longs {
-        return claim_each(memory, held, place, lists);
+        return claim_each(memory, claimed, place, lists);
     }
-    claim_each(memory, held, place, lists)
+    claim_each(memory, claimed, place, lists)
 }
 
 // Judges the strips of these lists. If their offsets ascend and no earlier range has a byte of them, it
 // claims none.
 fn judge_strips(
     memory: &mut Memory,
-    held: &mut Ranges,
+    claimed: &mut Ranges,
     place: u32,
     lists: &StripLists,
 ) -> Result<(), Refusal>
     requires bounded { length lists.now.block.now ≤ limit }
     requires same { length lists.now.starts.elements ≡ length lists.now.sizes.elements }
-    requires room { length lists.now.block.now ≤ held.old.room }
-    ensures judged { (taken : List Range) → Agrees taken held.old.ranges →
+    requires room { length lists.now.block.now ≤ claimed.old.room }
+    ensures judged { (taken : List Range) → Agrees taken claimed.old.ranges →
         Judges result (range_checks lists.now.block.now place taken (ranges_in lists.now)) (λ _. ⊤) }
     ensures inside { OnOk result (AllByRecursion (IsInside lists.now.block.now) (ranges_in lists.now)) }
     ensures memory { LacksBlock result memory.old memory.new }
-    ensures asked { Pays 0 memory.old memory.new held.old held.new }
-    ensures below { StaysBelow (length lists.now.block.now) held.old held.new }
-    ensures room { held.old.room ≤ held.new.room }
+    ensures asked { Pays 0 memory.old memory.new claimed.old claimed.new }
+    ensures below { StaysBelow (length lists.now.block.now) claimed.old claimed.new }
+    ensures room { claimed.old.room ≤ claimed.new.room }
 {
     if let Some(span) = rising_span(lists) {
-        if held.are_free(span.start, span.end) {
+        if claimed.are_free(span.start, span.end) {
             return Ok(());
         }
     }
-    claim_strips(memory, held, place, lists)
+    claim_strips(memory, claimed, place, lists)
 }
 
 // The strips, if both of their lists are present. No later check needs their ranges.
@@ -261,21 +261,21 @@ fn read_strips<'a>(
     memory: &mut Memory,
     block: &'a [u8],
     order: Order,
-    held: &mut Ranges,
+    claimed: &mut Ranges,
     parts: Uses,
 ) -> Result<Option<Strips<'a>>, Refusal>
     requires bounded { length block.now ≤ limit }
     requires numbers { HaveNumbers block.now order parts.strip_offsets × HaveNumbers block.now order parts.strip_lengths }
     requires even { AreEven parts.strip_offsets parts.strip_lengths }
-    requires room { length block.now ≤ held.old.room }
+    requires room { length block.now ≤ claimed.old.room }
     ensures judged { let rs = strips_of block.now order parts.strip_offsets parts.strip_lengths in
-        (taken : List Range) → Agrees taken held.old.ranges →
+        (taken : List Range) → Agrees taken claimed.old.ranges →
         Judges result (range_checks block.now (place_in parts.strip_offsets) taken (listed rs))
         (λ s. s ≡ option_map (map (bytes_of block.now)) rs) }
     ensures memory { LacksBlock result memory.old memory.new }
-    ensures asked { Pays 0 memory.old memory.new held.old held.new }
-    ensures below { StaysBelow (length block.now) held.old held.new }
-    ensures room { held.old.room ≤ held.new.room }
+    ensures asked { Pays 0 memory.old memory.new claimed.old claimed.new }
+    ensures below { StaysBelow (length block.now) claimed.old claimed.new }
+    ensures room { claimed.old.room ≤ claimed.new.room }
 {
     match (parts.strip_offsets, parts.strip_lengths) {
         (Some(offsets), Some(lengths)) => {
@@ -284,7 +284,7 @@ fn read_strips<'a>(
                 starts: numbers_at(block, order, offsets),
                 sizes: numbers_at(block, order, lengths),
             };
-            judge_strips(memory, held, offsets.place, &lists)?;
+            judge_strips(memory, claimed, offsets.place, &lists)?;
             Ok(Some(Strips::of_lists(memory, lists)))
         }
         _ => Ok(None),
@@ -296,19 +296,19 @@ pub fn read_thumbnail<'a>(
     memory: &mut Memory,
     block: &'a [u8],
     order: Order,
-    held: &mut Ranges,
+    claimed: &mut Ranges,
     directory: Directory<'a>,
 ) -> Result<Thumb<'a>, Refusal>
     requires bounded { length block.now ≤ limit }
     requires read { IsReadThumb block.now order directory }
-    requires room { length block.now ≤ held.old.room }
-    ensures judged { (taken : List Range) → Agrees taken held.old.ranges →
+    requires room { length block.now ≤ claimed.old.room }
+    ensures judged { (taken : List Range) → Agrees taken claimed.old.ranges →
         Judges result (thumb_checks block.now order taken directory.entry.at)
         (λ t. thumb_of t ≡ thumbnail block.now order directory.entry.at) }
     ensures memory { LacksBlock result memory.old memory.new }
-    ensures asked { Pays 0 memory.old memory.new held.old held.new }
-    ensures below { StaysBelow (length block.now) held.old held.new }
-    ensures room { held.old.room ≤ held.new.room }
+    ensures asked { Pays 0 memory.old memory.new claimed.old claimed.new }
+    ensures below { StaysBelow (length block.now) claimed.old claimed.new }
+    ensures room { claimed.old.room ≤ claimed.new.room }
 {
     let Directory {
         fields,
@@ -318,8 +318,8 @@ pub fn read_thumbnail<'a>(
     } = directory;
     judge_pairs(parts)?;
     judge_end(block, order, at, count)?;
-    let jpeg = claim_jpeg(memory, block, held, parts)?;
-    let strips = read_strips(memory, block, order, held, parts)?;
+    let jpeg = claim_jpeg(memory, block, claimed, parts)?;
+    let strips = read_strips(memory, block, order, claimed, parts)?;
     Ok(Thumb {
         fields,
         jpeg,
@@ -332,25 +332,25 @@ pub fn read_thumb<'a>(
     memory: &mut Memory,
     block: &'a [u8],
     order: Order,
-    held: &mut Ranges,
+    claimed: &mut Ranges,
     directory: Option<Directory<'a>>,
 ) -> Result<Option<Thumb<'a>>, Refusal>
     requires bounded { length block.now ≤ limit }
     requires read { IfSome directory (IsReadThumb block.now order) }
-    requires room { length block.now ≤ held.old.room }
+    requires room { length block.now ≤ claimed.old.room }
     ensures judged { let a = option_map (λ t. t.at) directory.entry in
-        (taken : List Range) → Agrees taken held.old.ranges →
+        (taken : List Range) → Agrees taken claimed.old.ranges →
         Judges result (thumb_checks_at block.now order taken a)
         (λ t. option_map thumb_of t ≡ option_map (thumbnail block.now order) a) }
     ensures memory { LacksBlock result memory.old memory.new }
-    ensures asked { Pays 0 memory.old memory.new held.old held.new }
-    ensures below { StaysBelow (length block.now) held.old held.new }
-    ensures room { held.old.room ≤ held.new.room }
+    ensures asked { Pays 0 memory.old memory.new claimed.old claimed.new }
+    ensures below { StaysBelow (length block.now) claimed.old claimed.new }
+    ensures room { claimed.old.room ≤ claimed.new.room }
 {
     match directory {
         None => Ok(None),
         Some(directory) => {
-            let thumb = read_thumbnail(memory, block, order, held, directory)?;
+            let thumb = read_thumbnail(memory, block, order, claimed, directory)?;
             Ok(Some(thumb))
         }
     }

@@ -8,16 +8,16 @@ ghost use Rattle.px_meaning.specs.declared.Dir.TheVariants.{Main};
 ghost use Rattle.px_meaning.specs.Entry.{next, table};
 ghost use Rattle.px_meaning.specs.Directory.{main_at, dir_at, fields_at, unless_zero};
 ghost use Rattle.px_meaning.specs.Footprint.{ranges_at};
-ghost use Rattle.px_tree.specs.Checks.{checks_at, dirs_checks, dirs_held};
+ghost use Rattle.px_tree.specs.Checks.{checks_at, dirs_checks, dirs_claimed};
 ghost use Rattle.px_tree.specs.calls.Reading.{HasTable};
 ghost use Rattle.px_tree.specs.calls.Uses.{link_as};
 ghost use Rattle.px_tree.specs.calls.Linked.{Names, IsRead, offsets_of, next_place};
-ghost use Rattle.px_tree.specs.calls.ReadTree.{main_checks, main_held, others, IsReadMain, SeenTree};
+ghost use Rattle.px_tree.specs.calls.ReadTree.{main_checks, main_claimed, others, IsReadMain, SeenTree};
 ghost use Rattle.px_tree.specs.calls.Paying.{Pays, StaysBelow};
 
 use crate::claiming::claim_range;
 use crate::links::{Found, Link, next_link};
-use crate::source::Source;
+use crate::source::BlockReader;
 use crate::tables::{Directory, read_directory};
 use crate::uses::link_of;
 use px_bytes::{Memory, Order, Ranges, Refusal};
@@ -45,31 +45,31 @@ pub struct Directories<'a> {
 // The directory at a pointer, if there is one.
 fn read_linked<'a>(
     memory: &mut Memory,
-    source: &Source<'a>,
-    held: &mut Ranges,
+    source: &BlockReader<'a>,
+    claimed: &mut Ranges,
     earlier: &[Option<Link>],
     link: Option<Link>,
 ) -> Result<Option<Directory<'a>>, Refusal>
     requires bounded { length source.now.block.now ≤ limit }
     requires named { Names source.now.block.now source.now.order source.now.dir link }
-    requires room { length source.now.block.now ≤ held.old.room }
+    requires room { length source.now.block.now ≤ claimed.old.room }
     ensures judged { let b = source.now.block.now in let o = source.now.order in
         let d = source.now.dir in
-        (taken : List Range) → Agrees taken held.old.ranges →
+        (taken : List Range) → Agrees taken claimed.old.ranges →
         Judges result (checks_at b o (offsets_of earlier.now) taken d (dir_at b o d))
         (λ t. (source.now.keeps_fields ≡ true → option_map (λ t. t.fields) t ≡ fields_at b o d)
-        × Agrees (ranges_at b o d ++ taken) held.new.ranges) }
+        × Agrees (ranges_at b o d ++ taken) claimed.new.ranges) }
     ensures there { IfOk result
         (λ t. IsRead source.now.block.now source.now.order source.now.dir t) }
     ensures memory { LacksBlock result memory.old memory.new }
-    ensures asked { Pays 0 memory.old memory.new held.old held.new }
-    ensures below { StaysBelow (length source.now.block.now) held.old held.new }
-    ensures room { held.old.room ≤ held.new.room }
+    ensures asked { Pays 0 memory.old memory.new claimed.old claimed.new }
+    ensures below { StaysBelow (length source.now.block.now) claimed.old claimed.new }
+    ensures room { claimed.old.room ≤ claimed.new.room }
 {
     match link {
         None => Ok(None),
         Some(link) => {
-            let directory = read_directory(memory, source, held, earlier, link)?;
+            let directory = read_directory(memory, source, claimed, earlier, link)?;
             Ok(Some(directory))
         }
     }
@@ -102,7 +102,7 @@ fn link_to_interop(exif: &Option<Directory>) -> Option<Link>
 // The pointer to the next directory.
 fn link_after(block: &[u8], order: Order, directory: &Directory) -> Option<Link>
     requires bounded { length block.now ≤ limit }
-    requires stands { HasTable block.now order directory.now.at directory.now.count }
+    requires has_table { HasTable block.now order directory.now.at directory.now.count }
     ensures leads { option_map
         (λ l. l.at) result ≡ unless_zero (next order (table block.now order directory.now.at)) }
     ensures place { IfSome result (λ l. l.place ≡ next_place block.now order directory.now.at) }
@@ -143,31 +143,31 @@ pub fn main_directory_of<'a>(main: Directory<'a>) -> MainDirectory<'a>
 // Claims the header of a block, and reads the main directory.
 pub fn read_main<'a>(
     memory: &mut Memory,
-    source: &Source<'a>,
-    held: &mut Ranges,
+    source: &BlockReader<'a>,
+    claimed: &mut Ranges,
 ) -> Result<Directory<'a>, Refusal>
     requires least { 8 ≤ length source.now.block.now }
     requires bounded { length source.now.block.now ≤ limit }
     requires main { source.now.dir ≡ Main }
-    requires none { held.old.ranges ≡ [] }
-    requires room { length source.now.block.now ≤ held.old.room }
+    requires none { claimed.old.ranges ≡ [] }
+    requires room { length source.now.block.now ≤ claimed.old.room }
     ensures judged { let b = source.now.block.now in let o = source.now.order in
         Judges result (main_checks b o)
-        (λ t. IsReadMain b o source.now.keeps_fields t × Agrees (main_held b o) held.new.ranges) }
+        (λ t. IsReadMain b o source.now.keeps_fields t × Agrees (main_claimed b o) claimed.new.ranges) }
     ensures memory { LacksBlock result memory.old memory.new }
-    ensures asked { Pays 0 memory.old memory.new held.old held.new }
-    ensures below { StaysBelow (length source.now.block.now) held.old held.new }
-    ensures room { held.old.room ≤ held.new.room }
+    ensures asked { Pays 0 memory.old memory.new claimed.old claimed.new }
+    ensures below { StaysBelow (length source.now.block.now) claimed.old claimed.new }
+    ensures room { claimed.old.room ≤ claimed.new.room }
 {
-    claim_range(memory, held, 0, 0, 8)?;
+    claim_range(memory, claimed, 0, 0, 8)?;
     let link = link_to_main(source.block, source.order);
-    read_directory(memory, source, held, &[], link)
+    read_directory(memory, source, claimed, &[], link)
 }
 
 // Whether no pointer of the main directory leads to another directory.
 pub fn is_alone(block: &[u8], order: Order, main: &Directory) -> bool
     requires bounded { length block.now ≤ limit }
-    requires stands { HasTable block.now order main.now.at main.now.count }
+    requires has_table { HasTable block.now order main.now.at main.now.count }
     ensures exif { result ≡ true → main.now.uses.exif ≡ None }
     ensures gps { result ≡ true → main.now.uses.gps ≡ None }
     ensures next { result ≡ true → None ≡ unless_zero (next order (table block.now order main.now.at)) }
@@ -187,48 +187,48 @@ pub fn is_alone(block: &[u8], order: Order, main: &Directory) -> bool
 #[inline(always)]
 pub fn read_others<'a>(
     memory: &mut Memory,
-    source: &Source<'a>,
-    held: &mut Ranges,
+    source: &BlockReader<'a>,
+    claimed: &mut Ranges,
     main: Directory<'a>,
 ) -> Result<Directories<'a>, Refusal>
     requires least { 8 ≤ length source.now.block.now }
     requires bounded { length source.now.block.now ≤ limit }
     requires read { IsReadMain source.now.block.now source.now.order source.now.keeps_fields main }
-    requires room { length source.now.block.now ≤ held.old.room }
+    requires room { length source.now.block.now ≤ claimed.old.room }
     ensures judged { let b = source.now.block.now in let o = source.now.order in
-        (taken : List Range) → Agrees taken held.old.ranges →
+        (taken : List Range) → Agrees taken claimed.old.ranges →
         Judges result (dirs_checks b o (main_at b o ∷ []) taken others)
-        (λ t. SeenTree b o source.now.keeps_fields t × Agrees (dirs_held b o taken others) held.new.ranges) }
+        (λ t. SeenTree b o source.now.keeps_fields t × Agrees (dirs_claimed b o taken others) claimed.new.ranges) }
     ensures memory { LacksBlock result memory.old memory.new }
-    ensures asked { Pays 0 memory.old memory.new held.old held.new }
-    ensures below { StaysBelow (length source.now.block.now) held.old held.new }
-    ensures room { held.old.room ≤ held.new.room }
+    ensures asked { Pays 0 memory.old memory.new claimed.old claimed.new }
+    ensures below { StaysBelow (length source.now.block.now) claimed.old claimed.new }
+    ensures room { claimed.old.room ≤ claimed.new.room }
 {
     let block = source.block;
     let order = source.order;
     let main_link = link_to_main(block, order);
     let exif_link = link_to_exif(&main);
     let read = [Some(main_link)];
-    let mut source = Source {
+    let mut source = BlockReader {
         block,
         order,
         dir: Dir::Exif,
         keeps_fields: source.keeps_fields,
     };
-    let exif = read_linked(memory, &source, held, &read, exif_link)?;
+    let exif = read_linked(memory, &source, claimed, &read, exif_link)?;
     let interop_link = link_to_interop(&exif);
     let read = [exif_link, Some(main_link)];
     source.dir = Dir::Interop;
-    let interop = read_linked(memory, &source, held, &read, interop_link)?;
+    let interop = read_linked(memory, &source, claimed, &read, interop_link)?;
     let gps_link = link_to_gps(&main);
     let read = [interop_link, exif_link, Some(main_link)];
     source.dir = Dir::Gps;
-    let gps = read_linked(memory, &source, held, &read, gps_link)?;
+    let gps = read_linked(memory, &source, claimed, &read, gps_link)?;
     let thumb_link = link_after(block, order, &main);
     let read = [gps_link, interop_link, exif_link, Some(main_link)];
     source.dir = Dir::Thumb;
     source.keeps_fields = true;
-    let thumb = read_linked(memory, &source, held, &read, thumb_link)?;
+    let thumb = read_linked(memory, &source, claimed, &read, thumb_link)?;
     let main = main_directory_of(main);
     Ok(Directories {
         main,

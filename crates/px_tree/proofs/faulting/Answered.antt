@@ -13,14 +13,14 @@ use Rattle.px_iim.specs.Check.{iim_checks}
 use Rattle.px_iim.specs.lemmas.FaultLaws.{said_clean}
 use Rattle.px_iim.specs.lemmas.RecordLaws.{computed_said}
 use Rattle.px_meaning.specs.Iim.{Iim, iim_of}
-use Rattle.px_meaning.specs.Tree as said
+use Rattle.px_meaning.specs.Tree as spec
 use Rattle.px_meaning.specs.Fits.{Fits}
 use Rattle.px_meaning.specs.Says.{meaning, SaysExif}
 use Rattle.px_tree.specs.Checks.{order_of, header_checks, tree_checks, checks_in, checks}
 use Rattle.px_tree.specs.Refused.{IsRefused}
 use Rattle.px_meaning.specs.lemmas.Filled.{said_fits}
-use Rattle.px_tree.proofs.saying.Judged.{none_false, judged_well, order_told}
-use Rattle.px_tree.proofs.faulting.ToldAll.{first_stands}
+use Rattle.px_tree.proofs.saying.Judged.{none_false, judged_well, order_reported}
+use Rattle.px_tree.proofs.faulting.ReportedAll.{first_stands}
 use Rattle.px_tree.proofs.faulting.Unsaid.{stands_unsaid}
 use Rattle.px_tree.proofs.faulting.Bounded.{fault_bounded}
 
@@ -63,19 +63,19 @@ module _ (b : List ℕ) (o : Order) (headed : first_false (header_checks b) ≡ 
       let w = judged_well b (none_false (checks b) (all_true (header_checks b) (checks_in b (order_of b)) headed
       (ap (λ (x : Option Order). first_false (checks_in b x)) ordered ∙ h))) in
       let s = w.1 in
-      let e : Some o ≡ Some s.order = sym ordered ∙ order_told b s.order s.is_block.begins in
+      let e : Some o ≡ Some s.order = sym ordered ∙ order_reported b s.order s.is_block.begins in
       let q : o ≡ s.order = cc in
       record { order = s.order; is_block = s.is_block; says = ap (meaning b) q }
 
   -- a judgement of the tree is one of the block
   module _ {M : Type 0} where
     pub tree_judged : (r : Result M Refusal) → AreBytes b → Judges r (tree_checks b o) (λ _. ⊤)
-        → IfOk r (λ _. (m : said.Meaning) × SaysExif b m × Fits m)
+        → IfOk r (λ _. (m : spec.Meaning) × SaysExif b m × Fits m)
     tree_judged (Ok x) a j = let s = tree_says j.0 in (meaning b o, s, said_fits b (meaning b o) a s)
     tree_judged (Err e) a j = tt
 
   -- the result for the tree is that for the block
-  module _ {M : Type 0} (see : M → said.Meaning) where
+  module _ {M : Type 0} (see : M → spec.Meaning) where
     pub tree_said : (r : Result M Refusal) → Judges r (tree_checks b o) (λ m. see m ≡ meaning b o) → IfOk r (λ m. SaysExif b (see m))
     tree_said (Ok m) j = subst (SaysExif b) (sym j.1) (tree_says j.0)
     tree_said (Err e) j = tt

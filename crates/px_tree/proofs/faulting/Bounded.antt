@@ -23,7 +23,7 @@ use Rattle.px_tree.specs.Checks.{named_at, place_of, place_with, pointer_place, 
 use Rattle.px_tree.specs.FaultLaws.{FaultsBounded}
 use Rattle.px_tree.specs.Faults.{Begins, EntryAt, value_owners, dir_owners, owners_at, thumb_owners, owners, Fault}
 use Rattle.px_tree.specs.calls.Reading.{HasTable}
-use Rattle.px_tree.proofs.faulting.ToldAll.{first_stands}
+use Rattle.px_tree.proofs.faulting.ReportedAll.{first_stands}
 use Rattle.px_tree.proofs.reading.Pointers.{length_is}
 
 none_entries : (o : Order) → entries o [] ≡ []

@@ -32,50 +32,50 @@ same_moved (Some x) es now = same_front x es now
 -- ---- the loop
 module _ (b : List ℕ) (o : Order) (d : Dir) where
   -- what was read and what is left have the faults and the ranges of all
-  pub record SoFar (taken : List Range) (all : List Entry) (start : ℕ) (held : List (ℕ × ℕ)) (at : ℕ) (before : Option ℕ) (left : ℕ) : Type
+  pub record SoFar (taken : List Range) (all : List Entry) (start : ℕ) (claimed : List (ℕ × ℕ)) (at : ℕ) (before : Option ℕ) (left : ℕ) : Type
       0 where
     pub now : List Range
-    pub agrees : Agrees now held
+    pub agrees : Agrees now claimed
     pub faults : first_false (entries_checks b o d now at before (entries_from b o at left)) ≡ first_false
         (entries_checks b o d taken start None all)
     pub free : SameFree (filter_map (placed_range o) (entries_from b o at left) ++ now) (filter_map (placed_range o) all ++ taken)
 
-  pub so_far_start : (taken : List Range) (start n : ℕ) (held : List (ℕ × ℕ)) → Agrees taken held
-      → SoFar taken (entries_from b o start n) start held start None n
-  so_far_start taken start n held a = record { now = taken; agrees = a; faults = refl; free = same_refl _ }
+  pub so_far_start : (taken : List Range) (start n : ℕ) (claimed : List (ℕ × ℕ)) → Agrees taken claimed
+      → SoFar taken (entries_from b o start n) start claimed start None n
+  so_far_start taken start n claimed a = record { now = taken; agrees = a; faults = refl; free = same_refl _ }
 
   abbrev tag_of : Entry → ℕ
   tag_of e = e.tag
 
   -- the first entry of those left, and the entries after it
-  behind : (now : List Range) (at : ℕ) (before : Option ℕ) (m : ℕ) → List Check
-  behind now at before m =
+  after : (now : List Range) (at : ℕ) (before : Option ℕ) (m : ℕ) → List Check
+  after now at before m =
       entries_checks b o d (option_to_list (placed_range o (entry o (part b at 12)))
       ++ now) (at + 12) (Some (tag_of (entry o (part b at 12)))) (entries_from b o (at + 12) m)
 
-  module _ (taken : List Range) (all : List Entry) (start : ℕ) (held : List (ℕ × ℕ)) (at : ℕ) (before : Option ℕ) (n m : ℕ)
-      (more : n ≡ suc m) (s : SoFar taken all start held at before n) where
+  module _ (taken : List Range) (all : List Entry) (start : ℕ) (claimed : List (ℕ × ℕ)) (at : ℕ) (before : Option ℕ) (n m : ℕ)
+      (more : n ≡ suc m) (s : SoFar taken all start claimed at before n) where
     abbrev e : Entry
     e = entry o (part b at 12)
 
     pub so_far_refuses : (r : Refusal) → Refuses r (entry_checks b o d s.now at before e)
         → Refuses r (entries_checks b o d taken start None all)
-    unfolding behind
+    unfolding after
     so_far_refuses r h =
         Refuses_same r (entries_checks b o d s.now at before (entries_from b o at (suc m))) (entries_checks b o d taken start None all)
         (ap (λ (k : ℕ). first_false (entries_checks b o d s.now at before (entries_from b o at k))) (sym more) ∙ s.faults)
-        (Refuses_more r (entry_checks b o d s.now at before e) (behind s.now at before m) h)
+        (Refuses_more r (entry_checks b o d s.now at before e) (after s.now at before m) h)
 
     pub so_far_step : (new : List (ℕ × ℕ)) (tag : ℕ) → tag ≡ e.tag → first_false (entry_checks b o d s.now at before e) ≡ None
         → Agrees (option_to_list (placed_range o e) ++ s.now) new → SoFar taken all start new (at + 12) (Some tag) m
-    unfolding behind
+    unfolding after
     so_far_step new tag t h a = record {
       now = option_to_list (placed_range o e) ++ s.now;
       agrees = a;
       faults =
           ap (λ (k : ℕ). first_false (entries_checks b o d (option_to_list (placed_range o e) ++ s.now) (at + 12) (Some k)
           (entries_from b o (at + 12) m))) t
-          ∙ sym (first_false_true (entry_checks b o d s.now at before e) (behind s.now at before m) h)
+          ∙ sym (first_false_true (entry_checks b o d s.now at before e) (after s.now at before m) h)
           ∙ ap (λ (k : ℕ). first_false (entries_checks b o d s.now at before (entries_from b o at k))) (sym more)
           ∙ s.faults;
       free = same_trans (filter_map (placed_range o) (entries_from b o (at + 12) m)
@@ -104,12 +104,12 @@ module _ (b : List ℕ) (o : Order) (d : Dir) where
       ∙ ap (λ (r : Role). option_map (λ (v : Value). (e.tag, v)) (value_in b o e r s.form)) (sym i.role_is)
 
   -- if none is left
-  pub so_far_end : (taken : List Range) (all : List Entry) (start : ℕ) (held : List (ℕ × ℕ)) (at : ℕ) (before : Option ℕ) (n : ℕ) → n ≡ 0
-      → SoFar taken all start held at before n
-      → (first_false (entries_checks b o d taken start None all) ≡ None) × Agrees (filter_map (placed_range o) all ++ taken) held
-  so_far_end taken all start held at before n z s = (
+  pub so_far_end : (taken : List Range) (all : List Entry) (start : ℕ) (claimed : List (ℕ × ℕ)) (at : ℕ) (before : Option ℕ) (n : ℕ) → n ≡ 0
+      → SoFar taken all start claimed at before n
+      → (first_false (entries_checks b o d taken start None all) ≡ None) × Agrees (filter_map (placed_range o) all ++ taken) claimed
+  so_far_end taken all start claimed at before n z s = (
     sym s.faults ∙ ap (λ (k : ℕ). first_false (entries_checks b o d s.now at before (entries_from b o at k))) z,
-    agrees_same s.now (filter_map (placed_range o) all ++ taken) held (subst
+    agrees_same s.now (filter_map (placed_range o) all ++ taken) claimed (subst
         (λ (k : ℕ). SameFree (filter_map (placed_range o) (entries_from b o at k) ++ s.now) (filter_map (placed_range o) all ++ taken)) z
         s.free) s.agrees,
   )

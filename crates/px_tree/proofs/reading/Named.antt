@@ -16,7 +16,7 @@ use Rattle.px_meaning.specs.Roles.{exif_tag, gps_tag, interop_tag, record_tag}
 use Rattle.px_meaning.specs.Entry.{Entry, fields, next, table, offset}
 use Rattle.px_meaning.specs.Directory.{dir_at, main_at, fields_at, is_pointer, pointer, entries_at, unless_zero}
 use Rattle.px_meaning.specs.Footprint.{dir_ranges, listed, ranges_at}
-use Rattle.px_tree.specs.Checks.{named_at, pointer_place, dir_checks, checks_at, dirs_checks, dirs_held}
+use Rattle.px_tree.specs.Checks.{named_at, pointer_place, dir_checks, checks_at, dirs_checks, dirs_claimed}
 use Rattle.px_tree.specs.calls.Uses.{Sees, link_as, has_tag}
 use Rattle.px_tree.specs.calls.Linked.{AreUsesAt, IsRead, Names, offsets_of, next_place}
 use Rattle.px_tree.specs.calls.ReadTree.{others}
@@ -42,36 +42,36 @@ module _ (b : List ℕ) (o : Order) (taken : List Range) where
   all_checks = dirs_checks b o (main_at b o ∷ []) taken others
 
   -- after the directories of the links, the checks of those left have the first fault of all, and in the end the same ranges are claimed
-  pub record DirsSoFar (earlier : List (Option Link)) (ds : List Dir) (held : List (ℕ × ℕ)) : Type 0 where
+  pub record DirsSoFar (earlier : List (Option Link)) (ds : List Dir) (claimed : List (ℕ × ℕ)) : Type 0 where
     pub now : List Range
-    pub agrees : Agrees now held
+    pub agrees : Agrees now claimed
     pub faults : first_false (dirs_checks b o (offsets_of earlier) now ds) ≡ first_false all_checks
-    pub ends : dirs_held b o now ds ≡ dirs_held b o taken others
+    pub ends : dirs_claimed b o now ds ≡ dirs_claimed b o taken others
 
-  pub dirs_start : (link : Link) → link.at ≡ main_at b o → (held : List (ℕ × ℕ)) → Agrees taken held
-      → DirsSoFar (Some link ∷ []) others held
-  dirs_start link at held a = record {
+  pub dirs_start : (link : Link) → link.at ≡ main_at b o → (claimed : List (ℕ × ℕ)) → Agrees taken claimed
+      → DirsSoFar (Some link ∷ []) others claimed
+  dirs_start link at claimed a = record {
     now = taken;
     agrees = a;
     faults = ap (λ (n : ℕ). first_false (dirs_checks b o (n ∷ []) taken others)) at;
     ends = refl;
   }
 
-  module _ (earlier : List (Option Link)) (d : Dir) (ds : List Dir) (held : List (ℕ × ℕ)) (s : DirsSoFar earlier (d ∷ ds) held) where
-    behind : List ℕ
-    behind = option_to_list (dir_at b o d) ++ offsets_of earlier
+  module _ (earlier : List (Option Link)) (d : Dir) (ds : List Dir) (claimed : List (ℕ × ℕ)) (s : DirsSoFar earlier (d ∷ ds) claimed) where
+    after : List ℕ
+    after = option_to_list (dir_at b o d) ++ offsets_of earlier
 
     pub dirs_refuse : (r : Refusal) → Refuses r (checks_at b o (offsets_of earlier) s.now d (dir_at b o d))
         → Refuses r all_checks
-    unfolding behind
+    unfolding after
     dirs_refuse r h = Refuses_same r (dirs_checks b o (offsets_of earlier) s.now (d ∷ ds)) all_checks s.faults
-        (Refuses_more r (checks_at b o (offsets_of earlier) s.now d (dir_at b o d)) (dirs_checks b o behind (ranges_at b o d ++ s.now) ds)
+        (Refuses_more r (checks_at b o (offsets_of earlier) s.now d (dir_at b o d)) (dirs_checks b o after (ranges_at b o d ++ s.now) ds)
         h)
 
     pub dirs_step : (link : Option Link) (new : List (ℕ × ℕ)) → Names b o d link
         → first_false (checks_at b o (offsets_of earlier) s.now d (dir_at b o d)) ≡ None → Agrees (ranges_at b o d ++ s.now) new
         → DirsSoFar (link ∷ earlier) ds new
-    unfolding behind
+    unfolding after
     dirs_step link new n h a = record {
       now = ranges_at b o d ++ s.now;
       agrees = a;
@@ -79,18 +79,18 @@ module _ (b : List ℕ) (o : Order) (taken : List Range) where
           ap (λ (x : Option ℕ). first_false (dirs_checks b o (option_to_list x ++ offsets_of earlier) (ranges_at b o d ++ s.now) ds))
           n.leads
           ∙ sym (first_false_true (checks_at b o (offsets_of earlier) s.now d (dir_at b o d))
-          (dirs_checks b o behind (ranges_at b o d ++ s.now) ds) h)
+          (dirs_checks b o after (ranges_at b o d ++ s.now) ds) h)
           ∙ s.faults;
       ends = s.ends;
     }
 
   -- in the end
-  pub dirs_clean : (earlier : List (Option Link)) (held : List (ℕ × ℕ)) → DirsSoFar earlier [] held
+  pub dirs_clean : (earlier : List (Option Link)) (claimed : List (ℕ × ℕ)) → DirsSoFar earlier [] claimed
       → first_false all_checks ≡ None
-  dirs_clean earlier held s = sym s.faults
+  dirs_clean earlier claimed s = sym s.faults
 
-  pub dirs_end : (earlier : List (Option Link)) (held : List (ℕ × ℕ)) → DirsSoFar earlier [] held → Agrees (dirs_held b o taken others) held
-  dirs_end earlier held s = subst (λ (rs : List Range). Agrees rs held) s.ends s.agrees
+  pub dirs_end : (earlier : List (Option Link)) (claimed : List (ℕ × ℕ)) → DirsSoFar earlier [] claimed → Agrees (dirs_claimed b o taken others) claimed
+  dirs_end earlier claimed s = subst (λ (rs : List Range). Agrees rs claimed) s.ends s.agrees
 
 -- ---- the links
 module _ (b : List ℕ) (o : Order) where
@@ -166,9 +166,9 @@ module _ (b : List ℕ) (o : Order) where
       → Names b o Interop link
   unfolding dir_at named_at
   names_interop link exif r is = record {
-    leads = subst (FollowsIn interop_tag link) r.stands (subst (λ (k : Option Link). FollowsIn interop_tag k (at_of exif)) (sym is)
+    leads = subst (FollowsIn interop_tag link) r.offset_at (subst (λ (k : Option Link). FollowsIn interop_tag k (at_of exif)) (sym is)
         (interop_follows exif r.uses));
-    place = subst (PlacedIn interop_tag link) r.stands (subst (λ (k : Option Link). PlacedIn interop_tag k (at_of exif)) (sym is)
+    place = subst (PlacedIn interop_tag link) r.offset_at (subst (λ (k : Option Link). PlacedIn interop_tag k (at_of exif)) (sym is)
         (interop_placed exif r.uses));
   }
 

@@ -172,20 +172,20 @@ module _ (b : List ℕ) (o : Order) (a : ℕ) where
           (end_checks b o a ++ (jpeg_part ++ strip_part)) (Refuses_same r (pairs_checks p) (pair_checks (a + 2) es) pairs_is h))
 
       module _ (paired : first_false (pairs_checks p) ≡ None) where
-        behind_pairs : (r : Refusal) → Refuses r (end_checks b o a ++ (jpeg_part ++ strip_part)) → Refuses r (thumb_checks b o taken a)
-        behind_pairs r h =
+        after_pairs : (r : Refusal) → Refuses r (end_checks b o a ++ (jpeg_part ++ strip_part)) → Refuses r (thumb_checks b o taken a)
+        after_pairs r h =
             subst (Refuses r) (sym thumb_checks-parts) (Refuses_behind r (pair_checks (a + 2) es)
             (end_checks b o a ++ (jpeg_part ++ strip_part)) (sym pairs_is ∙ paired) h)
 
         pub end_refuses : (r : Refusal) → Refuses r (end_checks b o a) → Refuses r (thumb_checks b o taken a)
-        end_refuses r h = behind_pairs r (Refuses_more r (end_checks b o a) (jpeg_part ++ strip_part) h)
+        end_refuses r h = after_pairs r (Refuses_more r (end_checks b o a) (jpeg_part ++ strip_part) h)
 
         module _ (ended : first_false (end_checks b o a) ≡ None) where
           pub jpeg_refuses : (r : Refusal) → Refuses r
               (range_checks b (place_in p.jpeg_offset) taken (option_to_list (jpeg_of p.jpeg_offset p.jpeg_length)))
               → Refuses r (thumb_checks b o taken a)
           jpeg_refuses r h =
-              behind_pairs r (Refuses_behind r (end_checks b o a) (jpeg_part ++ strip_part) ended
+              after_pairs r (Refuses_behind r (end_checks b o a) (jpeg_part ++ strip_part) ended
               (Refuses_more r jpeg_part strip_part (subst (Refuses r) (jpeg_checks_is taken) h)))
 
           module _ (jpeg_good : first_false (range_checks b (place_in p.jpeg_offset) taken
@@ -204,7 +204,7 @@ module _ (b : List ℕ) (o : Order) (a : ℕ) where
 
             pub strips_refuse : (r : Refusal) → Refuses r strips_now → Refuses r (thumb_checks b o taken a)
             strips_refuse r h =
-                behind_pairs r (Refuses_behind r (end_checks b o a) (jpeg_part ++ strip_part) ended
+                after_pairs r (Refuses_behind r (end_checks b o a) (jpeg_part ++ strip_part) ended
                 (Refuses_behind r jpeg_part strip_part jpeg_true (subst (Refuses r) strips_now-is h)))
 
             pub thumb_true : first_false strips_now ≡ None → first_false (thumb_checks b o taken a) ≡ None

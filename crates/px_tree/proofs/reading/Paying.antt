@@ -5,11 +5,11 @@ use Rattle.px_bytes.specs.Held.{Claims, reach, claimed_bytes}
 use Rattle.px_tree.specs.Asking.{fields_request}
 use Rattle.px_tree.specs.calls.Paying.{paid, extent}
 
-reach_more : (held : List (ℕ × ℕ)) (start end : ℕ) → reach ((start, end) ∷ held) ≡ max end (reach held)
-reach_more held start end = refl
+reach_more : (claimed : List (ℕ × ℕ)) (start end : ℕ) → reach ((start, end) ∷ claimed) ≡ max end (reach claimed)
+reach_more claimed start end = refl
 
-claimed_more : (held : List (ℕ × ℕ)) (start len : ℕ) → claimed_bytes ((start, start + len) ∷ held) ≡ len + claimed_bytes held
-claimed_more held start len = omega arith
+claimed_more : (claimed : List (ℕ × ℕ)) (start len : ℕ) → claimed_bytes ((start, start + len) ∷ claimed) ≡ len + claimed_bytes claimed
+claimed_more claimed start len = omega arith
 
 -- ---- a range is claimed, unless it is empty
 
@@ -49,14 +49,14 @@ extent_added old new start len none some within = elim (cases_lt 0 len) [
 
 -- ---- all that is claimed is in the block
 
-pub paid_most : (held : Claims) (n : ℕ) → extent held ≤ n → paid held ≤ fields_request n
+pub paid_most : (claimed : Claims) (n : ℕ) → extent claimed ≤ n → paid claimed ≤ fields_request n
 unfolding paid extent
-paid_most held n below = omega arith
+paid_most claimed n below = omega arith
 
-pub extent_none : (held : Claims) → held.ranges ≡ [] → extent held ≡ 0
+pub extent_none : (claimed : Claims) → claimed.ranges ≡ [] → extent claimed ≡ 0
 unfolding extent
-extent_none held is = let none = ap claimed_bytes is in let zero = ap reach is in omega arith
+extent_none claimed is = let none = ap claimed_bytes is in let zero = ap reach is in omega arith
 
-pub paid_none : (held : Claims) → held.ranges ≡ [] → paid held ≡ 0
+pub paid_none : (claimed : Claims) → claimed.ranges ≡ [] → paid claimed ≡ 0
 unfolding paid
-paid_none held is = ap (λ (ranges : List (ℕ × ℕ)). fields_request (claimed_bytes ranges)) is
+paid_none claimed is = ap (λ (ranges : List (ℕ × ℕ)). fields_request (claimed_bytes ranges)) is

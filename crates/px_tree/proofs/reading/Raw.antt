@@ -16,7 +16,7 @@ use Rattle.px_field.specs.lemmas.ValueLaws.{value_in_elements, whole_in_elements
 use Rattle.px_meaning.specs.Iim.{Iim}
 use Rattle.px_tree.specs.declared.entries.Head.{Head}
 use Rattle.px_meaning.specs.Entry.{Entry, entry, raw, raw_size, has_raw, offset, entry_elements, widened_value, unless_record}
-use Rattle.px_tree.specs.calls.Reading.{is_whole, Shows, IsHeld}
+use Rattle.px_tree.specs.calls.Reading.{is_whole, Shows, IsReadable}
 use Rattle.px_tree.proofs.reading.Shapes.{raw_size_is}
 
 abbrev of_form : Form → List Element → Value
@@ -50,19 +50,19 @@ pub unless_none : (x : Option Iim) (v : Value) → is_some x ≡ false → unles
 unless_none None v h = refl
 unless_none (Some i) v h = cc
 
-module _ (b : List ℕ) (o : Order) (p : ℕ) (h : Head) (f : Form) (held : IsHeld b o p h f) where
+module _ (b : List ℕ) (o : Order) (p : ℕ) (h : Head) (f : Form) (claimed : IsReadable b o p h f) where
   abbrev e : Entry
   e = entry o (part b p 12)
 
   size_is : raw_size e ≡ h.count * size f
-  size_is = raw_size_is e f (ap form_of (sym held.shown.code) ∙ held.known) ∙ ap (λ (x : ℕ). x * size f) (sym held.shown.count)
+  size_is = raw_size_is e f (ap form_of (sym claimed.shown.code) ∙ claimed.known) ∙ ap (λ (x : ℕ). x * size f) (sym claimed.shown.count)
 
   pub raw_placed : 4 < h.count * size f → raw b o e ≡ part b h.offset (h.count * size f)
   unfolding raw
   raw_placed l =
       let n = size_is in
       cond-true (nat_lt 4 (raw_size e)) _ _ (lt-ltb 4 (raw_size e) (omega arith))
-      ∙ ap₂ (λ (x y : ℕ). part b x y) (sym held.shown.offset_is) n
+      ∙ ap₂ (λ (x y : ℕ). part b x y) (sym claimed.shown.offset_is) n
 
   pub raw_inline : h.count * size f ≤ 4 → raw b o e ≡ part b (p + 8) (h.count * size f)
   unfolding raw entry
@@ -73,24 +73,24 @@ module _ (b : List ℕ) (o : Order) (p : ℕ) (h : Head) (f : Form) (held : IsHe
       ∙ ap (take (h.count * size f)) (part_part b p 12 8 4 (omega arith))
       ∙ take-take (h.count * size f) 4 (drop (p + 8) b) l
 
-  pub elements_held : (x : List ℕ) → x ≡ raw b o e → elements o f h.count x ≡ entry_elements b o e f
+  pub elements_claimed : (x : List ℕ) → x ≡ raw b o e → elements o f h.count x ≡ entry_elements b o e f
   unfolding entry_elements
-  elements_held x k = ap₂ (λ (m : ℕ) (y : List ℕ). elements o f m y) held.shown.count k
+  elements_claimed x k = ap₂ (λ (m : ℕ) (y : List ℕ). elements o f m y) claimed.shown.count k
 
   -- a part inside the block
   pub part_bounded : (x n : ℕ) (y : List ℕ) → y ≡ part b x n → x + n ≤ length b → (n ≡ length y) × (length y ≤ limit)
   part_bounded x n y is inside =
       let l : length y ≡ n = ap (λ (z : List ℕ). length z) is ∙ length_part b x n inside in
-      let m = held.bounded in
+      let m = claimed.bounded in
       (sym l, omega arith)
 
-  pub value_held : (x : List ℕ) → x ≡ raw b o e → h.count * size f ≡ length x
+  pub value_claimed : (x : List ℕ) → x ≡ raw b o e → h.count * size f ≡ length x
       → value_in o f x ≡ record { kind = Of f; elements = entry_elements b o e f }
-  value_held x k n = value_in_elements o f h.count x n ∙ ap (λ (xs : List Element). of_form f xs) (elements_held x k)
+  value_claimed x k n = value_in_elements o f h.count x n ∙ ap (λ (xs : List Element). of_form f xs) (elements_claimed x k)
 
-  pub whole_held : (x : List ℕ) → x ≡ raw b o e → h.count * size f ≡ length x → is_whole f ≡ true
+  pub whole_claimed : (x : List ℕ) → x ≡ raw b o e → h.count * size f ≡ length x → is_whole f ≡ true
       → whole_in o f x ≡ widened_value f (entry_elements b o e f)
-  whole_held x k n w = whole_in_elements o f h.count x n ∙ ap (λ (xs : List Element). as_whole (map widened xs)) (elements_held x k)
+  whole_claimed x k n w = whole_in_elements o f h.count x n ∙ ap (λ (xs : List Element). as_whole (map widened xs)) (elements_claimed x k)
       ∙ sym (widened_whole f (entry_elements b o e f) w)
 
 -- a value that the checks found inside

@@ -29,16 +29,16 @@ rise_inside b low high (r ∷ rs) h l =
 abbrev pub AreFree : List Range → ℕ → ℕ → Type 0
 AreFree now low high = (s n : ℕ) → low ≤ s → s + n ≤ high → is_free now (range s n) ≡ true
 
-pub free_between : (taken : List Range) (held : List (ℕ × ℕ)) (low high : ℕ) → Agrees taken held → IsFree held low high
+pub free_between : (taken : List Range) (claimed : List (ℕ × ℕ)) (low high : ℕ) → Agrees taken claimed → IsFree claimed low high
     → AreFree taken low high
-free_between taken held low high a f s n l h = a.all_free s n (λ t e holds.
+free_between taken claimed low high a f s n l h = a.all_free s n (λ t e holds.
     let gap : min e high ≤ max t low = f t e holds in
     omega arith)
 
 -- and those after r stay free once r is taken
-free_behind : (now : List Range) (low high : ℕ) (r : Range) → AreFree now low high → low ≤ r.start
+free_after : (now : List Range) (low high : ℕ) (r : Range) → AreFree now low high → low ≤ r.start
     → AreFree (r ∷ now) (r.start + r.size) high
-free_behind now low high r f l s n k h =
+free_after now low high r f l s n k h =
     and_from (not (shares (range s n) r)) (is_free now (range s n)) (test_from_gap s n r.start r.size (omega arith))
     (f s n (omega arith) h)
 
@@ -53,4 +53,4 @@ rise_true b p now low high (r ∷ rs) h l f =
     let later = rise_order (r.start + r.size) high rs h.1 in
     first_false_true (range_check b p now r) (range_checks b p (r ∷ now) rs)
     (range_passes b p now r (le-leb (r.start + r.size) (length b) (omega arith)) (f r.start r.size h.0 later))
-    ∙ rise_true b p (r ∷ now) (r.start + r.size) high rs h.1 l (free_behind now low high r f h.0)
+    ∙ rise_true b p (r ∷ now) (r.start + r.size) high rs h.1 l (free_after now low high r f h.0)

@@ -47,14 +47,14 @@ module _ (b : List ℕ) (o : Order) (a n : ℕ) (t : HasTable b o a n) where
   unfolding fields
   fields_is d = ap (filter_map (field b o d)) entries_at_is
 
-  pub ranges_is : (taken : List Range) (held : List (ℕ × ℕ))
-      → Agrees (filter_map (placed_range o) (entries_from b o (a + 2) n) ++ (range a (table_size n) ∷ taken)) held
-      → Agrees (dir_ranges b o a ++ taken) held
+  pub ranges_is : (taken : List Range) (claimed : List (ℕ × ℕ))
+      → Agrees (filter_map (placed_range o) (entries_from b o (a + 2) n) ++ (range a (table_size n) ∷ taken)) claimed
+      → Agrees (dir_ranges b o a ++ taken) claimed
   unfolding dir_ranges
-  ranges_is taken held h =
-      subst (λ (m : ℕ). Agrees (range a (table_size m) ∷ (filter_map (placed_range o) (entries_at b o a) ++ taken)) held) t.count
-      (subst (λ (es : List Entry). Agrees (range a (table_size n) ∷ (filter_map (placed_range o) es ++ taken)) held) (sym entries_at_is)
-      (agrees_same _ _ held (same_moved (Some (range a (table_size n))) (filter_map (placed_range o) (entries_from b o (a + 2) n)) taken)
+  ranges_is taken claimed h =
+      subst (λ (m : ℕ). Agrees (range a (table_size m) ∷ (filter_map (placed_range o) (entries_at b o a) ++ taken)) claimed) t.count
+      (subst (λ (es : List Entry). Agrees (range a (table_size n) ∷ (filter_map (placed_range o) es ++ taken)) claimed) (sym entries_at_is)
+      (agrees_same _ _ claimed (same_moved (Some (range a (table_size n))) (filter_map (placed_range o) (entries_from b o (a + 2) n)) taken)
       h))
 
   -- what was kept of its entries

@@ -26,12 +26,12 @@ abbrev pub range_check : List ℕ → ℕ → List Range → Range → List Chec
 range_check b p now r = check ThumbnailOutside p (nat_le (r.start + r.size) (length b)) ∷ check Overlap p (is_free now r) ∷ []
 
 module _ (b : List ℕ) (p : ℕ) (taken all : List Range) where
-  pub record RangesSoFar (held : List (ℕ × ℕ)) (rest : List Range) : Type 0 where
+  pub record RangesSoFar (claimed : List (ℕ × ℕ)) (rest : List Range) : Type 0 where
     pub now : List Range
-    pub agrees : Agrees now held
+    pub agrees : Agrees now claimed
     pub faults : first_false (range_checks b p now rest) ≡ first_false (range_checks b p taken all)
 
-  module _ (held : List (ℕ × ℕ)) (rest : List Range) (r : Range) (rs : List Range) (is : rest ≡ r ∷ rs) (s : RangesSoFar held rest) where
+  module _ (claimed : List (ℕ × ℕ)) (rest : List Range) (r : Range) (rs : List Range) (is : rest ≡ r ∷ rs) (s : RangesSoFar claimed rest) where
     pub ranges_refuse : (e : Refusal) → Refuses e (range_check b p s.now r) → Refuses e (range_checks b p taken all)
     ranges_refuse e h = Refuses_same e (range_checks b p s.now (r ∷ rs)) (range_checks b p taken all)
         (ap (λ (xs : List Range). first_false (range_checks b p s.now xs)) (sym is) ∙ s.faults)

@@ -17,7 +17,7 @@ use Rattle.px_meaning.specs.Entry.{Entry, raw, record_in, fields, IsEntry, IsDir
 use Rattle.px_meaning.specs.Directory.{dirs, dir_at, main_at, fields_at, entries_at, entry_with}
 use Rattle.px_meaning.specs.Thumbnail.{bytes_of, jpeg_range, strip_ranges}
 use Rattle.px_meaning.specs.Says.{record_at, exif_part, thumbnail, meaning}
-use Rattle.px_tree.specs.Checks.{dirs_checks, dirs_held, thumb_checks_at, tree_checks}
+use Rattle.px_tree.specs.Checks.{dirs_checks, dirs_claimed, thumb_checks_at, tree_checks}
 use Rattle.px_tree.specs.calls.Linked.{IsRead}
 use Rattle.px_tree.specs.calls.Parts.{IsReadThumb}
 use Rattle.px_tree.proofs.saying.Judged.{none_false, dirs_facts}
@@ -41,8 +41,8 @@ module _ (b : List ℕ) (o : Order) where
       → IfSome (dir_at b o Thumb) (IsDirectory b o Thumb) → IfSome t (IsReadThumb b o)
   thumb_read None r f i = tt
   thumb_read (Some t) r f i =
-      let d = subst (λ (x : Option ℕ). IfSome x (IsDirectory b o Thumb)) (sym r.stands) i in
-      let e : Some t.fields ≡ Some (fields b o Thumb t.at) = f ∙ ap (λ (x : Option ℕ). option_map (fields b o Thumb) x) (sym r.stands) in
+      let d = subst (λ (x : Option ℕ). IfSome x (IsDirectory b o Thumb)) (sym r.offset_at) i in
+      let e : Some t.fields ≡ Some (fields b o Thumb t.at) = f ∙ ap (λ (x : Option ℕ). option_map (fields b o Thumb) x) (sym r.offset_at) in
       record { table = r.table; each = d.each; uses = r.uses; fields_are = (let q : t.fields ≡ fields b o Thumb t.at = cc in q) }
 
   pub main_each : (a : ℕ) → a ≡ main_at b o → IfSome (dir_at b o Main) (IsDirectory b o Main)
@@ -58,7 +58,7 @@ module _ (b : List ℕ) (o : Order) where
   of_dirs = dirs_checks b o [] header dirs
 
   abbrev of_thumb : Option ℕ → List Check
-  of_thumb a = thumb_checks_at b o (dirs_held b o header dirs) a
+  of_thumb a = thumb_checks_at b o (dirs_claimed b o header dirs) a
 
   tree-parts : tree_checks b o ≡ of_dirs ++ of_thumb (dir_at b o Thumb)
   unfolding tree_checks

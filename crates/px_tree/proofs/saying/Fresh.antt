@@ -9,21 +9,21 @@ apart_turned r s a p i j = a p j i
 
 -- no range of rs shares a byte with a claimed range
 abbrev pub Clear : List Range → List Range → Type 0
-Clear held rs = AllByRecursion (λ r. AllByRecursion (Apart r) held) rs
+Clear claimed rs = AllByRecursion (λ r. AllByRecursion (Apart r) claimed) rs
 
-pub record Fresh (held rs : List Range) : Type 0 where
-  pub clear : Clear held rs
+pub record Fresh (claimed rs : List Range) : Type 0 where
+  pub clear : Clear claimed rs
   pub apart : AllApart rs
 
-clear_unturned : (r : Range) (held rs : List Range) → Clear (r ∷ held) rs → AllByRecursion (Apart r) rs
-clear_unturned r held [] h = tt
-clear_unturned r held (s ∷ rs) h = (apart_turned s r h.0.0, clear_unturned r held rs h.1)
+clear_unturned : (r : Range) (claimed rs : List Range) → Clear (r ∷ claimed) rs → AllByRecursion (Apart r) rs
+clear_unturned r claimed [] h = tt
+clear_unturned r claimed (s ∷ rs) h = (apart_turned s r h.0.0, clear_unturned r claimed rs h.1)
 
-pub fresh_cons : (held : List Range) (r : Range) (rs : List Range) → AllByRecursion (Apart r) held → Fresh (r ∷ held) rs
-    → Fresh held (r ∷ rs)
-fresh_cons held r rs a f = record {
-  clear = (a, each_map (λ s. AllByRecursion (Apart s) (r ∷ held)) (λ s. AllByRecursion (Apart s) held) (λ s h. h.1) rs f.clear);
-  apart = (clear_unturned r held rs f.clear, f.apart);
+pub fresh_cons : (claimed : List Range) (r : Range) (rs : List Range) → AllByRecursion (Apart r) claimed → Fresh (r ∷ claimed) rs
+    → Fresh claimed (r ∷ rs)
+fresh_cons claimed r rs a f = record {
+  clear = (a, each_map (λ s. AllByRecursion (Apart s) (r ∷ claimed)) (λ s. AllByRecursion (Apart s) claimed) (λ s h. h.1) rs f.clear);
+  apart = (clear_unturned r claimed rs f.clear, f.apart);
 }
 
 apart_append : (rs ss : List Range) → AllApart rs → AllApart ss → Clear rs ss → AllApart (rs ++ ss)
@@ -54,27 +54,27 @@ clear_across (r ∷ rs) ss h = both ss (each_right (Apart r) rs ss h.0) (clear_a
     both [] h k = tt
     both (s ∷ ss) h k = ((apart_turned r s h.0, k.0), both ss h.1 k.1)
 
-pub fresh_append : (held rs ss : List Range) → Fresh held rs → Fresh (rs ++ held) ss → Fresh held (rs ++ ss)
-fresh_append held rs ss f g = record {
-  clear = each_append (λ r. AllByRecursion (Apart r) held) rs ss f.clear (each_map (λ s. AllByRecursion (Apart s) (rs ++ held))
-      (λ s. AllByRecursion (Apart s) held) (λ s h. each_right (Apart s) rs held h) ss g.clear);
-  apart = apart_append rs ss f.apart g.apart (each_map (λ s. AllByRecursion (Apart s) (rs ++ held)) (λ s. AllByRecursion (Apart s) rs)
-      (λ s h. each_left (Apart s) rs held h) ss g.clear);
+pub fresh_append : (claimed rs ss : List Range) → Fresh claimed rs → Fresh (rs ++ claimed) ss → Fresh claimed (rs ++ ss)
+fresh_append claimed rs ss f g = record {
+  clear = each_append (λ r. AllByRecursion (Apart r) claimed) rs ss f.clear (each_map (λ s. AllByRecursion (Apart s) (rs ++ claimed))
+      (λ s. AllByRecursion (Apart s) claimed) (λ s h. each_right (Apart s) rs claimed h) ss g.clear);
+  apart = apart_append rs ss f.apart g.apart (each_map (λ s. AllByRecursion (Apart s) (rs ++ claimed)) (λ s. AllByRecursion (Apart s) rs)
+      (λ s h. each_left (Apart s) rs claimed h) ss g.clear);
 }
 
-pub fresh_left : (held rs ss : List Range) → Fresh held (rs ++ ss) → Fresh held rs
-fresh_left held rs ss f = record { clear = each_left (λ r. AllByRecursion (Apart r) held) rs ss f.clear; apart = apart_left rs ss f.apart }
+pub fresh_left : (claimed rs ss : List Range) → Fresh claimed (rs ++ ss) → Fresh claimed rs
+fresh_left claimed rs ss f = record { clear = each_left (λ r. AllByRecursion (Apart r) claimed) rs ss f.clear; apart = apart_left rs ss f.apart }
 
-pub fresh_right : (held rs ss : List Range) → Fresh held (rs ++ ss) → Fresh (rs ++ held) ss
-fresh_right held rs ss f = record {
-  clear = each_map₂ (λ s. AllByRecursion (Apart s) rs) (λ s. AllByRecursion (Apart s) held) (λ s. AllByRecursion (Apart s) (rs ++ held))
-      (λ s h k. each_append (Apart s) rs held h k) ss (clear_across rs ss f.apart)
-      (each_right (λ r. AllByRecursion (Apart r) held) rs ss f.clear);
+pub fresh_right : (claimed rs ss : List Range) → Fresh claimed (rs ++ ss) → Fresh (rs ++ claimed) ss
+fresh_right claimed rs ss f = record {
+  clear = each_map₂ (λ s. AllByRecursion (Apart s) rs) (λ s. AllByRecursion (Apart s) claimed) (λ s. AllByRecursion (Apart s) (rs ++ claimed))
+      (λ s h k. each_append (Apart s) rs claimed h k) ss (clear_across rs ss f.apart)
+      (each_right (λ r. AllByRecursion (Apart r) claimed) rs ss f.clear);
   apart = apart_right rs ss f.apart;
 }
 
-pub fresh_nil : (held : List Range) → Fresh held []
-fresh_nil held = record { clear = tt; apart = tt }
+pub fresh_nil : (claimed : List Range) → Fresh claimed []
+fresh_nil claimed = record { clear = tt; apart = tt }
 
 pub fresh_all : (h : Range) (rs : List Range) → Fresh (h ∷ []) rs → AllApart (h ∷ rs)
 fresh_all h rs f = (clear_unturned h [] rs f.clear, f.apart)

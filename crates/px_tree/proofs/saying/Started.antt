@@ -20,44 +20,44 @@ use Rattle.px_meaning.specs.Footprint.{dir_ranges, listed}
 use Rattle.px_meaning.specs.Iim.{Iim}
 use Rattle.px_meaning.specs.Tree.{Fields}
 use Rattle.px_meaning.specs.Says.{record_at, meaning}
-use Rattle.px_tree.specs.Checks.{named_at, dir_checks, checks_at, dirs_checks, dirs_held, tree_checks}
+use Rattle.px_tree.specs.Checks.{named_at, dir_checks, checks_at, dirs_checks, dirs_claimed, tree_checks}
 use Rattle.px_tree.specs.calls.Reading.{HasTable}
 use Rattle.px_tree.specs.calls.Uses.{link_as}
 use Rattle.px_tree.specs.calls.Linked.{AreUsesAt, Names}
-use Rattle.px_tree.specs.calls.ReadTree.{main_checks, main_held, others, IsReadMain, IsAlone, SeenTree}
+use Rattle.px_tree.specs.calls.ReadTree.{main_checks, main_claimed, others, IsReadMain, IsAlone, SeenTree}
 use Rattle.px_tree.proofs.reading.Named.{main_is, names_exif, names_gps, names_thumb}
 use Rattle.px_tree.proofs.saying.Assembled.{dirs_refuse_tree, tree_true, whole, meaning_is}
 
 module _ (b : List ℕ) (o : Order) where
   -- the claims after a table at n
-  abbrev HeldAt : List (ℕ × ℕ) → ℕ → Type 0
-  HeldAt held n = Agrees (dir_ranges b o n ++ range 0 8 ∷ []) held
+  abbrev ClaimedAt : List (ℕ × ℕ) → ℕ → Type 0
+  ClaimedAt claimed n = Agrees (dir_ranges b o n ++ range 0 8 ∷ []) claimed
 
   abbrev IsTableAt : Link → Directory → Type 0
   IsTableAt link t = (t.at ≡ link.at) × HasTable b o t.at t.count
 
   -- what reading the directory at the header's pointer gives
-  pub main_judged : (keeps : Bool) (link : Link) → Names b o Main (Some link) → (r : Result Directory Refusal) (held : List (ℕ × ℕ))
+  pub main_judged : (keeps : Bool) (link : Link) → Names b o Main (Some link) → (r : Result Directory Refusal) (claimed : List (ℕ × ℕ))
       → Judges r (dir_checks b o [] (range 0 8 ∷ []) link.place Main link.at)
-      (λ t. (keeps ≡ true → t.fields ≡ fields b o Main link.at) × HeldAt held link.at)
+      (λ t. (keeps ≡ true → t.fields ≡ fields b o Main link.at) × ClaimedAt claimed link.at)
       → IfOk r (IsTableAt link) → IfOk r (AreUsesAt b o)
-      → Judges r (main_checks b o) (λ t. IsReadMain b o keeps t × Agrees (main_held b o) held)
+      → Judges r (main_checks b o) (λ t. IsReadMain b o keeps t × Agrees (main_claimed b o) claimed)
   unfolding named_at
-  main_judged keeps link n (Ok t) held j there uses =
+  main_judged keeps link n (Ok t) claimed j there uses =
       let at = main_is b o link n in (
         subst (λ (p : ℕ). first_false (dir_checks b o [] (range 0 8 ∷ []) p Main (main_at b o)) ≡ None) n.place
             (subst (λ (a : ℕ). first_false (dir_checks b o [] (range 0 8 ∷ []) link.place Main a) ≡ None) at j.0),
         (
           record {
-            stands = there.0 ∙ at;
+            offset_at = there.0 ∙ at;
             table = there.1;
             uses = uses;
             fields_are = λ kept. j.1.0 kept ∙ ap (λ (a : ℕ). fields b o Main a) at;
           },
-          subst (HeldAt held) at j.1.1,
+          subst (ClaimedAt claimed) at j.1.1,
         ),
       )
-  main_judged keeps link n (Err e) held j there uses =
+  main_judged keeps link n (Err e) claimed j there uses =
       subst (λ (p : ℕ). Refuses e (dir_checks b o [] (range 0 8 ∷ []) p Main (main_at b o))) n.place
       (subst (λ (a : ℕ). Refuses e (dir_checks b o [] (range 0 8 ∷ []) link.place Main a)) (main_is b o link n) j)
 
@@ -66,25 +66,25 @@ module _ (b : List ℕ) (o : Order) where
   header = range 0 8 ∷ []
 
   abbrev of_others : List Check
-  of_others = dirs_checks b o (main_at b o ∷ []) (main_held b o) others
+  of_others = dirs_checks b o (main_at b o ∷ []) (main_claimed b o) others
 
   dirs_parts : dirs_checks b o [] header dirs ≡ main_checks b o ++ of_others
   unfolding dir_at named_at
   dirs_parts = refl
 
-  held_parts : dirs_held b o (main_held b o) others ≡ dirs_held b o header dirs
+  claimed_parts : dirs_claimed b o (main_claimed b o) others ≡ dirs_claimed b o header dirs
   unfolding dir_at
-  held_parts = refl
+  claimed_parts = refl
 
   pub main_refuses_tree : (r : Refusal) → Refuses r (main_checks b o) → Refuses r (tree_checks b o)
   main_refuses_tree r h = dirs_refuse_tree b o r (subst (Refuses r) (sym dirs_parts) (Refuses_more r (main_checks b o) of_others h))
 
   -- ---- a block with the main directory alone
-  skipped : (earlier : List ℕ) (held : List Range) (d : Dir) (ds : List Dir) → None ≡ dir_at b o d
-      → dirs_checks b o earlier held (d ∷ ds) ≡ dirs_checks b o earlier held ds
-  skipped earlier held d ds e =
-      ap (λ (x : Option ℕ). checks_at b o earlier held d x
-      ++ dirs_checks b o (option_to_list x ++ earlier) (listed (option_map (dir_ranges b o) x) ++ held) ds) (sym e)
+  skipped : (earlier : List ℕ) (claimed : List Range) (d : Dir) (ds : List Dir) → None ≡ dir_at b o d
+      → dirs_checks b o earlier claimed (d ∷ ds) ≡ dirs_checks b o earlier claimed ds
+  skipped earlier claimed d ds e =
+      ap (λ (x : Option ℕ). checks_at b o earlier claimed d x
+      ++ dirs_checks b o (option_to_list x ++ earlier) (listed (option_map (dir_ranges b o) x) ++ claimed) ds) (sym e)
 
   no_interop : None ≡ dir_at b o Exif → None ≡ dir_at b o Interop
   unfolding dir_at
@@ -99,21 +99,21 @@ module _ (b : List ℕ) (o : Order) where
     all_dirs_true h = ap first_false dirs_parts ∙ all_true (main_checks b o) of_others good h
 
     -- what reading all directories gives
-    pub whole_dirs : (keeps : Bool) (t : Directories) (held : List (ℕ × ℕ))
-        → (first_false of_others ≡ None) × (SeenTree b o keeps t × Agrees (dirs_held b o (main_held b o) others) held)
-        → (first_false (dirs_checks b o [] header dirs) ≡ None) × (SeenTree b o keeps t × Agrees (dirs_held b o header dirs) held)
-    whole_dirs keeps t held j = (all_dirs_true j.0, (j.1.0, subst (λ (rs : List Range). Agrees rs held) held_parts j.1.1))
+    pub whole_dirs : (keeps : Bool) (t : Directories) (claimed : List (ℕ × ℕ))
+        → (first_false of_others ≡ None) × (SeenTree b o keeps t × Agrees (dirs_claimed b o (main_claimed b o) others) claimed)
+        → (first_false (dirs_checks b o [] header dirs) ≡ None) × (SeenTree b o keeps t × Agrees (dirs_claimed b o header dirs) claimed)
+    whole_dirs keeps t claimed j = (all_dirs_true j.0, (j.1.0, subst (λ (rs : List Range). Agrees rs claimed) claimed_parts j.1.1))
 
     -- no check of another directory is left
     pub alone_dirs : IsAlone b o → first_false (dirs_checks b o [] header dirs) ≡ None
     alone_dirs a =
         let xs = main_at b o ∷ [] in
-        let held = main_held b o in
+        let claimed = main_claimed b o in
         let none : of_others ≡ [] =
-        skipped xs held Exif (Interop ∷ Gps ∷ Thumb ∷ []) a.exif
-        ∙ skipped xs held Interop (Gps ∷ Thumb ∷ []) (no_interop a.exif)
-        ∙ skipped xs held Gps (Thumb ∷ []) a.gps
-        ∙ skipped xs held Thumb [] a.thumb in
+        skipped xs claimed Exif (Interop ∷ Gps ∷ Thumb ∷ []) a.exif
+        ∙ skipped xs claimed Interop (Gps ∷ Thumb ∷ []) (no_interop a.exif)
+        ∙ skipped xs claimed Gps (Thumb ∷ []) a.gps
+        ∙ skipped xs claimed Thumb [] a.thumb in
         all_dirs_true (ap first_false none)
 
     pub alone_true : IsAlone b o → first_false (tree_checks b o) ≡ None
@@ -125,9 +125,9 @@ module _ (b : List ℕ) (o : Order) where
   main_is_alone keeps t r exif gps end =
       let link = λ (x : Option Found) (e : x ≡ None). sym (ap (λ (y : Option Found). option_map link_as y) e) in
       record {
-        exif = (names_exif b o None t.at r.stands t.uses.exif (link t.uses.exif exif) r.uses.exif).leads;
-        gps = (names_gps b o None t.at r.stands t.uses.gps (link t.uses.gps gps) r.uses.gps).leads;
-        thumb = (names_thumb b o None t.at r.stands end tt).leads;
+        exif = (names_exif b o None t.at r.offset_at t.uses.exif (link t.uses.exif exif) r.uses.exif).leads;
+        gps = (names_gps b o None t.at r.offset_at t.uses.gps (link t.uses.gps gps) r.uses.gps).leads;
+        thumb = (names_thumb b o None t.at r.offset_at end tt).leads;
       }
 
   -- then the meaning is that of the main directory

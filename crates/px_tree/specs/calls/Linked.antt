@@ -33,7 +33,7 @@ pub record Names (b : List ℕ) (o : Order) (d : Dir) (link : Option Link) : Typ
 
 -- a directory that was read, if the block has it
 pub record IsRead (b : List ℕ) (o : Order) (d : Dir) (t : Option Directory) : Type 0 where
-  pub stands : option_map (λ t. t.at) t ≡ dir_at b o d
+  pub offset_at : option_map (λ t. t.at) t ≡ dir_at b o d
   pub table : IfSome t (λ t. HasTable b o t.at t.count)
   pub uses : IfSome t (AreUsesAt b o)
 

@@ -6,16 +6,16 @@ use Rattle.px_tree.specs.Asking.{fields_request}
 
 -- what claimed ranges pay for: the fields in so many bytes
 unfoldable pub paid : Claims → ℕ
-paid held = fields_request (claimed_bytes held.ranges)
+paid claimed = fields_request (claimed_bytes claimed.ranges)
 
 -- a call asks for at most what its newly claimed bytes pay for, and so many bytes more
 abbrev pub Pays : ℕ → Taken → Taken → Claims → Claims → Type 0
-Pays more old new held now = new.asked + paid held ≤ old.asked + paid now + more
+Pays more old new claimed now = new.asked + paid claimed ≤ old.asked + paid now + more
 
 -- the length of the shortest block that the claimed ranges can be part of
 unfoldable pub extent : Claims → ℕ
-extent held = max (claimed_bytes held.ranges) (reach held.ranges)
+extent claimed = max (claimed_bytes claimed.ranges) (reach claimed.ranges)
 
 -- a call claims only bytes below n
 abbrev pub StaysBelow : ℕ → Claims → Claims → Type 0
-StaysBelow n held now = extent now ≤ max n (extent held)
+StaysBelow n claimed now = extent now ≤ max n (extent claimed)

@@ -23,12 +23,12 @@ abbrev pub main_checks : List ℕ → Order → List Check
 main_checks b o = dir_checks b o [] (range 0 8 ∷ []) 4 Main (main_at b o)
 
 -- the ranges that are claimed after it
-abbrev pub main_held : List ℕ → Order → List Range
-main_held b o = dir_ranges b o (main_at b o) ++ range 0 8 ∷ []
+abbrev pub main_claimed : List ℕ → Order → List Range
+main_claimed b o = dir_ranges b o (main_at b o) ++ range 0 8 ∷ []
 
 -- it was read: it has a table, its entries with a special use were kept, and so were its fields, if fields are kept
 pub record IsReadMain (b : List ℕ) (o : Order) (keeps : Bool) (t : Directory) : Type 0 where
-  pub stands : t.at ≡ main_at b o
+  pub offset_at : t.at ≡ main_at b o
   pub table : HasTable b o t.at t.count
   pub uses : AreUsesAt b o t
   pub fields_are : keeps ≡ true → t.fields ≡ fields b o Main (main_at b o)
@@ -52,6 +52,6 @@ pub record SeenTree (b : List ℕ) (o : Order) (keeps : Bool) (t : Directories) 
   pub interop : keeps ≡ true → option_map (λ t. t.fields) t.interop ≡ fields_at b o Interop
   pub gps : keeps ≡ true → option_map (λ t. t.fields) t.gps ≡ fields_at b o Gps
   pub thumb : option_map (λ t. t.fields) t.thumb ≡ fields_at b o Thumb
-  pub main_stands : t.main.at ≡ main_at b o
+  pub main_placed : t.main.at ≡ main_at b o
   pub main_found : Sees b o (entries_at b o t.main.at) (t.main.at + 2) (has_tag record_tag) t.main.iptc
   pub thumb_read : IsRead b o Thumb t.thumb

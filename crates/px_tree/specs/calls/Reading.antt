@@ -79,7 +79,7 @@ pub record HasTable (b : List ℕ) (o : Order) (a n : ℕ) : Type 0 where
   pub inside : a + (2 + 12 * n + 4) ≤ length b
 
 -- the entry at offset p has that head, a known type, and its value inside the block
-pub record IsHeld (b : List ℕ) (o : Order) (p : ℕ) (h : Head) (f : Form) : Type 0 where
+pub record IsReadable (b : List ℕ) (o : Order) (p : ℕ) (h : Head) (f : Form) : Type 0 where
   pub bounded : length b ≤ limit
   pub inside : p + 12 ≤ length b
   pub shown : Shows o h (entry o (part b p 12))

@@ -35,7 +35,7 @@ returns-clause-judged c = λ taken a.
     let k = c.in_ok-shape.ensures.judged in
     let j = c.in_ok-claim_value.ensures.judged taken a in (
       entry_true b o d taken c.args.at c.args.before h e shows s k.1.0 k.1.1 k.0 j.0,
-      subst (λ (r : Option Range). Agrees (option_to_list r ++ taken) c.claim_value.new.held.ranges)
+      subst (λ (r : Option Range). Agrees (option_to_list r ++ taken) c.claim_value.new.claimed.ranges)
           (range_same b o d taken c.args.at c.args.before h e shows s k.1.0 k.1.1 k.0) j.1,
     )
 

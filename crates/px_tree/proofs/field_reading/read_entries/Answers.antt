@@ -27,8 +27,8 @@ loop-init c =
       precede = λ t _. subst (λ (l : Fields). AllByRecursion (λ s. s < t) (tags l)) (sym c.in_ok-list.ensures.none) tt;
       fields = λ _. ap (λ (l : Fields). l ++ filter_map (field b o d) (es (c.args.count - 0))) c.in_ok-list.ensures.none
           ∙ ap (λ (k : ℕ). filter_map (field b o d) (es k)) n;
-      judged = λ taken a. subst (λ (k : ℕ). SoFar b o d taken (es c.args.count) c.args.start c.args.held.now.ranges c.args.start None k) (sym n)
-          (so_far_start b o d taken c.args.start c.args.count c.args.held.now.ranges a);
+      judged = λ taken a. subst (λ (k : ℕ). SoFar b o d taken (es c.args.count) c.args.start c.args.claimed.now.ranges c.args.start None k) (sym n)
+          (so_far_start b o d taken c.args.start c.args.count c.args.claimed.now.ranges a);
       uses = subst (λ (k : ℕ). UsesSoFar b o c.args.start c.args.count c.no_uses-uses.result c.args.start None k) (sym n)
           (uses_start b o c.args.start c.args.count c.no_uses-uses.result c.no_uses-uses.ensures);
       memory = refl;
@@ -47,8 +47,8 @@ returns-in_err-shape-clause-judged c = λ taken a.
     rw (p.1, p.2) (so_far_refuses c.args.source.now.block.now c.args.source.now.order c.args.source.now.dir taken _ _ _ _ _ _ _ step s _
     (c.in_err-shape.ensures.judged s.now s.agrees))
 
-pub keep_field-requires-clause-held : goal.keep_field-requires-clause-held
-keep_field-requires-clause-held c =
+pub keep_field-requires-clause-claimed : goal.keep_field-requires-clause-claimed
+keep_field-requires-clause-claimed c =
     let s = c.in_ok-shape.ensures.shape in
     record {
       bounded = c.requires.bounded;

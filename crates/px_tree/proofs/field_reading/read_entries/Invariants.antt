@@ -19,12 +19,12 @@ invariant-loop l = record {
       (entries_from l.source.block.now l.source.order l.at (l.count - l.counter))
       ≡ filter_map (field l.source.block.now l.source.order l.source.dir)
       (entries_from l.source.block.now l.source.order l.start l.count);
-  judged : (taken : List Range) → Agrees taken l.initial.held.ranges
+  judged : (taken : List Range) → Agrees taken l.initial.claimed.ranges
       → SoFar l.source.block.now l.source.order l.source.dir taken
-      (entries_from l.source.block.now l.source.order l.start l.count) l.start l.held.ranges l.at l.before (l.count - l.counter);
+      (entries_from l.source.block.now l.source.order l.start l.count) l.start l.claimed.ranges l.at l.before (l.count - l.counter);
   uses : UsesSoFar l.source.block.now l.source.order l.start l.count l.uses l.at l.before (l.count - l.counter);
   memory : l.memory.refusals ≡ l.initial.memory.refusals;
-  asked : l.memory.asked + paid l.initial.held ≤ l.initial.memory.asked + paid l.held;
-  below : StaysBelow (length l.source.block.now) l.initial.held l.held;
-  wide : l.initial.held.room ≤ l.held.room;
+  asked : l.memory.asked + paid l.initial.claimed ≤ l.initial.memory.asked + paid l.claimed;
+  below : StaysBelow (length l.source.block.now) l.initial.claimed l.claimed;
+  wide : l.initial.claimed.room ≤ l.claimed.room;
 }

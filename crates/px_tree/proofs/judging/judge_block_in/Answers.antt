@@ -28,7 +28,7 @@ pub returns-clause-said : goal.returns-clause-said
 returns-clause-said c =
     let b = c.bytes-bytes.result.now in
     subst (λ (x : List ℕ). IfOk c.judge_tree.result (λ _. (m : Meaning) × SaysExif x m × Fits m)) c.bytes-bytes.ensures.value
-    (tree_judged b c.order_in-order.result c.in_ok-judge_header.ensures.judged.0 c.order_in-order.ensures.told c.judge_tree.result
+    (tree_judged b c.order_in-order.result c.in_ok-judge_header.ensures.judged.0 c.order_in-order.ensures.is_order c.judge_tree.result
     c.order_in-order.ensures.bytes c.judge_tree.ensures.judged)
 
 pub returns-clause-refused : goal.returns-clause-refused
@@ -39,7 +39,7 @@ returns-clause-refused c =
     let o = c.order_in-order.result in
     let r = c.judge_tree.result in
     subst (λ (x : List ℕ). IfErr r (IsRefused x c.judge_tree.new.memory.refusals)) is
-    (tree_refused b o c.in_ok-judge_header.ensures.judged.0 c.order_in-order.ensures.told (λ u. meaning b o) r _ _ most
+    (tree_refused b o c.in_ok-judge_header.ensures.judged.0 c.order_in-order.ensures.is_order (λ u. meaning b o) r _ _ most
     (Judges_good r (tree_checks b o) (λ u. ⊤) (λ u. meaning b o ≡ meaning b o) (λ u t. refl) c.judge_tree.ensures.judged)
     c.judge_tree.ensures.memory)
 

@@ -15,18 +15,18 @@ pub returns-then-next-eq0-clause-leads : goal.returns-then-next-eq0-clause-leads
 returns-then-next-eq0-clause-leads c =
     let from : c.from.result ≡ c.args.count = cc in
     zero_is c.number32-next.result _ c.if-next-eq0.true
-    (next_is c.args.block.now c.args.order c.args.at c.args.count c.requires.stands
+    (next_is c.args.block.now c.args.order c.args.at c.args.count c.requires.has_table
     ∙ ap (λ (n : ℕ). long c.args.order (part c.args.block.now (c.args.at + 2 + 12 * n) 4)) (sym from) ∙ sym c.number32-next.ensures)
 
 pub returns-clause-leads : goal.returns-clause-leads
 returns-clause-leads c =
     let from : c.from.result ≡ c.args.count = cc in
     some_is c.number32-next.result _ c.if-next-eq0.false
-    (next_is c.args.block.now c.args.order c.args.at c.args.count c.requires.stands
+    (next_is c.args.block.now c.args.order c.args.at c.args.count c.requires.has_table
     ∙ ap (λ (n : ℕ). long c.args.order (part c.args.block.now (c.args.at + 2 + 12 * n) 4)) (sym from) ∙ sym c.number32-next.ensures)
 
 pub returns-clause-place : goal.returns-clause-place
 returns-clause-place c =
     let from : c.from.result ≡ c.args.count = cc in
-    let len = length_is c.args.block.now c.args.order c.args.at c.args.count c.requires.stands in
+    let len = length_is c.args.block.now c.args.order c.args.at c.args.count c.requires.has_table in
     ap (λ (n : ℕ). c.args.at + 2 + 12 * n) (from ∙ sym len)

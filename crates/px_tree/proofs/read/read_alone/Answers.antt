@@ -26,5 +26,5 @@ returns-clause-judged c =
       alone_meaning b o c.requires.alone _ c.in_ok-iptc.iptc
           (c.main_directory_of-main.ensures.fields ∙ c.requires.read.fields_are refl)
           (c.in_ok-iptc.ensures.ok
-          ∙ ap (λ (n : ℕ). record_at b o n) (c.main_directory_of-main.ensures.at ∙ c.requires.read.stands)),
+          ∙ ap (λ (n : ℕ). record_at b o n) (c.main_directory_of-main.ensures.at ∙ c.requires.read.offset_at)),
     )

@@ -25,7 +25,7 @@ pub returns-clause-says : goal.returns-clause-says
 returns-clause-says c =
     let b = c.bytes-bytes.result.now in
     subst (λ (x : List ℕ). IfOk c.read_tree.result (λ m. SaysExif x (meaning_of m))) c.bytes-bytes.ensures.value
-    (tree_said b c.order_in-order.result c.in_ok-judge_header.ensures.judged.0 c.order_in-order.ensures.told meaning_of c.read_tree.result
+    (tree_said b c.order_in-order.result c.in_ok-judge_header.ensures.judged.0 c.order_in-order.ensures.is_order meaning_of c.read_tree.result
     c.read_tree.ensures.judged)
 
 pub returns-clause-fits : goal.returns-clause-fits
@@ -33,9 +33,9 @@ returns-clause-fits c =
     let b = c.bytes-bytes.result.now in
     let o = c.order_in-order.result in
     let headed = c.in_ok-judge_header.ensures.judged.0 in
-    let told = c.order_in-order.ensures.told in
-    tree_fits b o headed told meaning_of c.read_tree.result c.order_in-order.ensures.bytes
-    (tree_said b o headed told meaning_of c.read_tree.result c.read_tree.ensures.judged)
+    let is_order = c.order_in-order.ensures.is_order in
+    tree_fits b o headed is_order meaning_of c.read_tree.result c.order_in-order.ensures.bytes
+    (tree_said b o headed is_order meaning_of c.read_tree.result c.read_tree.ensures.judged)
 
 pub returns-clause-refused : goal.returns-clause-refused
 returns-clause-refused c =
@@ -43,7 +43,7 @@ returns-clause-refused c =
     let is = c.bytes-bytes.ensures.value in
     let most : length b ≤ limit = subst (λ (x : List ℕ). length x ≤ limit) (sym is) c.bytes-bytes.ensures.bounded in
     subst (λ (x : List ℕ). IfErr c.read_tree.result (IsRefused x c.read_tree.new.memory.refusals)) is
-    (tree_refused b c.order_in-order.result c.in_ok-judge_header.ensures.judged.0 c.order_in-order.ensures.told meaning_of
+    (tree_refused b c.order_in-order.result c.in_ok-judge_header.ensures.judged.0 c.order_in-order.ensures.is_order meaning_of
     c.read_tree.result _ _ most c.read_tree.ensures.judged c.read_tree.ensures.memory)
 
 pub returns-clause-asked : goal.returns-clause-asked

@@ -4,15 +4,15 @@ use Rattle.px_bytes.specs.Range.{range}
 use Rattle.px_tree.specs.declared.tables.Directory.{Directory}
 use Rattle.px_meaning.specs.Directory.{dirs}
 use Rattle.px_meaning.specs.Says.{record_at}
-use Rattle.px_tree.specs.Checks.{dirs_held}
-use Rattle.px_tree.specs.calls.ReadTree.{main_held}
+use Rattle.px_tree.specs.Checks.{dirs_claimed}
+use Rattle.px_tree.specs.calls.ReadTree.{main_claimed}
 use Rattle.px_tree.proofs.saying.Started.{main_refuses_tree, others_refuse_tree, whole_dirs, main_is_alone, alone_dirs, alone_true}
 use Rattle.px_tree.proofs.saying.Assembled.{thumb_read, main_each, thumb_refuses_tree, tree_true, all_in_order, meaning_is}
 use Rattle.px_tree.proofs.reading.Paying.{paid_most, paid_none, extent_none}
 use Rattle.px_tree.proofs.read.read_tree.Goals as goal
 
-pub is_alone-requires-clause-stands : goal.is_alone-requires-clause-stands
-is_alone-requires-clause-stands c = c.in_ok-main.ensures.judged.1.0.table
+pub is_alone-requires-clause-has_table : goal.is_alone-requires-clause-has_table
+is_alone-requires-clause-has_table c = c.in_ok-main.ensures.judged.1.0.table
 
 pub read_alone-requires-clause-read : goal.read_alone-requires-clause-read
 read_alone-requires-clause-read c = c.in_ok-main.ensures.judged.1.0
@@ -31,7 +31,7 @@ read_alone-requires-clause-each c =
     let is = c.if-is_alone.true in
     let alone = c.is_alone.ensures in
     let only = main_is_alone b o _ _ m.1.0 (alone.exif is) (alone.gps is) (alone.next is) in
-    main_each b o _ m.1.0.stands (all_in_order b o (alone_dirs b o m.0 only)).0
+    main_each b o _ m.1.0.offset_at (all_in_order b o (alone_dirs b o m.0 only)).0
 
 pub read_alone-requires-clause-passed : goal.read_alone-requires-clause-passed
 read_alone-requires-clause-passed c =
@@ -56,14 +56,14 @@ returns-in_err-directories-clause-judged c =
     let b = c.args.block.now in
     let o = c.args.order in
     let m = c.in_ok-main.ensures.judged in
-    rw (p.1, p.2) (others_refuse_tree b o m.0 c.in_err-directories.field-0.0 (c.in_err-directories.ensures.judged (main_held b o) m.1.1))
+    rw (p.1, p.2) (others_refuse_tree b o m.0 c.in_err-directories.field-0.0 (c.in_err-directories.ensures.judged (main_claimed b o) m.1.1))
 
 pub read_thumb-requires-clause-read : goal.read_thumb-requires-clause-read
 read_thumb-requires-clause-read c =
     let b = c.args.block.now in
     let o = c.args.order in
     let m = c.in_ok-main.ensures.judged in
-    let d = whole_dirs b o m.0 _ _ _ (c.in_ok-directories.ensures.judged (main_held b o) m.1.1) in
+    let d = whole_dirs b o m.0 _ _ _ (c.in_ok-directories.ensures.judged (main_claimed b o) m.1.1) in
     thumb_read b o c.in_ok-directories.directories.thumb d.1.0.thumb_read d.1.0.thumb (all_in_order b o d.0).1.1.1.1.0
 
 pub returns-in_err-thumb-clause-judged : goal.returns-in_err-thumb-clause-judged
@@ -72,118 +72,118 @@ returns-in_err-thumb-clause-judged c =
     let b = c.args.block.now in
     let o = c.args.order in
     let m = c.in_ok-main.ensures.judged in
-    let d = whole_dirs b o m.0 _ _ _ (c.in_ok-directories.ensures.judged (main_held b o) m.1.1) in
+    let d = whole_dirs b o m.0 _ _ _ (c.in_ok-directories.ensures.judged (main_claimed b o) m.1.1) in
     rw (p.1, p.2) (thumb_refuses_tree b o (option_map (λ (t : Directory). t.at) c.in_ok-directories.directories.thumb)
-    d.1.0.thumb_read.stands d.0 c.in_err-thumb.field-0.0
-    (c.in_err-thumb.ensures.judged (dirs_held b o (range 0 8 ∷ []) dirs) d.1.1))
+    d.1.0.thumb_read.offset_at d.0 c.in_err-thumb.field-0.0
+    (c.in_err-thumb.ensures.judged (dirs_claimed b o (range 0 8 ∷ []) dirs) d.1.1))
 
 pub read_record-requires-clause-found : goal.read_record-requires-clause-found
 read_record-requires-clause-found c =
     let m = c.in_ok-main.ensures.judged in
-    (c.in_ok-directories.ensures.judged (main_held c.args.block.now c.args.order) m.1.1).1.0.main_found
+    (c.in_ok-directories.ensures.judged (main_claimed c.args.block.now c.args.order) m.1.1).1.0.main_found
 
 pub read_record-requires-clause-each : goal.read_record-requires-clause-each
 read_record-requires-clause-each c =
     let b = c.args.block.now in
     let o = c.args.order in
     let m = c.in_ok-main.ensures.judged in
-    let d = whole_dirs b o m.0 _ _ _ (c.in_ok-directories.ensures.judged (main_held b o) m.1.1) in
-    main_each b o c.in_ok-directories.directories.main.at d.1.0.main_stands (all_in_order b o d.0).0
+    let d = whole_dirs b o m.0 _ _ _ (c.in_ok-directories.ensures.judged (main_claimed b o) m.1.1) in
+    main_each b o c.in_ok-directories.directories.main.at d.1.0.main_placed (all_in_order b o d.0).0
 
 pub returns-clause-judged : goal.returns-clause-judged
 returns-clause-judged c =
     let b = c.args.block.now in
     let o = c.args.order in
     let m = c.in_ok-main.ensures.judged in
-    let d = whole_dirs b o m.0 _ _ _ (c.in_ok-directories.ensures.judged (main_held b o) m.1.1) in
+    let d = whole_dirs b o m.0 _ _ _ (c.in_ok-directories.ensures.judged (main_claimed b o) m.1.1) in
     let seen = d.1.0 in
-    let t = c.in_ok-thumb.ensures.judged (dirs_held b o (range 0 8 ∷ []) dirs) d.1.1 in
+    let t = c.in_ok-thumb.ensures.judged (dirs_claimed b o (range 0 8 ∷ []) dirs) d.1.1 in
     let a = option_map (λ (t : Directory). t.at) c.in_ok-directories.directories.thumb in (
-      tree_true b o a seen.thumb_read.stands d.0 t.0,
+      tree_true b o a seen.thumb_read.offset_at d.0 t.0,
       meaning_is b o _ _ _ _ _ c.fields_in.result c.fields_in-2.result a
           (seen.main refl)
-          (c.in_ok-iptc.ensures.ok ∙ ap (λ (n : ℕ). record_at b o n) seen.main_stands)
+          (c.in_ok-iptc.ensures.ok ∙ ap (λ (n : ℕ). record_at b o n) seen.main_placed)
           c.exif_in.ensures
           (c.fields_in.ensures ∙ seen.exif refl)
           (c.fields_in-2.ensures ∙ seen.interop refl)
           (c.fields_in-3.ensures ∙ seen.gps refl)
           t.1
-          seen.thumb_read.stands,
+          seen.thumb_read.offset_at,
     )
 
 pub returns-in_err-main-clause-asked : goal.returns-in_err-main-clause-asked
 returns-in_err-main-clause-asked c =
-    let paid_first = paid_none c.in_ok-held.held c.in_ok-held.ensures.none in
-    let extent_first = extent_none c.in_ok-held.held c.in_ok-held.ensures.none in
-    let marks = c.in_ok-held.ensures.asked in
+    let paid_first = paid_none c.in_ok-claimed.claimed c.in_ok-claimed.ensures.none in
+    let extent_first = extent_none c.in_ok-claimed.claimed c.in_ok-claimed.ensures.none in
+    let marks = c.in_ok-claimed.ensures.asked in
     let asked = c.in_err-main.ensures.asked in
     let below = c.in_err-main.ensures.below in
-    let most = paid_most c.read_main.new.held (length c.args.block.now) (omega arith) in
+    let most = paid_most c.read_main.new.claimed (length c.args.block.now) (omega arith) in
     omega arith
 
 pub returns-in_err-directories-clause-asked : goal.returns-in_err-directories-clause-asked
 returns-in_err-directories-clause-asked c =
-    let paid_first = paid_none c.in_ok-held.held c.in_ok-held.ensures.none in
-    let extent_first = extent_none c.in_ok-held.held c.in_ok-held.ensures.none in
-    let marks = c.in_ok-held.ensures.asked in
+    let paid_first = paid_none c.in_ok-claimed.claimed c.in_ok-claimed.ensures.none in
+    let extent_first = extent_none c.in_ok-claimed.claimed c.in_ok-claimed.ensures.none in
+    let marks = c.in_ok-claimed.ensures.asked in
     let asked0 = c.in_ok-main.ensures.asked in
     let below0 = c.in_ok-main.ensures.below in
     let asked = c.in_err-directories.ensures.asked in
     let below = c.in_err-directories.ensures.below in
-    let most = paid_most c.read_others.new.held (length c.args.block.now) (omega arith) in
+    let most = paid_most c.read_others.new.claimed (length c.args.block.now) (omega arith) in
     omega arith
 
 pub returns-in_err-thumb-clause-asked : goal.returns-in_err-thumb-clause-asked
 returns-in_err-thumb-clause-asked c =
-    let paid_first = paid_none c.in_ok-held.held c.in_ok-held.ensures.none in
-    let extent_first = extent_none c.in_ok-held.held c.in_ok-held.ensures.none in
-    let marks = c.in_ok-held.ensures.asked in
+    let paid_first = paid_none c.in_ok-claimed.claimed c.in_ok-claimed.ensures.none in
+    let extent_first = extent_none c.in_ok-claimed.claimed c.in_ok-claimed.ensures.none in
+    let marks = c.in_ok-claimed.ensures.asked in
     let asked0 = c.in_ok-main.ensures.asked in
     let below0 = c.in_ok-main.ensures.below in
     let asked1 = c.in_ok-directories.ensures.asked in
     let below1 = c.in_ok-directories.ensures.below in
     let asked = c.in_err-thumb.ensures.asked in
     let below = c.in_err-thumb.ensures.below in
-    let most = paid_most c.read_thumb.new.held (length c.args.block.now) (omega arith) in
+    let most = paid_most c.read_thumb.new.claimed (length c.args.block.now) (omega arith) in
     omega arith
 
 pub returns-in_err-iptc-clause-asked : goal.returns-in_err-iptc-clause-asked
 returns-in_err-iptc-clause-asked c =
-    let paid_first = paid_none c.in_ok-held.held c.in_ok-held.ensures.none in
-    let extent_first = extent_none c.in_ok-held.held c.in_ok-held.ensures.none in
-    let marks = c.in_ok-held.ensures.asked in
+    let paid_first = paid_none c.in_ok-claimed.claimed c.in_ok-claimed.ensures.none in
+    let extent_first = extent_none c.in_ok-claimed.claimed c.in_ok-claimed.ensures.none in
+    let marks = c.in_ok-claimed.ensures.asked in
     let asked0 = c.in_ok-main.ensures.asked in
     let below0 = c.in_ok-main.ensures.below in
     let asked1 = c.in_ok-directories.ensures.asked in
     let below1 = c.in_ok-directories.ensures.below in
     let asked2 = c.in_ok-thumb.ensures.asked in
     let below2 = c.in_ok-thumb.ensures.below in
-    let most = paid_most c.read_thumb.new.held (length c.args.block.now) (omega arith) in
+    let most = paid_most c.read_thumb.new.claimed (length c.args.block.now) (omega arith) in
     let iptc = c.in_err-iptc.ensures.asked in
     omega arith
 
 pub returns-clause-asked : goal.returns-clause-asked
 returns-clause-asked c =
-    let paid_first = paid_none c.in_ok-held.held c.in_ok-held.ensures.none in
-    let extent_first = extent_none c.in_ok-held.held c.in_ok-held.ensures.none in
-    let marks = c.in_ok-held.ensures.asked in
+    let paid_first = paid_none c.in_ok-claimed.claimed c.in_ok-claimed.ensures.none in
+    let extent_first = extent_none c.in_ok-claimed.claimed c.in_ok-claimed.ensures.none in
+    let marks = c.in_ok-claimed.ensures.asked in
     let asked0 = c.in_ok-main.ensures.asked in
     let below0 = c.in_ok-main.ensures.below in
     let asked1 = c.in_ok-directories.ensures.asked in
     let below1 = c.in_ok-directories.ensures.below in
     let asked2 = c.in_ok-thumb.ensures.asked in
     let below2 = c.in_ok-thumb.ensures.below in
-    let most = paid_most c.read_thumb.new.held (length c.args.block.now) (omega arith) in
+    let most = paid_most c.read_thumb.new.claimed (length c.args.block.now) (omega arith) in
     let iptc = c.in_ok-iptc.ensures.asked in
     omega arith
 
 pub returns-then-is_alone-clause-asked : goal.returns-then-is_alone-clause-asked
 returns-then-is_alone-clause-asked c =
-    let paid_first = paid_none c.in_ok-held.held c.in_ok-held.ensures.none in
-    let extent_first = extent_none c.in_ok-held.held c.in_ok-held.ensures.none in
-    let marks = c.in_ok-held.ensures.asked in
+    let paid_first = paid_none c.in_ok-claimed.claimed c.in_ok-claimed.ensures.none in
+    let extent_first = extent_none c.in_ok-claimed.claimed c.in_ok-claimed.ensures.none in
+    let marks = c.in_ok-claimed.ensures.asked in
     let asked0 = c.in_ok-main.ensures.asked in
     let below0 = c.in_ok-main.ensures.below in
-    let most = paid_most c.read_main.new.held (length c.args.block.now) (omega arith) in
+    let most = paid_most c.read_main.new.claimed (length c.args.block.now) (omega arith) in
     let iptc = c.read_alone.ensures.asked in
     omega arith

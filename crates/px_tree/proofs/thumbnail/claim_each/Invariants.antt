@@ -9,14 +9,14 @@ use Rattle.px_tree.proofs.thumbnail.claim_each.Given as goal
 
 abbrev pub invariant-loop-i : goal.invariant-loop-i
 invariant-loop-i l = record {
-  judged : (taken : List Range) → Agrees taken l.initial.held.ranges
-      → RangesSoFar l.lists.block.now l.place taken (ranges_in l.lists) l.held.ranges
+  judged : (taken : List Range) → Agrees taken l.initial.claimed.ranges
+      → RangesSoFar l.lists.block.now l.place taken (ranges_in l.lists) l.claimed.ranges
       (ranges_of (drop l.i (map whole_number l.lists.starts.elements)) (drop l.i (map whole_number l.lists.sizes.elements)));
   inside : AllByRecursion (IsInside l.lists.block.now)
       (ranges_of (drop l.i (map whole_number l.lists.starts.elements)) (drop l.i (map whole_number l.lists.sizes.elements)))
       → AllByRecursion (IsInside l.lists.block.now) (ranges_in l.lists);
   memory : l.memory.refusals ≡ l.initial.memory.refusals;
-  asked : l.memory.asked + paid l.initial.held ≤ l.initial.memory.asked + paid l.held;
-  below : StaysBelow (length l.lists.block.now) l.initial.held l.held;
-  room : l.initial.held.room ≤ l.held.room;
+  asked : l.memory.asked + paid l.initial.claimed ≤ l.initial.memory.asked + paid l.claimed;
+  below : StaysBelow (length l.lists.block.now) l.initial.claimed l.claimed;
+  room : l.initial.claimed.room ≤ l.claimed.room;
 }

@@ -28,6 +28,6 @@ returns-in_ok-directory-in-Some-clause-judged c = λ taken a.
       ap first_false (some_checks b o d c.in-Some.link n (offsets_of c.args.earlier.now) taken) ∙ j.0,
       (
         λ keeps. ap (λ (x : Fields). Some x) (j.1.0 keeps) ∙ sym (some_fields b o d c.in-Some.link n),
-        subst (λ (rs : List Range). Agrees (rs ++ taken) c.read_directory.new.held.ranges) (sym (some_ranges b o d c.in-Some.link n)) j.1.1,
+        subst (λ (rs : List Range). Agrees (rs ++ taken) c.read_directory.new.claimed.ranges) (sym (some_ranges b o d c.in-Some.link n)) j.1.1,
       ),
     )

@@ -27,10 +27,10 @@ returns-clause-judged c =
     let keeps = c.args.source.now.keeps_fields in
     let l = c.link_to_main-link.result in
     let h = (c.in_ok-claim_range.ensures.judged [] (agrees_none _ c.requires.none)).1 in
-    let held = c.read_directory.new.held.ranges in
-    main_judged b o keeps l c.link_to_main-link.ensures c.read_directory.result held
+    let claimed = c.read_directory.new.claimed.ranges in
+    main_judged b o keeps l c.link_to_main-link.ensures c.read_directory.result claimed
     (subst (λ (d : Dir). Judges c.read_directory.result (dir_checks b o [] (range 0 8 ∷ []) l.place d l.at)
-    (λ (t : Directory). (keeps ≡ true → t.fields ≡ fields b o d l.at) × Agrees (dir_ranges b o l.at ++ range 0 8 ∷ []) held))
+    (λ (t : Directory). (keeps ≡ true → t.fields ≡ fields b o d l.at) × Agrees (dir_ranges b o l.at ++ range 0 8 ∷ []) claimed))
     c.requires.main (c.read_directory.ensures.judged (range 0 8 ∷ []) h)) c.read_directory.ensures.there c.read_directory.ensures.uses
 
 pub returns-in_err-claim_range-clause-asked : goal.returns-in_err-claim_range-clause-asked

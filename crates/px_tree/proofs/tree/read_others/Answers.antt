@@ -6,8 +6,8 @@ use Rattle.px_tree.proofs.reading.Named.{names_thumb, main_is, main_directory_fo
 use Rattle.std.proofs.Common.{arith}
 use Rattle.px_tree.proofs.tree.read_others.Goals as goal
 
-pub link_after-thumb_link-requires-clause-stands : goal.link_after-thumb_link-requires-clause-stands
-link_after-thumb_link-requires-clause-stands c = c.requires.read.table
+pub link_after-thumb_link-requires-clause-has_table : goal.link_after-thumb_link-requires-clause-has_table
+link_after-thumb_link-requires-clause-has_table c = c.requires.read.table
 
 pub read_linked-requires-clause-named : goal.read_linked-requires-clause-named
 read_linked-requires-clause-named c =
@@ -15,7 +15,7 @@ read_linked-requires-clause-named c =
     let o = c.args.source.now.order in
     let lm = c.link_to_main-main_link.result in
     let nm = c.link_to_main-main_link.ensures in
-    let me = c.requires.read.stands in
+    let me = c.requires.read.offset_at in
     names_exif b o c.link_to_exif-exif_link.result _ me _ c.link_to_exif-exif_link.ensures c.requires.read.uses.exif
 
 pub read_linked-requires-2-clause-named : goal.read_linked-requires-2-clause-named
@@ -24,7 +24,7 @@ read_linked-requires-2-clause-named c =
     let o = c.args.source.now.order in
     let lm = c.link_to_main-main_link.result in
     let nm = c.link_to_main-main_link.ensures in
-    let me = c.requires.read.stands in
+    let me = c.requires.read.offset_at in
     names_interop b o c.link_to_interop-interop_link.result _ c.in_ok-exif.ensures.there c.link_to_interop-interop_link.ensures
 
 pub read_linked-requires-3-clause-named : goal.read_linked-requires-3-clause-named
@@ -33,7 +33,7 @@ read_linked-requires-3-clause-named c =
     let o = c.args.source.now.order in
     let lm = c.link_to_main-main_link.result in
     let nm = c.link_to_main-main_link.ensures in
-    let me = c.requires.read.stands in
+    let me = c.requires.read.offset_at in
     names_gps b o c.link_to_gps-gps_link.result _ me _ c.link_to_gps-gps_link.ensures c.requires.read.uses.gps
 
 pub read_linked-requires-4-clause-named : goal.read_linked-requires-4-clause-named
@@ -42,7 +42,7 @@ read_linked-requires-4-clause-named c =
     let o = c.args.source.now.order in
     let lm = c.link_to_main-main_link.result in
     let nm = c.link_to_main-main_link.ensures in
-    let me = c.requires.read.stands in
+    let me = c.requires.read.offset_at in
     names_thumb b o c.link_after-thumb_link.result _ me c.link_after-thumb_link.ensures.leads c.link_after-thumb_link.ensures.place
 
 pub returns-in_err-exif-clause-judged : goal.returns-in_err-exif-clause-judged
@@ -52,8 +52,8 @@ returns-in_err-exif-clause-judged c = λ taken a.
     let o = c.args.source.now.order in
     let lm = c.link_to_main-main_link.result in
     let nm = c.link_to_main-main_link.ensures in
-    let me = c.requires.read.stands in
-    let s1 = dirs_start b o taken lm (main_is b o lm nm) c.args.held.now.ranges a in
+    let me = c.requires.read.offset_at in
+    let s1 = dirs_start b o taken lm (main_is b o lm nm) c.args.claimed.now.ranges a in
     rw (p.1, p.2) (dirs_refuse b o taken (Some lm ∷ []) Exif (Interop ∷ Gps ∷ Thumb ∷ []) _ s1 c.in_err-exif.field-0.0
     (c.in_err-exif.ensures.judged s1.now s1.agrees))
 
@@ -64,9 +64,9 @@ returns-in_err-interop-clause-judged c = λ taken a.
     let o = c.args.source.now.order in
     let lm = c.link_to_main-main_link.result in
     let nm = c.link_to_main-main_link.ensures in
-    let me = c.requires.read.stands in
+    let me = c.requires.read.offset_at in
     let ne = names_exif b o c.link_to_exif-exif_link.result _ me _ c.link_to_exif-exif_link.ensures c.requires.read.uses.exif in
-    let s1 = dirs_start b o taken lm (main_is b o lm nm) c.args.held.now.ranges a in
+    let s1 = dirs_start b o taken lm (main_is b o lm nm) c.args.claimed.now.ranges a in
     let j1 = c.in_ok-exif.ensures.judged s1.now s1.agrees in
     let s2 = dirs_step b o taken (Some lm ∷ []) Exif (Interop ∷ Gps ∷ Thumb ∷ []) _ s1 c.link_to_exif-exif_link.result _ ne j1.0 j1.1.1 in
     rw (p.1, p.2) (dirs_refuse b o taken (c.link_to_exif-exif_link.result ∷ Some lm ∷ []) Interop (Gps ∷ Thumb ∷ []) _ s2
@@ -79,10 +79,10 @@ returns-in_err-gps-clause-judged c = λ taken a.
     let o = c.args.source.now.order in
     let lm = c.link_to_main-main_link.result in
     let nm = c.link_to_main-main_link.ensures in
-    let me = c.requires.read.stands in
+    let me = c.requires.read.offset_at in
     let ne = names_exif b o c.link_to_exif-exif_link.result _ me _ c.link_to_exif-exif_link.ensures c.requires.read.uses.exif in
     let ni = names_interop b o c.link_to_interop-interop_link.result _ c.in_ok-exif.ensures.there c.link_to_interop-interop_link.ensures in
-    let s1 = dirs_start b o taken lm (main_is b o lm nm) c.args.held.now.ranges a in
+    let s1 = dirs_start b o taken lm (main_is b o lm nm) c.args.claimed.now.ranges a in
     let j1 = c.in_ok-exif.ensures.judged s1.now s1.agrees in
     let s2 = dirs_step b o taken (Some lm ∷ []) Exif (Interop ∷ Gps ∷ Thumb ∷ []) _ s1 c.link_to_exif-exif_link.result _ ne j1.0 j1.1.1 in
     let j2 = c.in_ok-interop.ensures.judged s2.now s2.agrees in
@@ -98,11 +98,11 @@ returns-in_err-thumb-clause-judged c = λ taken a.
     let o = c.args.source.now.order in
     let lm = c.link_to_main-main_link.result in
     let nm = c.link_to_main-main_link.ensures in
-    let me = c.requires.read.stands in
+    let me = c.requires.read.offset_at in
     let ne = names_exif b o c.link_to_exif-exif_link.result _ me _ c.link_to_exif-exif_link.ensures c.requires.read.uses.exif in
     let ni = names_interop b o c.link_to_interop-interop_link.result _ c.in_ok-exif.ensures.there c.link_to_interop-interop_link.ensures in
     let ng = names_gps b o c.link_to_gps-gps_link.result _ me _ c.link_to_gps-gps_link.ensures c.requires.read.uses.gps in
-    let s1 = dirs_start b o taken lm (main_is b o lm nm) c.args.held.now.ranges a in
+    let s1 = dirs_start b o taken lm (main_is b o lm nm) c.args.claimed.now.ranges a in
     let j1 = c.in_ok-exif.ensures.judged s1.now s1.agrees in
     let s2 = dirs_step b o taken (Some lm ∷ []) Exif (Interop ∷ Gps ∷ Thumb ∷ []) _ s1 c.link_to_exif-exif_link.result _ ne j1.0 j1.1.1 in
     let j2 = c.in_ok-interop.ensures.judged s2.now s2.agrees in
@@ -121,13 +121,13 @@ returns-clause-judged c = λ taken a.
     let o = c.args.source.now.order in
     let lm = c.link_to_main-main_link.result in
     let nm = c.link_to_main-main_link.ensures in
-    let me = c.requires.read.stands in
+    let me = c.requires.read.offset_at in
     let ne = names_exif b o c.link_to_exif-exif_link.result _ me _ c.link_to_exif-exif_link.ensures c.requires.read.uses.exif in
     let ni = names_interop b o c.link_to_interop-interop_link.result _ c.in_ok-exif.ensures.there c.link_to_interop-interop_link.ensures in
     let ng = names_gps b o c.link_to_gps-gps_link.result _ me _ c.link_to_gps-gps_link.ensures c.requires.read.uses.gps in
     let nt = names_thumb b o c.link_after-thumb_link.result _ me c.link_after-thumb_link.ensures.leads
     c.link_after-thumb_link.ensures.place in
-    let s1 = dirs_start b o taken lm (main_is b o lm nm) c.args.held.now.ranges a in
+    let s1 = dirs_start b o taken lm (main_is b o lm nm) c.args.claimed.now.ranges a in
     let j1 = c.in_ok-exif.ensures.judged s1.now s1.agrees in
     let s2 = dirs_step b o taken (Some lm ∷ []) Exif (Interop ∷ Gps ∷ Thumb ∷ []) _ s1 c.link_to_exif-exif_link.result _ ne j1.0 j1.1.1 in
     let j2 = c.in_ok-interop.ensures.judged s2.now s2.agrees in
@@ -147,7 +147,7 @@ returns-clause-judged c = λ taken a.
           interop = j2.1.0;
           gps = j3.1.0;
           thumb = j4.1.0 refl;
-          main_stands = c.main_directory_of-main.ensures.at ∙ me;
+          main_placed = c.main_directory_of-main.ensures.at ∙ me;
           main_found = main_directory_found b o c.main_directory_of-main.result c.args.main
               c.main_directory_of-main.ensures.at c.main_directory_of-main.ensures.iptc c.requires.read.uses;
           thumb_read = c.in_ok-thumb.ensures.there;

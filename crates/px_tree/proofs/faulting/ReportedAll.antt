@@ -13,19 +13,19 @@ use Rattle.px_meaning.specs.declared.Dir.TheVariants.{Thumb}
 use Rattle.px_meaning.specs.Entry.{IsDirectory}
 use Rattle.px_meaning.specs.Directory.{magic, dirs, dir_at}
 use Rattle.px_meaning.specs.Footprint.{listed}
-use Rattle.px_tree.specs.Checks.{same_bytes, order_of, begins_header, header_checks, dirs_checks, dirs_held, thumb_checks_at, tree_checks}
+use Rattle.px_tree.specs.Checks.{same_bytes, order_of, begins_header, header_checks, dirs_checks, dirs_claimed, thumb_checks_at, tree_checks}
 use Rattle.px_tree.specs.Checks.{checks_in, checks, FirstFault}
 use Rattle.px_tree.specs.Faults.{Begins, owners_at, thumb_owners, owners, Fault}
 use Rattle.px_tree.proofs.lists.At.{From, from_all, from_head, from_tail, from_left, from_right}
-use Rattle.px_tree.proofs.saying.Judged.{dirs_facts, bytes_self, header_begun, order_told}
-use Rattle.px_tree.proofs.faulting.Told.{Tells, tells_append, first_told, Held}
-use Rattle.px_tree.proofs.faulting.ToldDirs.{dirs_tell, dirs_kept}
-use Rattle.px_tree.proofs.faulting.ToldThumb.{thumb_tells}
+use Rattle.px_tree.proofs.saying.Judged.{dirs_facts, bytes_self, header_begun, order_reported}
+use Rattle.px_tree.proofs.faulting.Reported.{FaultsOf, faults_append, first_reported, Claimed}
+use Rattle.px_tree.proofs.faulting.ReportedDirs.{dirs_decide, dirs_kept}
+use Rattle.px_tree.proofs.faulting.ReportedThumb.{thumb_decides}
 
 -- ---- the header
 
-kind_told : (b : List ℕ) → begins_header b ≡ false → Fault b cause.UnknownKind 0
-kind_told b h =
+kind_reported : (b : List ℕ) → begins_header b ≡ false → Fault b cause.UnknownKind 0
+kind_reported b h =
     elim (and_cases (nat_lt 0 (length b)) (same_bytes (take 4 b) (take (length b) (magic Least)) || same_bytes (take 4 b)
     (take (length b) (magic Most))) h) [
       | inl n ↦ let l : length b ≤ 0 = ltb-false 0 (length b) n in (refl, inl (omega arith))
@@ -44,19 +44,19 @@ kind_told b h =
     neither n Least q = differ (take 4 b) (take (length b) (magic Least)) n.0 q
     neither n Most q = differ (take 4 b) (take (length b) (magic Most)) n.1 q
 
-header_tells : (b : List ℕ) → Tells b (header_checks b)
-header_tells b = (
+header_decides : (b : List ℕ) → FaultsOf b (header_checks b)
+header_decides b = (
   λ h. (refl, leb-false (length b) limit h),
-  λ _. (kind_told b, λ _. (λ h. (refl, leb-false 8 (length b) h), λ _. tt)),
+  λ _. (kind_reported b, λ _. (λ h. (refl, leb-false 8 (length b) h), λ _. tt)),
 )
 
 -- ---- the tree
 
 module _ (b : List ℕ) (o : Order) (begins : Begins b o) where
-  thumb_tells_at : (z : Option ℕ) → dir_at b o Thumb ≡ z → IfSome z (IsDirectory b o Thumb) → (held : List Range) (k : ℕ)
-      → From (owners b o) k (listed (option_map (thumb_owners b o) z)) → Held b o k held → Tells b (thumb_checks_at b o held z)
-  thumb_tells_at None q i held k f g = tt
-  thumb_tells_at (Some a) q i held k f g = thumb_tells b o a (begins, q) i.each held k f g
+  thumb_decides_at : (z : Option ℕ) → dir_at b o Thumb ≡ z → IfSome z (IsDirectory b o Thumb) → (claimed : List Range) (k : ℕ)
+      → From (owners b o) k (listed (option_map (thumb_owners b o) z)) → Claimed b o k claimed → FaultsOf b (thumb_checks_at b o claimed z)
+  thumb_decides_at None q i claimed k f g = tt
+  thumb_decides_at (Some a) q i claimed k f g = thumb_decides b o a (begins, q) i.each claimed k f g
 
   abbrev header : List Range
   header = range 0 8 ∷ []
@@ -71,11 +71,11 @@ module _ (b : List ℕ) (o : Order) (begins : Begins b o) where
   unfolding owners
   whole = from_all ((0, range 0 8) ∷ in_dirs ++ in_thumb)
 
-  behind : From (owners b o) 1 (in_dirs ++ in_thumb)
-  behind = from_tail (owners b o) 0 (0, range 0 8) (in_dirs ++ in_thumb) whole
+  after : From (owners b o) 1 (in_dirs ++ in_thumb)
+  after = from_tail (owners b o) 0 (0, range 0 8) (in_dirs ++ in_thumb) whole
 
-  header_held : Held b o 1 header
-  header_held = (
+  header_claimed : Claimed b o 1 header
+  header_claimed = (
     record {
       index =
           0;
@@ -87,28 +87,28 @@ module _ (b : List ℕ) (o : Order) (begins : Begins b o) where
     tt,
   )
 
-  tree_tells : Tells b (tree_checks b o)
+  tree_decides : FaultsOf b (tree_checks b o)
   unfolding tree_checks
-  tree_tells =
-      let here : From (owners b o) 1 in_dirs = from_left (owners b o) 1 in_dirs in_thumb behind in
-      tells_append b (dirs_checks b o [] header dirs) (thumb_checks_at b o (dirs_held b o header dirs) (dir_at b o Thumb))
-      (dirs_tell b o begins 0 dirs [] header 1 (refl, (refl, (refl, (refl, (refl, tt))))) tt here header_held)
+  tree_decides =
+      let here : From (owners b o) 1 in_dirs = from_left (owners b o) 1 in_dirs in_thumb after in
+      faults_append b (dirs_checks b o [] header dirs) (thumb_checks_at b o (dirs_claimed b o header dirs) (dir_at b o Thumb))
+      (dirs_decide b o begins 0 dirs [] header 1 (refl, (refl, (refl, (refl, (refl, tt))))) tt here header_claimed)
       (λ all.
       let i = (dirs_facts b o [] header dirs all).0 in
-      thumb_tells_at (dir_at b o Thumb) refl i.1.1.1.1.0 (dirs_held b o header dirs) (1 + length in_dirs)
-      (from_right (owners b o) 1 in_dirs in_thumb behind)
-      (dirs_kept b o begins dirs header 1 i here header_held))
+      thumb_decides_at (dir_at b o Thumb) refl i.1.1.1.1.0 (dirs_claimed b o header dirs) (1 + length in_dirs)
+      (from_right (owners b o) 1 in_dirs in_thumb after)
+      (dirs_kept b o begins dirs header 1 i here header_claimed))
 
 -- ---- all checks
 
-checks_tell : (b : List ℕ) → Tells b (checks b)
+checks_decide : (b : List ℕ) → FaultsOf b (checks b)
 unfolding checks
-checks_tell b = tells_append b (header_checks b) (checks_in b (order_of b)) (header_tells b)
+checks_decide b = faults_append b (header_checks b) (checks_in b (order_of b)) (header_decides b)
     (λ all.
     let least : 8 ≤ length b = leb-true 8 (length b) all.1.1.0 in
     let o = header_begun b least all.1.0 in
-    subst (λ z. Tells b (checks_in b z)) (sym (order_told b o.0 o.1)) (tree_tells b o.0 (least, o.1)))
+    subst (λ z. FaultsOf b (checks_in b z)) (sym (order_reported b o.0 o.1)) (tree_decides b o.0 (least, o.1)))
 
 -- The first fault is a fault of the block.
 pub first_stands : (b : List ℕ) (c : Cause) (p : ℕ) → FirstFault b c p → Fault b c p
-first_stands b c p h = first_told b (checks b) c p (checks_tell b) h
+first_stands b c p h = first_reported b (checks b) c p (checks_decide b) h

@@ -19,7 +19,7 @@ use Rattle.px_tree.specs.Faults.{At, Reached, EntryAt, thumb_owners, owners, par
 use Rattle.px_tree.proofs.saying.Owned.{ranges_placed}
 use Rattle.px_tree.proofs.lists.At.{From, from_head, from_tail, from_left, from_right, each_from_at, contains_at}
 use Rattle.px_tree.proofs.saying.Judged.{ranges_facts}
-use Rattle.px_tree.proofs.faulting.Told.{Tells, tells_append, Held, held_cons, held_append, overlap_told}
+use Rattle.px_tree.proofs.faulting.Reported.{FaultsOf, faults_append, Claimed, claimed_cons, claimed_append, overlap_reported}
 
 -- an entry that is found is at its offset
 pub record FoundAt (t p : ℕ) (es : List Entry) (e : Entry) : Type 0 where
@@ -69,14 +69,14 @@ module _ (b : List ℕ) (o : Order) (a : ℕ) (reached : Reached b o Thumb a) (e
 
     -- ---- pairs
 
-    alone_told : (t u : ℕ) (e : Entry) → at_tag t partners ≡ Some u → entry_with t es ≡ Some e → entry_with u es ≡ None
+    alone_reported : (t u : ℕ) (e : Entry) → at_tag t partners ≡ Some u → entry_with t es ≡ Some e → entry_with u es ≡ None
         → Fault b cause.ThumbnailPair (place_with t (a + 2) es)
-    alone_told t u e q h n =
+    alone_reported t u e q h n =
         (o, a, (found t e h).index, e, reached, entry_there t e h, inl (u, ap (λ t. at_tag t partners) (found t e h).tag ∙ q, n))
 
-    pair_told : (t u : ℕ) → at_tag t partners ≡ Some u → at_tag u partners ≡ Some t → are_paired (entry_with t es) (entry_with u es) ≡ false
+    pair_reported : (t u : ℕ) → at_tag t partners ≡ Some u → at_tag u partners ≡ Some t → are_paired (entry_with t es) (entry_with u es) ≡ false
         → Fault b cause.ThumbnailPair (pair_place t u (a + 2) es)
-    pair_told t u q r h = go (entry_with t es) (entry_with u es) refl refl h
+    pair_reported t u q r h = go (entry_with t es) (entry_with u es) refl refl h
       where
         go : (y z : Option Entry) → entry_with t es ≡ y → entry_with u es ≡ z → are_paired y z ≡ false
             → Fault b cause.ThumbnailPair (pair_place t u (a + 2) es)
@@ -84,14 +84,14 @@ module _ (b : List ℕ) (o : Order) (a : ℕ) (reached : Reached b o Thumb a) (e
         go (Some y) (Some z) k l h = cc
         go (Some y) None k l h =
             subst (λ p. Fault b cause.ThumbnailPair p) (sym (cond-true (is_some (entry_with t es)) (place_with t (a + 2) es)
-            (place_with u (a + 2) es) (ap is_some k))) (alone_told t u y q k l)
+            (place_with u (a + 2) es) (ap is_some k))) (alone_reported t u y q k l)
         go None (Some z) k l h =
             subst (λ p. Fault b cause.ThumbnailPair p) (sym (cond-false (is_some (entry_with t es)) (place_with t (a + 2) es)
-            (place_with u (a + 2) es) (ap is_some k))) (alone_told u t z r l k)
+            (place_with u (a + 2) es) (ap is_some k))) (alone_reported u t z r l k)
 
-    count_told : same_count (entry_with strip_offsets_tag es) (entry_with strip_lengths_tag es) ≡ false
+    count_reported : same_count (entry_with strip_offsets_tag es) (entry_with strip_lengths_tag es) ≡ false
         → Fault b cause.ThumbnailPair (place_with strip_offsets_tag (a + 2) es)
-    count_told h = go (entry_with strip_offsets_tag es) (entry_with strip_lengths_tag es) refl refl h
+    count_reported h = go (entry_with strip_offsets_tag es) (entry_with strip_lengths_tag es) refl refl h
       where
         go : (y z : Option Entry) → entry_with strip_offsets_tag es ≡ y → entry_with strip_lengths_tag es ≡ z → same_count y z ≡ false
             → Fault b cause.ThumbnailPair (place_with strip_offsets_tag (a + 2) es)
@@ -107,14 +107,14 @@ module _ (b : List ℕ) (o : Order) (a : ℕ) (reached : Reached b o Thumb a) (e
           inr (z, (found strip_offsets_tag y k).tag, l, λ e. both_ways (y.count == z.count) h (eq-eqb y.count z.count e)),
         )
 
-    pairs_tell : Tells b (pair_checks (a + 2) es)
-    pairs_tell = (
-      pair_told jpeg_offset_tag jpeg_length_tag refl refl,
-      λ _. (pair_told strip_offsets_tag strip_lengths_tag refl refl, λ _. (count_told, λ _. tt)),
+    pairs_decide : FaultsOf b (pair_checks (a + 2) es)
+    pairs_decide = (
+      pair_reported jpeg_offset_tag jpeg_length_tag refl refl,
+      λ _. (pair_reported strip_offsets_tag strip_lengths_tag refl refl, λ _. (count_reported, λ _. tt)),
     )
 
-    end_tells : Tells b (end_checks b o a)
-    end_tells = (λ h. (o, a, reached, refl, eqb-false (next o (table b o a)) 0 h), λ _. tt)
+    end_decides : FaultsOf b (end_checks b o a)
+    end_decides = (λ h. (o, a, reached, refl, eqb-false (next o (table b o a)) 0 h), λ _. tt)
 
     -- ---- the JPEG and the strips
 
@@ -176,26 +176,26 @@ module _ (b : List ℕ) (o : Order) (a : ℕ) (reached : Reached b o Thumb a) (e
             ))
 
     -- ranges of the entry at p
-    ranges_tell : (p : ℕ) (held rs : List Range) (k : ℕ) → AllByRecursion (PartAt b o p) rs → From (owners b o) k (map (λ r. (p, r)) rs)
-        → Held b o k held → Tells b (range_checks b p held rs)
-    ranges_tell p held [] k w f g = tt
-    ranges_tell p held (r ∷ rs) k w f g =
+    ranges_decide : (p : ℕ) (claimed rs : List Range) (k : ℕ) → AllByRecursion (PartAt b o p) rs → From (owners b o) k (map (λ r. (p, r)) rs)
+        → Claimed b o k claimed → FaultsOf b (range_checks b p claimed rs)
+    ranges_decide p claimed [] k w f g = tt
+    ranges_decide p claimed (r ∷ rs) k w f g =
         let here : At (owners b o) k (p, r) = from_head (owners b o) k (p, r) (map (λ r. (p, r)) rs) f in (
           λ h. (o, r, w.0, leb-false (r.start + r.size) (length b) h),
           λ i.
               let l : IsInside b r = leb-true (r.start + r.size) (length b) i in (
-                overlap_told b o reached.0 k p r held here g l,
-                λ _. ranges_tell p (r ∷ held) rs (k + 1) w.1 (from_tail (owners b o) k (p, r) (map (λ r. (p, r)) rs) f)
-                    (held_cons b o k p r held here l g),
+                overlap_reported b o reached.0 k p r claimed here g l,
+                λ _. ranges_decide p (r ∷ claimed) rs (k + 1) w.1 (from_tail (owners b o) k (p, r) (map (λ r. (p, r)) rs) f)
+                    (claimed_cons b o k p r claimed here l g),
               ),
         )
 
     -- ---- all of it
 
-    pub thumb_tells : (held : List Range) (k : ℕ) → From (owners b o) k (thumb_owners b o a) → Held b o k held
-        → Tells b (thumb_checks b o held a)
+    pub thumb_decides : (claimed : List Range) (k : ℕ) → From (owners b o) k (thumb_owners b o a) → Claimed b o k claimed
+        → FaultsOf b (thumb_checks b o claimed a)
     unfolding thumb_checks thumb_owners
-    thumb_tells held k f g =
+    thumb_decides claimed k f g =
         let p = place_with jpeg_offset_tag (a + 2) es in
         let q = place_with strip_offsets_tag (a + 2) es in
         let js = option_to_list (jpeg_range o es) in
@@ -203,9 +203,9 @@ module _ (b : List ℕ) (o : Order) (a : ℕ) (reached : Reached b o Thumb a) (e
         let xs : List (ℕ × Range) = map (λ r. (p, r)) js in
         let ys : List (ℕ × Range) = map (λ r. (q, r)) ss in
         let here : From (owners b o) k xs = from_left (owners b o) k xs ys f in
-        tells_append b (pair_checks (a + 2) es) (end_checks b o a ++ part_checks b o held (a + 2) es) pairs_tell
-        (λ _. tells_append b (end_checks b o a) (part_checks b o held (a + 2) es) end_tells
-        (λ _. tells_append b (range_checks b p held js) (range_checks b q (js ++ held) ss)
-        (ranges_tell p held js k jpeg_parts here g)
-        (λ all. ranges_tell q (js ++ held) ss (k + length xs) strip_parts (from_right (owners b o) k xs ys f)
-        (held_append b o k xs js held (ranges_placed p js) here (ranges_facts b o p held js all).0 g))))
+        faults_append b (pair_checks (a + 2) es) (end_checks b o a ++ part_checks b o claimed (a + 2) es) pairs_decide
+        (λ _. faults_append b (end_checks b o a) (part_checks b o claimed (a + 2) es) end_decides
+        (λ _. faults_append b (range_checks b p claimed js) (range_checks b q (js ++ claimed) ss)
+        (ranges_decide p claimed js k jpeg_parts here g)
+        (λ all. ranges_decide q (js ++ claimed) ss (k + length xs) strip_parts (from_right (owners b o) k xs ys f)
+        (claimed_append b o k xs js claimed (ranges_placed p js) here (ranges_facts b o p claimed js all).0 g))))

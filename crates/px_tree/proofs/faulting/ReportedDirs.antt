@@ -21,14 +21,14 @@ use Rattle.px_meaning.specs.Directory.{dir_at, entries_at}
 use Rattle.px_meaning.specs.Thumbnail.{IsInside}
 use Rattle.px_meaning.specs.Footprint.{listed, placed_range, table_range, dir_ranges, ranges_at}
 use Rattle.px_tree.specs.Checks.{is_not_below, differs, entry_checks, entries_checks, is_earlier_at, opening_checks, dir_checks, named_at}
-use Rattle.px_tree.specs.Checks.{checks_at, dirs_checks, dirs_held}
+use Rattle.px_tree.specs.Checks.{checks_at, dirs_checks, dirs_claimed}
 use Rattle.px_meaning.specs.Roles.{dir_number}
 use Rattle.px_tree.specs.Faults.{At, Begins, Reached, EntryAt, value_owners, dir_owners, owners_at, owners, Fault}
 use Rattle.px_tree.proofs.saying.Owned.{ranges_owners_at}
 use Rattle.px_tree.proofs.lists.At.{From, from_all, from_head, from_tail, from_left, from_right}
 use Rattle.px_tree.proofs.saying.Judged.{AllHold, at_facts}
-use Rattle.px_tree.proofs.faulting.Told.{Tells, tells_append, Held, held_later, held_cons, held_append, overlap_told, value_told}
-use Rattle.px_tree.proofs.faulting.Told.{after_value}
+use Rattle.px_tree.proofs.faulting.Reported.{FaultsOf, faults_append, Claimed, claimed_later, claimed_cons, claimed_append, overlap_reported, value_reported}
+use Rattle.px_tree.proofs.faulting.Reported.{after_value}
 
 module _ (b : List ℕ) (o : Order) (begins : Begins b o) where
   -- the offsets are those of directories before number m
@@ -53,17 +53,17 @@ module _ (b : List ℕ) (o : Order) (begins : Begins b o) where
     Previous None n = Unit {0}
     Previous (Some t) n = (i : ℕ) × (e : Entry) × At (entries_at b o a) i e × (n ≡ i + 1) × (e.tag ≡ t)
 
-    unsorted_told : (u : Option ℕ) (n p : ℕ) (f : Entry) → Previous u n → EntryAt b o d n p f → is_not_below u f.tag ≡ false
+    unsorted_reported : (u : Option ℕ) (n p : ℕ) (f : Entry) → Previous u n → EntryAt b o d n p f → is_not_below u f.tag ≡ false
         → Fault b cause.Unsorted p
-    unsorted_told None n p f w x h = cc
-    unsorted_told (Some t) n p f (i, e, k, q, g) x h =
+    unsorted_reported None n p f w x h = cc
+    unsorted_reported (Some t) n p f (i, e, k, q, g) x h =
         let l : f.tag < t = leb-false t f.tag h in
         (o, d, i, a + 2 + 12 * i, e, f, (a, reached, k, refl), subst (λ n. EntryAt b o d n p f) q x, (omega arith))
 
-    doubled_told : (u : Option ℕ) (n p : ℕ) (f : Entry) → Previous u n → EntryAt b o d n p f → differs u f.tag ≡ false
+    doubled_reported : (u : Option ℕ) (n p : ℕ) (f : Entry) → Previous u n → EntryAt b o d n p f → differs u f.tag ≡ false
         → Fault b cause.Doubled p
-    doubled_told None n p f w x h = cc
-    doubled_told (Some t) n p f (i, e, k, q, g) x h =
+    doubled_reported None n p f w x h = cc
+    doubled_reported (Some t) n p f (i, e, k, q, g) x h =
         let l : t ≡ f.tag = eqb-true t f.tag (not-false (t == f.tag) h) in
         (o, d, i, a + 2 + 12 * i, e, f, (a, reached, k, refl), subst (λ n. EntryAt b o d n p f) q x, sym (g ∙ l))
 
@@ -75,14 +75,14 @@ module _ (b : List ℕ) (o : Order) (begins : Begins b o) where
     forbidden_from Forbidden h = refl
     forbidden_from _ h = cc
 
-    entry_tells : (held : List Range) (p n k : ℕ) (u : Option ℕ) (e : Entry) (rest : List (ℕ × Range)) → EntryAt b o d n p e → Previous u n
-        → From (owners b o) k (cons_option (option_map (λ r. (p, r)) (placed_range o e)) rest) → Held b o k held
-        → Tells b (entry_checks b o d held p u e)
+    entry_decides : (claimed : List Range) (p n k : ℕ) (u : Option ℕ) (e : Entry) (rest : List (ℕ × Range)) → EntryAt b o d n p e → Previous u n
+        → From (owners b o) k (cons_option (option_map (λ r. (p, r)) (placed_range o e)) rest) → Claimed b o k claimed
+        → FaultsOf b (entry_checks b o d claimed p u e)
     unfolding entry_checks
-    entry_tells held p n k u e rest x w f g = (
-      unsorted_told u n p e w x,
+    entry_decides claimed p n k u e rest x w f g = (
+      unsorted_reported u n p e w x,
       λ _. (
-        doubled_told u n p e w x,
+        doubled_reported u n p e w x,
         λ _. (
           λ h. (o, d, n, e, x, none_from (form_of e.code) h),
           λ _. (
@@ -91,7 +91,7 @@ module _ (b : List ℕ) (o : Order) (begins : Begins b o) where
               λ h. (o, d, n, e, x, h),
               λ _. (
                 λ h. (o, d, n, e, x, h),
-                λ i. (value_told b o p k rest begins (placed_range o e) held f g (value_inside e i), λ _. tt),
+                λ i. (value_reported b o p k rest begins (placed_range o e) claimed f g (value_inside e i), λ _. tt),
               ),
             ),
           ),
@@ -99,59 +99,59 @@ module _ (b : List ℕ) (o : Order) (begins : Begins b o) where
       ),
     )
 
-    raw_holds : (held : List Range) (p : ℕ) (u : Option ℕ) (e : Entry) → AllHold (entry_checks b o d held p u e) → has_raw b o e ≡ true
+    raw_holds : (claimed : List Range) (p : ℕ) (u : Option ℕ) (e : Entry) → AllHold (entry_checks b o d claimed p u e) → has_raw b o e ≡ true
     unfolding entry_checks
-    raw_holds held p u e h = h.1.1.1.1.1.0
+    raw_holds claimed p u e h = h.1.1.1.1.1.0
 
     -- entry n and those after it, if owner k is the next
-    entries_tell : (held : List Range) (p n k : ℕ) (u : Option ℕ) (es : List Entry) → From (entries_at b o a) n es → p ≡ a + 2 + 12 * n
-        → Previous u n → From (owners b o) k (value_owners o p es) → Held b o k held → Tells b (entries_checks b o d held p u es)
-    entries_tell held p n k u [] c q w f g = tt
-    entries_tell held p n k u (e ∷ es) c q w f g =
+    entries_decide : (claimed : List Range) (p n k : ℕ) (u : Option ℕ) (es : List Entry) → From (entries_at b o a) n es → p ≡ a + 2 + 12 * n
+        → Previous u n → From (owners b o) k (value_owners o p es) → Claimed b o k claimed → FaultsOf b (entries_checks b o d claimed p u es)
+    entries_decide claimed p n k u [] c q w f g = tt
+    entries_decide claimed p n k u (e ∷ es) c q w f g =
         let here : At (entries_at b o a) n e = from_head (entries_at b o a) n e es c in
-        tells_append b (entry_checks b o d held p u e) (entries_checks b o d (option_to_list (placed_range o e) ++ held) (p + 12)
+        faults_append b (entry_checks b o d claimed p u e) (entries_checks b o d (option_to_list (placed_range o e) ++ claimed) (p + 12)
         (Some e.tag) es)
-        (entry_tells held p n k u e (value_owners o (p + 12) es) (a, reached, here, q) w f g)
+        (entry_decides claimed p n k u e (value_owners o (p + 12) es) (a, reached, here, q) w f g)
         (λ all.
-        let s = after_value b o p k (value_owners o (p + 12) es) (placed_range o e) held f g (value_inside e (raw_holds held p u e all)) in
-        entries_tell (option_to_list (placed_range o e) ++ held) (p + 12) (n + 1) s.0 (Some e.tag) es
+        let s = after_value b o p k (value_owners o (p + 12) es) (placed_range o e) claimed f g (value_inside e (raw_holds claimed p u e all)) in
+        entries_decide (option_to_list (placed_range o e) ++ claimed) (p + 12) (n + 1) s.0 (Some e.tag) es
         (from_tail (entries_at b o a) n e es c) (omega arith) (n, e, here, refl, refl) s.1 s.2)
 
     -- ---- one directory
 
-    loop_told : (earlier : List ℕ) → Before (dir_number d) earlier → is_earlier_at earlier a ≡ true → Fault b cause.Loop (named_at b o d)
-    loop_told [] w h = cc
-    loop_told (x ∷ xs) w h = elim (or_cases (x == a) (is_earlier_at xs a) h) [
+    loop_reported : (earlier : List ℕ) → Before (dir_number d) earlier → is_earlier_at earlier a ≡ true → Fault b cause.Loop (named_at b o d)
+    loop_reported [] w h = cc
+    loop_reported (x ∷ xs) w h = elim (or_cases (x == a) (is_earlier_at xs a) h) [
       | inl t ↦ let e = w.0 in (o, d, e.0, a, reached, (begins, e.2 ∙ ap (λ y. Some y) (eqb-true x a t)), e.1, refl)
-      | inr t ↦ loop_told xs w.1 t
+      | inr t ↦ loop_reported xs w.1 t
     ]
 
-    dir_tells : (earlier : List ℕ) (held : List Range) (k : ℕ) → Before (dir_number d) earlier → From (owners b o) k (dir_owners b o d a)
-        → Held b o k held → Tells b (dir_checks b o earlier held (named_at b o d) d a)
+    dir_decides : (earlier : List ℕ) (claimed : List Range) (k : ℕ) → Before (dir_number d) earlier → From (owners b o) k (dir_owners b o d a)
+        → Claimed b o k claimed → FaultsOf b (dir_checks b o earlier claimed (named_at b o d) d a)
     unfolding dir_checks dir_owners
-    dir_tells earlier held k w f g =
+    dir_decides earlier claimed k w f g =
         let n = short o (part b a 2) in
         let p = named_at b o d in
         let here : At (owners b o) k (p, table_range b o a) =
         from_head (owners b o) k (p, table_range b o a) (value_owners o (a + 2) (entries_at b o a)) f in
-        tells_append b (opening_checks b o earlier held p a) (entries_checks b o d (table_range b o a ∷ held) (a + 2) None
+        faults_append b (opening_checks b o earlier claimed p a) (entries_checks b o d (table_range b o a ∷ claimed) (a + 2) None
         (entries_at b o a)) (
-          λ h. loop_told earlier w (not-false (is_earlier_at earlier a) h),
+          λ h. loop_reported earlier w (not-false (is_earlier_at earlier a) h),
           λ _. (
             λ h. (o, d, a, reached, refl, (let l : length b < a + 2 = leb-false (a + 2) (length b) h in omega arith)),
             λ c. (
               λ h. (o, d, reached, leb-true (a + 2) (length b) c, (let l : n < 1 = leb-false 1 n h in omega arith)),
               λ _. (
                 λ h. (o, d, a, reached, refl, leb-false (a + table_size n) (length b) h),
-                λ i. (overlap_told b o begins k p (table_range b o a) held here g (leb-true (a + table_size n) (length b) i), λ _. tt),
+                λ i. (overlap_reported b o begins k p (table_range b o a) claimed here g (leb-true (a + table_size n) (length b) i), λ _. tt),
               ),
             ),
           ),
         )
-        (λ all. entries_tell (table_range b o a ∷ held) (a + 2) 0 (k + 1) None (entries_at b o a) (from_all (entries_at b o a))
+        (λ all. entries_decide (table_range b o a ∷ claimed) (a + 2) 0 (k + 1) None (entries_at b o a) (from_all (entries_at b o a))
         (omega arith) tt
         (from_tail (owners b o) k (p, table_range b o a) (value_owners o (a + 2) (entries_at b o a)) f)
-        (held_cons b o k p (table_range b o a) held here (leb-true (a + table_size n) (length b) all.1.1.1.0) g))
+        (claimed_cons b o k p (table_range b o a) claimed here (leb-true (a + table_size n) (length b) all.1.1.1.0) g))
 
   -- ---- the directories in order
 
@@ -160,10 +160,10 @@ module _ (b : List ℕ) (o : Order) (begins : Begins b o) where
   Numbered m [] = Unit {0}
   Numbered m (d ∷ ds) = (dir_number d ≡ m) × Numbered (m + 1) ds
 
-  at_tells : (d : Dir) (z : Option ℕ) → dir_at b o d ≡ z → (earlier : List ℕ) (held : List Range) (k : ℕ) → Before (dir_number d) earlier
-      → From (owners b o) k (listed (option_map (dir_owners b o d) z)) → Held b o k held → Tells b (checks_at b o earlier held d z)
-  at_tells d None q earlier held k w f g = tt
-  at_tells d (Some a) q earlier held k w f g = dir_tells d a (begins, q) earlier held k w f g
+  at_decides : (d : Dir) (z : Option ℕ) → dir_at b o d ≡ z → (earlier : List ℕ) (claimed : List Range) (k : ℕ) → Before (dir_number d) earlier
+      → From (owners b o) k (listed (option_map (dir_owners b o d) z)) → Claimed b o k claimed → FaultsOf b (checks_at b o earlier claimed d z)
+  at_decides d None q earlier claimed k w f g = tt
+  at_decides d (Some a) q earlier claimed k w f g = dir_decides d a (begins, q) earlier claimed k w f g
 
   before_more : (d : Dir) (z : Option ℕ) → dir_at b o d ≡ z → (m : ℕ) (earlier : List ℕ) → dir_number d ≡ m → Before m earlier
       → Before (m + 1) (option_to_list z ++ earlier)
@@ -201,33 +201,33 @@ module _ (b : List ℕ) (o : Order) (begins : Begins b o) where
       )
 
   -- the ranges claimed after a valid directory
-  after_dir : (d : Dir) (held : List Range) (k : ℕ) → IfSome (dir_at b o d) (IsDirectory b o d) → From (owners b o) k (owners_at b o d)
-      → Held b o k held → Held b o (k + length (owners_at b o d)) (ranges_at b o d ++ held)
-  after_dir d held k i f g =
-      held_append b o k (owners_at b o d) (ranges_at b o d) held (ranges_owners_at b o d) f (dir_inside d (dir_at b o d) i) g
+  after_dir : (d : Dir) (claimed : List Range) (k : ℕ) → IfSome (dir_at b o d) (IsDirectory b o d) → From (owners b o) k (owners_at b o d)
+      → Claimed b o k claimed → Claimed b o (k + length (owners_at b o d)) (ranges_at b o d ++ claimed)
+  after_dir d claimed k i f g =
+      claimed_append b o k (owners_at b o d) (ranges_at b o d) claimed (ranges_owners_at b o d) f (dir_inside d (dir_at b o d) i) g
 
-  pub dirs_tell : (m : ℕ) (ds : List Dir) (earlier : List ℕ) (held : List Range) (k : ℕ) → Numbered m ds → Before m earlier
-      → From (owners b o) k (flat_map (owners_at b o) ds) → Held b o k held → Tells b (dirs_checks b o earlier held ds)
-  dirs_tell m [] earlier held k n w f g = tt
-  dirs_tell m (d ∷ ds) earlier held k n w f g =
+  pub dirs_decide : (m : ℕ) (ds : List Dir) (earlier : List ℕ) (claimed : List Range) (k : ℕ) → Numbered m ds → Before m earlier
+      → From (owners b o) k (flat_map (owners_at b o) ds) → Claimed b o k claimed → FaultsOf b (dirs_checks b o earlier claimed ds)
+  dirs_decide m [] earlier claimed k n w f g = tt
+  dirs_decide m (d ∷ ds) earlier claimed k n w f g =
       let here : From (owners b o) k (owners_at b o d) = from_left (owners b o) k (owners_at b o d) (flat_map (owners_at b o) ds) f in
-      tells_append b (checks_at b o earlier held d (dir_at b o d)) (dirs_checks b o (option_to_list (dir_at b o d) ++ earlier)
-      (ranges_at b o d ++ held) ds)
-      (at_tells d (dir_at b o d) refl earlier held k (subst (λ m. Before m earlier) (sym n.0) w) here g)
-      (λ all. dirs_tell (m + 1) ds (option_to_list (dir_at b o d) ++ earlier) (ranges_at b o d ++ held) (k + length (owners_at b o d)) n.1
+      faults_append b (checks_at b o earlier claimed d (dir_at b o d)) (dirs_checks b o (option_to_list (dir_at b o d) ++ earlier)
+      (ranges_at b o d ++ claimed) ds)
+      (at_decides d (dir_at b o d) refl earlier claimed k (subst (λ m. Before m earlier) (sym n.0) w) here g)
+      (λ all. dirs_decide (m + 1) ds (option_to_list (dir_at b o d) ++ earlier) (ranges_at b o d ++ claimed) (k + length (owners_at b o d)) n.1
       (before_more d (dir_at b o d) refl m earlier n.0 w)
       (from_right (owners b o) k (owners_at b o d) (flat_map (owners_at b o) ds) f)
-      (after_dir d held k (at_facts b o earlier held d (dir_at b o d) all).0 here g))
+      (after_dir d claimed k (at_facts b o earlier claimed d (dir_at b o d) all).0 here g))
 
   -- the ranges claimed after valid directories
-  pub dirs_kept : (ds : List Dir) (held : List Range) (k : ℕ) → AllByRecursion (λ d. IfSome (dir_at b o d) (IsDirectory b o d)) ds
-      → From (owners b o) k (flat_map (owners_at b o) ds) → Held b o k held
-      → Held b o (k + length (flat_map (owners_at b o) ds)) (dirs_held b o held ds)
-  dirs_kept [] held k i f g = held_later b o k (k + 0) held (omega arith) g
-  dirs_kept (d ∷ ds) held k i f g =
+  pub dirs_kept : (ds : List Dir) (claimed : List Range) (k : ℕ) → AllByRecursion (λ d. IfSome (dir_at b o d) (IsDirectory b o d)) ds
+      → From (owners b o) k (flat_map (owners_at b o) ds) → Claimed b o k claimed
+      → Claimed b o (k + length (flat_map (owners_at b o) ds)) (dirs_claimed b o claimed ds)
+  dirs_kept [] claimed k i f g = claimed_later b o k (k + 0) claimed (omega arith) g
+  dirs_kept (d ∷ ds) claimed k i f g =
       let xs = owners_at b o d in
       let ys = flat_map (owners_at b o) ds in
       let here = from_left (owners b o) k xs ys f in
       let z : k + length xs + length ys ≡ k + length (xs ++ ys) = (let e = length-append xs ys in omega arith) in
-      subst (λ l. Held b o l (dirs_held b o (ranges_at b o d ++ held) ds)) z
-      (dirs_kept ds (ranges_at b o d ++ held) (k + length xs) i.1 (from_right (owners b o) k xs ys f) (after_dir d held k i.0 here g))
+      subst (λ l. Claimed b o l (dirs_claimed b o (ranges_at b o d ++ claimed) ds)) z
+      (dirs_kept ds (ranges_at b o d ++ claimed) (k + length xs) i.1 (from_right (owners b o) k xs ys f) (after_dir d claimed k i.0 here g))
