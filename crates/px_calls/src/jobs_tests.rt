@@ -3,7 +3,7 @@
 use crate::built::CAPTION;
 use px_bytes::{Memory, Watched};
 use px_devices::KeepsBack;
-use px_jobs::{Job, run_compare_in, run_one_in, say_text};
+use px_jobs::{Job, print_text, run_compare_in, run_one_in};
 use std::io;
 use std::process::Abort;
 
@@ -36,6 +36,6 @@ fn a_flush_follows_the_line_of_a_fault(rt: HostRuntime) {
 #[test]
 fn a_flush_follows_a_text(rt: HostRuntime) {
     let mut lines = Watched::new(KeepsBack::new());
-    let status = say_text(&mut lines, "OUT is FILE", 3);
+    let status = print_text(&mut lines, "OUT is FILE", 3);
     check_kept_back(&rt, status, lines, 12);
 }

@@ -1,7 +1,7 @@
 // px_runs: the program over files of known bytes, at which the headline of its runs has no premise on readers and writers.
 use crate::built::CAPTION;
 use px_bytes::{Memory, Watched};
-use px_runs::laws::known_outputs_tell;
+use px_runs::laws::known_outputs_decide;
 use px_runs::{Named, NamedFile, Streams, run_words};
 use px_words::Clap;
 use std::io;
@@ -42,7 +42,7 @@ fn status_of(rt: &HostRuntime, files: &mut Named, words: &[&str]) -> u8 {
 
 #[test]
 fn a_named_file_is_normalised(rt: HostRuntime) -> Result<(), Fail> {
-    known_outputs_tell::<Named>();
+    known_outputs_decide::<Named>();
     let mut files = Named::new(rt.alloc(), FILES);
     assert_eq!(rt; status_of(&rt, &mut files, &["normalise", "one", "out"]), 0);
     assert_eq!(rt; files.written().ok_or("nothing is written")?, CAPTION);

@@ -14,24 +14,24 @@ use Rattle.px_bytes.specs.Devices.{Calls, Device, FailsOnce, over}
 use Rattle.px_bytes.specs.Lacking.{AsksAtMost, Taken}
 use Rattle.px_bytes.specs.Reading.{ConsumesAtMost}
 use Rattle.px_jobs.specs.Lines.{FlushesLast}
-use Rattle.px_jobs.specs.calls.Telling.{TellsPrinted}
-use Rattle.px_jobs.proofs.LineLaws.{device, failed_last, idle_last, last_behind}
-use Rattle.px_jobs.specs.Endings.{EndsCheck, EndsNormalise, IsIdle, LeavesSecond, TellsChecked, TellsWritten}
+use Rattle.px_jobs.specs.calls.Reporting.{ReportsPrinted}
+use Rattle.px_jobs.proofs.LineLaws.{device, failed_last, idle_last, last_after}
+use Rattle.px_jobs.specs.Endings.{EndsCheck, EndsNormalise, IsIdle, LeavesSecond, ReportsChecked, ReportsWritten}
 
 pub ends_normalise : (r : Result ℕ Fault) (reader out lines : Device) (taken taken_now : Taken) (status : ℕ)
     → Normalises r reader.old out.old out.new
     → CountsReads r reader.calls reader.calls_now → CountsWrites r out.calls out.calls_now → LacksRun r taken taken_now
     → AsksAtMost (run_request reader.old) taken taken_now → ConsumesAtMost reader.old reader.new most_read
-    → TellsWritten r status lines → EndsNormalise reader out lines taken taken_now status
-ends_normalise r reader out lines taken taken_now status done reads writes memory asked lost told =
-    (r, done, reads, writes, (memory, asked, lost), told)
+    → ReportsWritten r status lines → EndsNormalise reader out lines taken taken_now status
+ends_normalise r reader out lines taken taken_now status done reads writes memory asked lost reported =
+    (r, done, reads, writes, (memory, asked, lost), reported)
 
 pub ends_check : (r : Result BlockKind Fault) (reader lines : Device) (taken taken_now : Taken) (status : ℕ) → Checks r reader.old
     → CountsReads r reader.calls reader.calls_now → LacksRun r taken taken_now
     → AsksAtMost (run_request reader.old) taken taken_now → ConsumesAtMost reader.old reader.new most_read
-    → TellsChecked r status lines → EndsCheck reader lines taken taken_now status
-ends_check r reader lines taken taken_now status done reads memory asked lost told =
-    (r, done, reads, (memory, asked, lost), told)
+    → ReportsChecked r status lines → EndsCheck reader lines taken taken_now status
+ends_check r reader lines taken taken_now status done reads memory asked lost reported =
+    (r, done, reads, (memory, asked, lost), reported)
 
 -- an unchanged reader is idle
 idle : {R : Type 0} (calls : R → Calls) (bytes : R → Option (List ℕ)) (side : Side) (old new : R)
@@ -56,16 +56,16 @@ writes_last (Err ReadFailed) old new unflushed w h = idle_last old new unflushed
 writes_last (Err NormalTooLong) old new unflushed w h = idle_last old new unflushed w
 
 -- a text up to `mid`, and then its report
-pub text_last : (r : Result ⊤ Fault) (status : ℕ) (old mid new : Calls) (shown told : Option (List ℕ)) (behind unflushed : ℕ)
-    → CountsWrites r old mid → OnOk r (behind ≡ 0) → (new ≡ mid → unflushed ≡ behind) → FlushesLast mid new unflushed
-    → TellsPrinted r status (device mid new shown told) → FlushesLast old new unflushed
-text_last (Ok x) status old mid new shown told behind unflushed w h still last t = λ e. still t.1.0 ∙ h
-text_last (Err WriteFailed) status old mid new shown told behind unflushed w h still last t = elim t [
+pub text_last : (r : Result ⊤ Fault) (status : ℕ) (old mid new : Calls) (shown reported : Option (List ℕ)) (after unflushed : ℕ)
+    → CountsWrites r old mid → OnOk r (after ≡ 0) → (new ≡ mid → unflushed ≡ after) → FlushesLast mid new unflushed
+    → ReportsPrinted r status (device mid new shown reported) → FlushesLast old new unflushed
+text_last (Ok x) status old mid new shown reported after unflushed w h still last t = λ e. still t.1.0 ∙ h
+text_last (Err WriteFailed) status old mid new shown reported after unflushed w h still last t = elim t [
   | inl q ↦ failed_last old new unflushed (subst (FailsOnce old) (sym q.2.0) w)
   | inr q ↦ absurd (q.0 refl)
 ]
-text_last (Err (Refused cause place)) status old mid new shown told behind unflushed w h still last t =
-    last_behind old mid new unflushed w last
-text_last (Err OutOfMemory) status old mid new shown told behind unflushed w h still last t = last_behind old mid new unflushed w last
-text_last (Err ReadFailed) status old mid new shown told behind unflushed w h still last t = last_behind old mid new unflushed w last
-text_last (Err NormalTooLong) status old mid new shown told behind unflushed w h still last t = last_behind old mid new unflushed w last
+text_last (Err (Refused cause place)) status old mid new shown reported after unflushed w h still last t =
+    last_after old mid new unflushed w last
+text_last (Err OutOfMemory) status old mid new shown reported after unflushed w h still last t = last_after old mid new unflushed w last
+text_last (Err ReadFailed) status old mid new shown reported after unflushed w h still last t = last_after old mid new unflushed w last
+text_last (Err NormalTooLong) status old mid new shown reported after unflushed w h still last t = last_after old mid new unflushed w last

@@ -15,23 +15,23 @@ use Rattle.px_jobs.specs.declared.job.Job.TheVariants.{Show, Check, Captions, No
 use Rattle.px_bytes.specs.Devices.{Device}
 use Rattle.px_bytes.specs.Lacking.{Taken, AsksAtMost}
 use Rattle.px_bytes.specs.Reading.{ConsumesAtMost}
-use Rattle.px_jobs.specs.Lines.{IsFailed, IsFlushed, IsWell, Took, TookNothing, TookPrefix, Tells, TellsFault}
+use Rattle.px_jobs.specs.Lines.{IsFailed, IsFlushed, IsWell, Took, TookNothing, TookPrefix, Reports, ReportsFault}
 
 -- ---- the status and the line of an outcome
 
 -- for a normal form: no line
-abbrev pub TellsWritten : Result ℕ Fault → ℕ → Device → Type 0
-TellsWritten (Ok n) status lines = (status ≡ 0) × IsWell lines × TookNothing lines
-TellsWritten (Err e) status lines = TellsFault e None status lines
+abbrev pub ReportsWritten : Result ℕ Fault → ℕ → Device → Type 0
+ReportsWritten (Ok n) status lines = (status ≡ 0) × IsWell lines × TookNothing lines
+ReportsWritten (Err e) status lines = ReportsFault e None status lines
 
 -- the line of an accepted block
 abbrev pub accepted : BlockKind → List ℕ
 accepted kind.Exif = codes "ok exif\n"
 accepted kind.Iim = codes "ok iim\n"
 
-abbrev pub TellsChecked : Result BlockKind Fault → ℕ → Device → Type 0
-TellsChecked (Ok k) status lines = Tells 0 (accepted k) status lines
-TellsChecked (Err e) status lines = TellsFault e None status lines
+abbrev pub ReportsChecked : Result BlockKind Fault → ℕ → Device → Type 0
+ReportsChecked (Ok k) status lines = Reports 0 (accepted k) status lines
+ReportsChecked (Err e) status lines = ReportsFault e None status lines
 
 -- the line of two accepted blocks, and its status
 abbrev pub compared : Bool → List ℕ
@@ -42,9 +42,9 @@ abbrev pub compared_status : Bool → ℕ
 compared_status true = 0
 compared_status false = 1
 
-abbrev pub TellsCompared : Result Bool CompareFault → ℕ → Device → Type 0
-TellsCompared (Ok same) status lines = Tells (compared_status same) (compared same) status lines
-TellsCompared (Err e) status lines = TellsFault e.fault (Some e.side) status lines
+abbrev pub ReportsCompared : Result Bool CompareFault → ℕ → Device → Type 0
+ReportsCompared (Ok same) status lines = Reports (compared_status same) (compared same) status lines
+ReportsCompared (Err e) status lines = ReportsFault e.fault (Some e.side) status lines
 
 -- its bytes and the counts of its calls are as before
 abbrev pub IsIdle : Device → Type 0
@@ -52,11 +52,11 @@ IsIdle d = (d.calls_now ≡ d.calls) × (d.new ≡ d.old)
 
 -- a text of the file: all of it, and one flush; or a part of it, before the lines failed; or the status and the line of a fault that comes
 -- before the text
-abbrev pub TellsText : (Said → List ℕ) → Result ⊤ Fault → Option (List ℕ) → ℕ → Device → Type 0
-TellsText text (Ok x) file status lines = (s : Said) × KnownSaid file s × (status ≡ 0) × IsFlushed lines × Took lines (text s)
-TellsText text (Err WriteFailed) file status lines =
+abbrev pub ReportsText : (Said → List ℕ) → Result ⊤ Fault → Option (List ℕ) → ℕ → Device → Type 0
+ReportsText text (Ok x) file status lines = (s : Said) × KnownSaid file s × (status ≡ 0) × IsFlushed lines × Took lines (text s)
+ReportsText text (Err WriteFailed) file status lines =
     (s : Said) × KnownSaid file s × (status ≡ 4) × IsFailed lines × TookPrefix lines (text s)
-TellsText text (Err fault) file status lines = Stops fault file × TellsFault fault None status lines
+ReportsText text (Err fault) file status lines = Stops fault file × ReportsFault fault None status lines
 
 -- ---- whole runs: the engine allows the outcome for the files, and it is reported. `taken` and `taken_now` are the numbers of the
 -- memory before and after the run: out of memory means one failed allocation, any other outcome means none; and no more bytes are
@@ -79,16 +79,16 @@ IsPair r first second taken taken_now =
 abbrev pub EndsNormalise : Device → Device → Device → Taken → Taken → ℕ → Type 0
 EndsNormalise reader out lines taken taken_now status = (r : Result ℕ Fault) × Normalises r reader.old out.old out.new
     × CountsReads r reader.calls reader.calls_now × CountsWrites r out.calls out.calls_now
-    × IsRun r reader taken taken_now × TellsWritten r status lines
+    × IsRun r reader taken taken_now × ReportsWritten r status lines
 
 abbrev pub EndsCheck : Device → Device → Taken → Taken → ℕ → Type 0
 EndsCheck reader lines taken taken_now status = (r : Result BlockKind Fault) × Checks r reader.old
-    × CountsReads r reader.calls reader.calls_now × IsRun r reader taken taken_now × TellsChecked r status lines
+    × CountsReads r reader.calls reader.calls_now × IsRun r reader taken taken_now × ReportsChecked r status lines
 
 -- the text of the file
 abbrev pub EndsText : (Said → List ℕ) → Device → Device → Taken → Taken → ℕ → Type 0
 EndsText text reader lines taken taken_now status = (r : Result ⊤ Fault) × CountsReads r reader.calls reader.calls_now
-    × IsRun r reader taken taken_now × TellsText text r reader.old status lines
+    × IsRun r reader taken taken_now × ReportsText text r reader.old status lines
 
 -- of the reader, the writer of normal bytes and the writer of lines
 abbrev pub Ends : Job → Device → Device → Device → Taken → Taken → ℕ → Type 0
@@ -100,4 +100,4 @@ Ends Captions reader out lines taken taken_now status = IsIdle out × EndsText c
 abbrev pub EndsCompare : Device → Device → Device → Taken → Taken → ℕ → Type 0
 EndsCompare first second lines taken taken_now status = (r : Result Bool CompareFault) × Compares r first.old second.old
     × CountsSides r first.calls first.calls_now second.calls second.calls_now
-    × IsPair r first second taken taken_now × TellsCompared r status lines
+    × IsPair r first second taken taken_now × ReportsCompared r status lines

@@ -8,15 +8,15 @@ use Rattle.px_jobs.specs.Lines.{Took}
 use Rattle.px_jobs.specs.Endings.{Ends, EndsCompare}
 
 -- Two runs of `normalise` with status 0 wrote the two normal forms of the headline, each of them whole.
-abbrev pub FormsTell : Type 0
-FormsTell = (f g : List ℕ) (reader out lines other_reader other_out other_lines : Device)
+abbrev pub FormsDecide : Type 0
+FormsDecide = (f g : List ℕ) (reader out lines other_reader other_out other_lines : Device)
     (taken taken_now other_taken other_taken_now : Taken) → reader.old ≡ Some f → other_reader.old ≡ Some g
     → Ends Normalise reader out lines taken taken_now 0
     → Ends Normalise other_reader other_out other_lines other_taken other_taken_now 0
     → (m n : List ℕ) × Took out m × Took other_out n × Headline f g m n
 
 -- For two files with normal forms, `compare` returns status 0 only if these are equal, and 1 only if they differ.
-abbrev pub ComparisonTells : Type 0
-ComparisonTells = (f g m n : List ℕ) (first second lines : Device) (taken taken_now : Taken) (status : ℕ) → Headline f g m n
+abbrev pub ComparisonDecides : Type 0
+ComparisonDecides = (f g m n : List ℕ) (first second lines : Device) (taken taken_now : Taken) (status : ℕ) → Headline f g m n
     → first.old ≡ Some f → second.old ≡ Some g → EndsCompare first second lines taken taken_now status
     → (status ≡ 0 → m ≡ n) × (status ≡ 1 → m ≡ n → ⊥)

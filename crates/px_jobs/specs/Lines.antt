@@ -57,14 +57,14 @@ abbrev pub TookNothing : Device → Type 0
 TookNothing d = Keeps d.old d.new
 
 -- the given status and line, which is flushed once; or, if the writer of lines fails, status 4 and a prefix of the line
-abbrev pub Tells : ℕ → List ℕ → ℕ → Device → Type 0
-Tells expected line status lines =
+abbrev pub Reports : ℕ → List ℕ → ℕ → Device → Type 0
+Reports expected line status lines =
     ((status ≡ expected) × IsFlushed lines × Took lines line)
     ⊎ ((status ≡ 4) × IsFailed lines × TookPrefix lines line)
 
 -- those of a fault
-abbrev pub TellsFault : Fault → Option Side → ℕ → Device → Type 0
-TellsFault e file status lines = Tells (status_of e) (line_of e file) status lines
+abbrev pub ReportsFault : Fault → Option Side → ℕ → Device → Type 0
+ReportsFault e file status lines = Reports (status_of e) (line_of e file) status lines
 
 -- whether a text ends in a line feed
 abbrev pub is_feed : Option ℕ → Bool
@@ -79,5 +79,5 @@ abbrev pub ended : List ℕ → List ℕ
 ended text = if is_ended text then text else text ++ end_of None
 
 -- those of a text
-abbrev pub TellsWords : ℕ → List ℕ → ℕ → Device → Type 0
-TellsWords expected text status lines = Tells expected (ended text) status lines
+abbrev pub ReportsWords : ℕ → List ℕ → ℕ → Device → Type 0
+ReportsWords expected text status lines = Reports expected (ended text) status lines

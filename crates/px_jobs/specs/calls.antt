@@ -1,3 +1,3 @@
 -- Definitions for the contracts of single calls. The definitions of the promises are in the folder above.
-pub mod Telling
+pub mod Reporting
 pub mod Flushing

@@ -4,12 +4,12 @@ ghost use Rattle.px_engine.specs.declared.Fault.{Fault};
 ghost use Rattle.px_engine.specs.declared.Fault.TheVariants.{WriteFailed};
 ghost use Rattle.px_engine.specs.Prints.{caption_text, listing};
 ghost use Rattle.px_jobs.specs.Endings.{accepted, compared, compared_status, Ends, EndsCheck, EndsCompare, EndsNormalise, EndsText};
-ghost use Rattle.px_jobs.specs.Endings.{TellsChecked, TellsCompared, TellsWritten};
+ghost use Rattle.px_jobs.specs.Endings.{ReportsChecked, ReportsCompared, ReportsWritten};
 ghost use Rattle.px_jobs.specs.Lines.{FlushesLast};
-ghost use Rattle.px_jobs.specs.calls.Telling.{TellsPrinted, TellsBehind};
+ghost use Rattle.px_jobs.specs.calls.Reporting.{ReportsPrinted, ReportsAfter};
 ghost use Rattle.px_bytes.specs.Devices.{CanFail, over};
 
-use crate::lines::{say, tell};
+use crate::lines::{print_bytes, report_fault};
 use px_bytes::{Memory, Sink, Source};
 use px_engine::{
     BlockKind, CompareFault, Fault, captions_in, check_in, compare_in, normalise_in, show_in,
@@ -31,12 +31,12 @@ pub enum Job {
 // Reports a failed normal form. A written one needs no line.
 fn report_written<L: Sink>(lines: &mut L, written: Result<u64, Fault>) -> u8
     requires { CanFail (L.calls lines.old) }
-    ensures told { TellsWritten written result (over L.calls L.bytes_taken lines.old lines.new) }
+    ensures reported { ReportsWritten written result (over L.calls L.bytes_taken lines.old lines.new) }
     ensures last { FlushesLast (L.calls lines.old) (L.calls lines.new) (L.unflushed lines.new) }
 {
     match written {
         Ok(_) => 0,
-        Err(fault) => tell(lines, fault, None),
+        Err(fault) => report_fault(lines, fault, None),
     }
 }
 
@@ -53,32 +53,32 @@ fn accepted(kind: BlockKind) -> &'static [u8]
 // Reports the kind of a block.
 fn report_checked<L: Sink>(lines: &mut L, checked: Result<BlockKind, Fault>) -> u8
     requires { CanFail (L.calls lines.old) }
-    ensures told { TellsChecked checked result (over L.calls L.bytes_taken lines.old lines.new) }
+    ensures reported { ReportsChecked checked result (over L.calls L.bytes_taken lines.old lines.new) }
     ensures last { FlushesLast (L.calls lines.old) (L.calls lines.new) (L.unflushed lines.new) }
 {
     match checked {
-        Ok(kind) => say(lines, accepted(kind), 0),
-        Err(fault) => tell(lines, fault, None),
+        Ok(kind) => print_bytes(lines, accepted(kind), 0),
+        Err(fault) => report_fault(lines, fault, None),
     }
 }
 
 // Reports the fault of a text. If the lines failed, it writes no more to them.
 fn report_text_fault<L: Sink>(lines: &mut L, fault: Fault) -> u8
     requires { fault ≢ WriteFailed → CanFail (L.calls lines.old) }
-    ensures told { TellsBehind fault result (over L.calls L.bytes_taken lines.old lines.new) }
+    ensures reported { ReportsAfter fault result (over L.calls L.bytes_taken lines.old lines.new) }
     ensures last { FlushesLast (L.calls lines.old) (L.calls lines.new) (L.unflushed lines.new) }
     ensures still { L.calls lines.new ≡ L.calls lines.old → lines.new ≡ lines.old }
 {
     if fault == Fault::WriteFailed {
         return 4;
     }
-    tell(lines, fault, None)
+    report_fault(lines, fault, None)
 }
 
 // Reports a failed text. A written one needs no further line.
 fn report_printed<L: Sink>(lines: &mut L, printed: Result<(), Fault>) -> u8
     requires { (e : Fault) → printed ≡ Err e → e ≢ WriteFailed → CanFail (L.calls lines.old) }
-    ensures told { TellsPrinted printed result (over L.calls L.bytes_taken lines.old lines.new) }
+    ensures reported { ReportsPrinted printed result (over L.calls L.bytes_taken lines.old lines.new) }
     ensures last { FlushesLast (L.calls lines.old) (L.calls lines.new) (L.unflushed lines.new) }
     ensures still { L.calls lines.new ≡ L.calls lines.old → lines.new ≡ lines.old }
 {
@@ -111,12 +111,12 @@ fn compared_status(same: bool) -> u8
 // Reports whether two blocks mean the same.
 fn report_compared<L: Sink>(lines: &mut L, same: Result<bool, CompareFault>) -> u8
     requires { CanFail (L.calls lines.old) }
-    ensures told { TellsCompared same result (over L.calls L.bytes_taken lines.old lines.new) }
+    ensures reported { ReportsCompared same result (over L.calls L.bytes_taken lines.old lines.new) }
     ensures last { FlushesLast (L.calls lines.old) (L.calls lines.new) (L.unflushed lines.new) }
 {
     match same {
-        Ok(same) => say(lines, compared(same), compared_status(same)),
-        Err(e) => tell(lines, e.fault, Some(e.side)),
+        Ok(same) => print_bytes(lines, compared(same), compared_status(same)),
+        Err(e) => report_fault(lines, e.fault, Some(e.side)),
     }
 }
 
@@ -130,7 +130,7 @@ fn run_normalise<R: Source, O: Sink, L: Sink>(
 ) -> u8
     requires reading { CanFail (R.calls reader.old) }
     requires writing { CanFail (O.calls out.old) }
-    requires telling { CanFail (L.calls lines.old) }
+    requires reporting { CanFail (L.calls lines.old) }
     ensures ends { EndsNormalise (over R.calls R.bytes_left reader.old reader.new)
         (over O.calls O.bytes_taken out.old out.new)
         (over L.calls L.bytes_taken lines.old lines.new)
@@ -145,7 +145,7 @@ fn run_normalise<R: Source, O: Sink, L: Sink>(
 #[tactic(auto, using(crate::proofs::EndLaws::ends_check))]
 fn run_check<R: Source, L: Sink>(memory: &mut Memory, reader: &mut R, lines: &mut L) -> u8
     requires reading { CanFail (R.calls reader.old) }
-    requires telling { CanFail (L.calls lines.old) }
+    requires reporting { CanFail (L.calls lines.old) }
     ensures ends { EndsCheck (over R.calls R.bytes_left reader.old reader.new)
         (over L.calls L.bytes_taken lines.old lines.new)
         memory.old memory.new result }
@@ -157,7 +157,7 @@ fn run_check<R: Source, L: Sink>(memory: &mut Memory, reader: &mut R, lines: &mu
 // Writes the listing of the block.
 fn run_show<R: Source, L: Sink>(memory: &mut Memory, reader: &mut R, lines: &mut L) -> u8
     requires reading { CanFail (R.calls reader.old) }
-    requires telling { CanFail (L.calls lines.old) }
+    requires reporting { CanFail (L.calls lines.old) }
     ensures ends { EndsText listing (over R.calls R.bytes_left reader.old reader.new)
         (over L.calls L.bytes_taken lines.old lines.new)
         memory.old memory.new result }
@@ -170,7 +170,7 @@ fn run_show<R: Source, L: Sink>(memory: &mut Memory, reader: &mut R, lines: &mut
 // Writes the captions of the block.
 fn run_captions<R: Source, L: Sink>(memory: &mut Memory, reader: &mut R, lines: &mut L) -> u8
     requires reading { CanFail (R.calls reader.old) }
-    requires telling { CanFail (L.calls lines.old) }
+    requires reporting { CanFail (L.calls lines.old) }
     ensures ends { EndsText caption_text (over R.calls R.bytes_left reader.old reader.new)
         (over L.calls L.bytes_taken lines.old lines.new)
         memory.old memory.new result }
@@ -197,7 +197,7 @@ pub fn run_one_in<R: Source, O: Sink, L: Sink>(
 ) -> u8
     requires reading { CanFail (R.calls reader.old) }
     requires writing { CanFail (O.calls out.old) }
-    requires telling { CanFail (L.calls lines.old) }
+    requires reporting { CanFail (L.calls lines.old) }
     ensures ends { Ends job (over R.calls R.bytes_left reader.old reader.new)
         (over O.calls O.bytes_taken out.old out.new)
         (over L.calls L.bytes_taken lines.old lines.new)
@@ -225,7 +225,7 @@ pub fn run_compare_in<R: Source, S: Source, L: Sink>(
 ) -> u8
     requires first { CanFail (R.calls first.old) }
     requires second { CanFail (S.calls second.old) }
-    requires telling { CanFail (L.calls lines.old) }
+    requires reporting { CanFail (L.calls lines.old) }
     ensures ends { EndsCompare (over R.calls R.bytes_left first.old first.new)
         (over S.calls S.bytes_left second.old second.new)
         (over L.calls L.bytes_taken lines.old lines.new)

@@ -13,8 +13,8 @@
 //! run_one_in(&mut memory, Job::Check, &mut reader, &mut out, &mut lines); // 0: ok iim
 //! let (mut first, mut second) = (Watched::new(file.as_slice()), Watched::new(b"".as_slice()));
 //! run_compare_in(&mut memory, &mut first, &mut second, &mut lines); // 2: refused: UnknownKind at 0 in file 2
-//! tell(&mut lines, Fault::ReadFailed, Some(Side::First)); // 4: failed: ReadFailed in file 1
-//! say_text(&mut lines, "OUT is FILE", 3); // 3: the text and a line feed
+//! report_fault(&mut lines, Fault::ReadFailed, Some(Side::First)); // 4: failed: ReadFailed in file 1
+//! print_text(&mut lines, "OUT is FILE", 3); // 3: the text and a line feed
 //! ```
 #![tactic(auto)]
 
@@ -23,4 +23,4 @@ pub mod laws;
 mod lines;
 
 pub use job::{Job, run_compare_in, run_one_in};
-pub use lines::{say_text, tell};
+pub use lines::{print_text, report_fault};

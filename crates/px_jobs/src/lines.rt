@@ -3,7 +3,7 @@ ghost use Rattle.std.specs.Prelude.{◌≡◌, ◌++◌, None};
 ghost use Rattle.px_bytes.specs.Devices.{CanFail, over, Sends};
 ghost use Rattle.px_bytes.specs.Waiting.{Adds};
 ghost use Rattle.px_engine.specs.declared.Fault.TheVariants.{Refused};
-ghost use Rattle.px_jobs.specs.Lines.{FlushesLast, end_of, line_of, status_of, Tells, TellsFault, TellsWords, is_ended};
+ghost use Rattle.px_jobs.specs.Lines.{FlushesLast, end_of, line_of, status_of, Reports, ReportsFault, ReportsWords, is_ended};
 ghost use Rattle.px_jobs.specs.calls.Flushing.{Flushes};
 
 use itoa::Buffer;
@@ -109,7 +109,7 @@ fn status(fault: Fault) -> u8
 // Flushes. Returns the exit status: `expected`, or 4 if the flush fails.
 fn flushed<L: Sink>(lines: &mut L, expected: u8) -> u8
     requires { CanFail (L.calls lines.old) }
-    ensures told { Flushes expected result (over L.calls L.bytes_taken lines.old lines.new) }
+    ensures reported { Flushes expected result (over L.calls L.bytes_taken lines.old lines.new) }
     ensures last { FlushesLast (L.calls lines.old) (L.calls lines.new) (L.unflushed lines.new) }
 {
     match lines.flush_all() {
@@ -120,9 +120,9 @@ fn flushed<L: Sink>(lines: &mut L, expected: u8) -> u8
 
 /// Writes the line of a fault and flushes. Returns the exit status: the fault's, or 4 if a write or the flush
 /// fails. In a comparison, `file` is the side with the fault. It allocates nothing.
-pub fn tell<L: Sink>(lines: &mut L, fault: Fault, file: Option<Side>) -> u8
+pub fn report_fault<L: Sink>(lines: &mut L, fault: Fault, file: Option<Side>) -> u8
     requires { CanFail (L.calls lines.old) }
-    ensures told { TellsFault fault file result (over L.calls L.bytes_taken lines.old lines.new) }
+    ensures reported { ReportsFault fault file result (over L.calls L.bytes_taken lines.old lines.new) }
     ensures last { FlushesLast (L.calls lines.old) (L.calls lines.new) (L.unflushed lines.new) }
 {
     match write_line(lines, fault, file) {
@@ -133,9 +133,9 @@ pub fn tell<L: Sink>(lines: &mut L, fault: Fault, file: Option<Side>) -> u8
 
 /// Writes a line and flushes. Returns the exit status: `expected`, or 4 if a write or the flush fails. It
 /// allocates nothing.
-pub fn say<L: Sink>(lines: &mut L, line: &[u8], expected: u8) -> u8
+pub fn print_bytes<L: Sink>(lines: &mut L, line: &[u8], expected: u8) -> u8
     requires { CanFail (L.calls lines.old) }
-    ensures told { Tells expected line.now result (over L.calls L.bytes_taken lines.old lines.new) }
+    ensures reported { Reports expected line.now result (over L.calls L.bytes_taken lines.old lines.new) }
     ensures last { FlushesLast (L.calls lines.old) (L.calls lines.new) (L.unflushed lines.new) }
 {
     match write_whole(lines, line) {
@@ -157,7 +157,7 @@ fn is_ended(text: &[u8]) -> bool
 // Writes a text and a line feed, and flushes. Returns the exit status.
 fn print_line<L: Sink>(lines: &mut L, text: &str, expected: u8) -> u8
     requires { CanFail (L.calls lines.old) }
-    ensures told { Tells expected (text.now ++ end_of None) result (over L.calls L.bytes_taken lines.old lines.new) }
+    ensures reported { Reports expected (text.now ++ end_of None) result (over L.calls L.bytes_taken lines.old lines.new) }
     ensures last { FlushesLast (L.calls lines.old) (L.calls lines.new) (L.unflushed lines.new) }
 {
     match write_ended(lines, text.as_bytes(), None) {
@@ -168,13 +168,13 @@ fn print_line<L: Sink>(lines: &mut L, text: &str, expected: u8) -> u8
 
 /// Writes a text, adds a line feed if the text doesn't end in one, and flushes. Returns the exit status:
 /// `expected`, or 4 if a write or the flush fails. It allocates nothing.
-pub fn say_text<L: Sink>(lines: &mut L, text: &str, expected: u8) -> u8
+pub fn print_text<L: Sink>(lines: &mut L, text: &str, expected: u8) -> u8
     requires { CanFail (L.calls lines.old) }
-    ensures told { TellsWords expected text.now result (over L.calls L.bytes_taken lines.old lines.new) }
+    ensures reported { ReportsWords expected text.now result (over L.calls L.bytes_taken lines.old lines.new) }
     ensures last { FlushesLast (L.calls lines.old) (L.calls lines.new) (L.unflushed lines.new) }
 {
     if is_ended(text.as_bytes()) {
-        return say(lines, text.as_bytes(), expected);
+        return print_bytes(lines, text.as_bytes(), expected);
     }
     print_line(lines, text, expected)
 }

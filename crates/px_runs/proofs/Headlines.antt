@@ -6,27 +6,27 @@ use Rattle.px_engine.specs.declared.Fault.TheVariants.{Refused, NormalTooLong, O
 use Rattle.px_engine.specs.declared.Side.{Side}
 use Rattle.px_bytes.specs.Devices.{Device, no_calls}
 use Rattle.px_bytes.specs.Lacking.{Taken}
-use Rattle.px_jobs.specs.Lines.{Tells, TellsFault}
-use Rattle.px_jobs.specs.Laws.{FormsTell}
+use Rattle.px_jobs.specs.Lines.{Reports, ReportsFault}
+use Rattle.px_jobs.specs.Laws.{FormsDecide}
 use Rattle.px_jobs.specs.declared.Job.TheVariants as job
-use Rattle.px_runs.specs.Programs.{EndsBeside, EndsClosed, EndsForm, EndsJob, EndsMade, TellsClosed}
-use Rattle.px_runs.specs.Laws.{OutputsTell}
+use Rattle.px_runs.specs.Programs.{EndsBeside, EndsClosed, EndsForm, EndsJob, EndsMade, ReportsClosed}
+use Rattle.px_runs.specs.Laws.{OutputsDecide}
 
 -- status 0 is no other
-not_told : (n : ℕ) (line : List ℕ) (lines : Device) → 0 < n → Tells n line 0 lines → ⊥
-not_told n line lines p (inl t) = let e = t.0 in absurd (omega arith)
-not_told n line lines p (inr t) = let e = t.0 in absurd (omega arith)
+not_reported : (n : ℕ) (line : List ℕ) (lines : Device) → 0 < n → Reports n line 0 lines → ⊥
+not_reported n line lines p (inl t) = let e = t.0 in absurd (omega arith)
+not_reported n line lines p (inr t) = let e = t.0 in absurd (omega arith)
 
 -- no fault has status 0
-no_fault : (e : Fault) (file : Option Side) (lines : Device) → TellsFault e file 0 lines → ⊥
-no_fault (Refused cause place) file lines t = not_told _ _ lines (omega arith) t
-no_fault NormalTooLong file lines t = not_told _ _ lines (omega arith) t
-no_fault OutOfMemory file lines t = not_told _ _ lines (omega arith) t
-no_fault ReadFailed file lines t = not_told _ _ lines (omega arith) t
-no_fault WriteFailed file lines t = not_told _ _ lines (omega arith) t
+no_fault : (e : Fault) (file : Option Side) (lines : Device) → ReportsFault e file 0 lines → ⊥
+no_fault (Refused cause place) file lines t = not_reported _ _ lines (omega arith) t
+no_fault NormalTooLong file lines t = not_reported _ _ lines (omega arith) t
+no_fault OutOfMemory file lines t = not_reported _ _ lines (omega arith) t
+no_fault ReadFailed file lines t = not_reported _ _ lines (omega arith) t
+no_fault WriteFailed file lines t = not_reported _ _ lines (omega arith) t
 
 -- with status 0 the writer was closed, after a job with status 0
-closed_well : (closed : Result ⊤ Fault) (ended : ℕ) (lines : Device) → TellsClosed closed ended 0 lines → (closed ≡ Ok tt) × (ended ≡ 0)
+closed_well : (closed : Result ⊤ Fault) (ended : ℕ) (lines : Device) → ReportsClosed closed ended 0 lines → (closed ≡ Ok tt) × (ended ≡ 0)
 closed_well (Ok x) ended lines t = (refl, sym t.0)
 closed_well (Err e) zero lines t = absurd (no_fault e None lines (t.0 refl))
 closed_well (Err e) (suc n) lines t = let p = (t.1 (λ z. absurd (omega (arith, z)))).0 in absurd (omega (arith, p))
@@ -34,9 +34,9 @@ closed_well (Err e) (suc n) lines t = let p = (t.1 (λ z. absurd (omega (arith, 
 closed_job : (bytes : Option (List ℕ)) (closed : Result ⊤ Fault) (taken taken_now : Taken) (out lines : Device)
     → EndsClosed bytes closed taken taken_now 0 out lines
     → (text : Device) × (closed ≡ Ok tt) × EndsJob job.Normalise bytes taken taken_now 0 out text
-closed_job bytes closed taken taken_now out lines (ended, between, text, written, failed, told) =
+closed_job bytes closed taken taken_now out lines (ended, between, text, written, failed, reported) =
     let shown : Device = record { calls = lines.calls; calls_now = between; old = lines.old; new = text } in
-    let well = closed_well closed ended (record { calls = between; calls_now = lines.calls_now; old = text; new = lines.new }) told in
+    let well = closed_well closed ended (record { calls = between; calls_now = lines.calls_now; old = text; new = lines.new }) reported in
     (shown, well.0, subst (λ (n : ℕ). EndsJob job.Normalise bytes taken taken_now n out shown) well.1 written)
 
 module _ {F R W : Type 0} (remaining : R → Option (List ℕ)) (contents : W → Option (List ℕ))
@@ -48,7 +48,7 @@ module _ {F R W : Type 0} (remaining : R → Option (List ℕ)) (contents : W �
       → EndsMade remaining contents opens makes closes out reader opened files_now taken taken_now 0 lines
   was_made out reader opened files_now taken taken_now lines (inl x) = x
   was_made out reader opened files_now taken taken_now lines (inr (inl x)) = absurd (no_fault x.0 None lines x.2.1)
-  was_made out reader opened files_now taken taken_now lines (inr (inr x)) = absurd (not_told _ _ lines (omega arith) x.1)
+  was_made out reader opened files_now taken taken_now lines (inr (inr x)) = absurd (not_reported _ _ lines (omega arith) x.1)
 
   -- and FILE was opened
   was_opened : (file out : List ℕ) (files files_now : F) (taken taken_now : Taken) (lines : Device)
@@ -59,8 +59,8 @@ module _ {F R W : Type 0} (remaining : R → Option (List ℕ)) (contents : W �
   was_opened file out files files_now taken taken_now lines (inr x) =
       (x.0, x.1, x.2, was_made out x.1 x.0 files_now taken taken_now lines x.3)
 
-  pub outputs_tell : FormsTell → OutputsTell remaining contents opens makes closes
-  outputs_tell law f g file out other_file other_out files files_now other_files other_files_now taken taken_now other_taken other_taken_now
+  pub outputs_decide : FormsDecide → OutputsDecide remaining contents opens makes closes
+  outputs_decide law f g file out other_file other_out files files_now other_files other_files_now taken taken_now other_taken other_taken_now
       lines other_lines had other_had x y =
       let a = was_opened file out files files_now taken taken_now lines x in
       let b = was_opened other_file other_out other_files other_files_now other_taken other_taken_now other_lines y in

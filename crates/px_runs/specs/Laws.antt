@@ -22,8 +22,8 @@ module _ {F R W : Type 0} (remaining : R → Option (List ℕ)) (contents : W �
 
   -- After two runs of `normalise FILE OUT` with status 0, each OUT has received the normal form of its FILE, and the headline holds of
   -- the two forms.
-  abbrev pub OutputsTell : Type 0
-  OutputsTell = (f g file out other_file other_out : List ℕ) (files files_now other_files other_files_now : F)
+  abbrev pub OutputsDecide : Type 0
+  OutputsDecide = (f g file out other_file other_out : List ℕ) (files files_now other_files other_files_now : F)
       (taken taken_now other_taken other_taken_now : Taken) (lines other_lines : Device)
       → HasBytes files file f → HasBytes other_files other_file g
       → EndsForm remaining contents opens makes closes file out files files_now taken taken_now 0 lines
@@ -33,8 +33,8 @@ module _ {F R W : Type 0} (remaining : R → Option (List ℕ)) (contents : W �
 
   -- The same where the bytes of files are known: `has_file` are those of a file of a name, and `has_written` those of the file that was
   -- closed last.
-  abbrev pub KnownOutputsTell : (F → List ℕ → List ℕ → Type 0) → (F → List ℕ → Type 0) → Type 0
-  KnownOutputsTell has_file has_written = (f g file out other_file other_out : List ℕ) (files files_now other_files other_files_now : F)
+  abbrev pub KnownOutputsDecide : (F → List ℕ → List ℕ → Type 0) → (F → List ℕ → Type 0) → Type 0
+  KnownOutputsDecide has_file has_written = (f g file out other_file other_out : List ℕ) (files files_now other_files other_files_now : F)
       (taken taken_now other_taken other_taken_now : Taken) (lines other_lines : Device)
       → has_file files file f → has_file other_files other_file g
       → EndsForm remaining contents opens makes closes file out files files_now taken taken_now 0 lines

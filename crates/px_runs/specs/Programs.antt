@@ -12,7 +12,7 @@ use Rattle.px_words.specs.declared.Words.{Words}
 use Rattle.px_words.specs.declared.Words.TheVariants as words
 use Rattle.px_bytes.specs.Devices.{Calls, Device, no_calls}
 use Rattle.px_bytes.specs.Lacking.{Taken}
-use Rattle.px_jobs.specs.Lines.{TellsFault, TellsWords}
+use Rattle.px_jobs.specs.Lines.{ReportsFault, ReportsWords}
 use Rattle.px_jobs.specs.Endings.{Ends, EndsCompare, IsIdle}
 use Rattle.px_words.specs.Words.{out_is_file, AskedBy, LacksWords}
 use Rattle.px_runs.specs.declared.run.NoWords.{NoWords}
@@ -30,8 +30,8 @@ IsLacking expected e = (e ≡ OutOfMemory) ⊎ (e ≡ expected)
 
 -- A fault of opening or creating a file is reported, and nothing was requested. Here and below `taken` and `taken_now` are the numbers
 -- of the memory before and now.
-abbrev pub TellsLacking : Fault → Fault → Option Side → Taken → Taken → ℕ → Device → Type 0
-TellsLacking expected e file taken taken_now status lines = IsLacking expected e × TellsFault e file status lines × (taken_now ≡ taken)
+abbrev pub ReportsLacking : Fault → Fault → Option Side → Taken → Taken → ℕ → Device → Type 0
+ReportsLacking expected e file taken taken_now status lines = IsLacking expected e × ReportsFault e file status lines × (taken_now ≡ taken)
 
 -- A job was done with a reader of `bytes`, which had no failed call and no flush before, and with this writer of the normal form.
 abbrev pub EndsJob : Job → Option (List ℕ) → Taken → Taken → ℕ → Device → Device → Type 0
@@ -45,10 +45,10 @@ EndsPair bytes other taken taken_now status lines = (first second : Device) × (
 
 -- A file was closed after a job with this status: that is the status, and there is no more text. Or it can't be closed: that is
 -- reported as a failed write, unless the job has failed.
-abbrev pub TellsClosed : Result ⊤ Fault → ℕ → ℕ → Device → Type 0
-TellsClosed (Ok x) ended status lines = (status ≡ ended) × IsIdle lines
-TellsClosed (Err e) ended status lines =
-    (ended ≡ 0 → TellsFault e None status lines) × (ended ≢ 0 → (status ≡ ended) × IsIdle lines)
+abbrev pub ReportsClosed : Result ⊤ Fault → ℕ → ℕ → Device → Type 0
+ReportsClosed (Ok x) ended status lines = (status ≡ ended) × IsIdle lines
+ReportsClosed (Err e) ended status lines =
+    (ended ≡ 0 → ReportsFault e None status lines) × (ended ≢ 0 → (status ≡ ended) × IsIdle lines)
 
 -- A normal form was written, and then its writer was closed. `between` and `text` are the counts of the writer of lines, and the bytes
 -- that it had taken, when the job had ended.
@@ -57,12 +57,12 @@ EndsClosed bytes closed taken taken_now status out lines = (ended : ℕ) × (bet
     × EndsJob job.Normalise bytes taken taken_now ended out
     (record { calls = lines.calls; calls_now = between; old = lines.old; new = text })
     × IfErr closed (IsLacking WriteFailed)
-    × TellsClosed closed ended status (record { calls = between; calls_now = lines.calls_now; old = text; new = lines.new })
+    × ReportsClosed closed ended status (record { calls = between; calls_now = lines.calls_now; old = text; new = lines.new })
 
 -- the line and the status if the system gives no arguments
-abbrev pub TellsNoWords : NoWords → ℕ → Device → Type 0
-TellsNoWords no.OutOfMemory status lines = TellsFault OutOfMemory None status lines
-TellsNoWords no.NotText status lines = TellsWords 3 (codes "refused words: they are not text") status lines
+abbrev pub ReportsNoWords : NoWords → ℕ → Device → Type 0
+ReportsNoWords no.OutOfMemory status lines = ReportsFault OutOfMemory None status lines
+ReportsNoWords no.NotText status lines = ReportsWords 3 (codes "refused words: they are not text") status lines
 
 -- ---- what a run did to the files
 
@@ -76,7 +76,7 @@ module _ {F R W : Type 0} (remaining : R → Option (List ℕ)) (contents : W �
   -- the file can't be opened, which is reported
   abbrev pub EndsUnopened : List ℕ → Option Side → F → F → Taken → Taken → ℕ → Device → Type 0
   EndsUnopened name file files files_now taken taken_now status lines =
-      (e : Fault) × opens files name (Err e) files_now × TellsLacking ReadFailed e file taken taken_now status lines
+      (e : Fault) × opens files name (Err e) files_now × ReportsLacking ReadFailed e file taken taken_now status lines
 
   -- a job was done with the file; or it can't be opened
   abbrev pub EndsFile : Job → List ℕ → F → F → Taken → Taken → ℕ → Device → Device → Type 0
@@ -95,8 +95,8 @@ module _ {F R W : Type 0} (remaining : R → Option (List ℕ)) (contents : W �
   -- OUT can't be created, or is the open file: that is reported, and nothing was requested
   abbrev pub EndsUnmade : List ℕ → R → F → F → Taken → Taken → ℕ → Device → Type 0
   EndsUnmade out_name reader files files_now taken taken_now status lines =
-      ((e : Fault) × makes files out_name reader (Err e) files_now × TellsLacking WriteFailed e None taken taken_now status lines)
-      ⊎ (makes files out_name reader (Ok None) files_now × TellsWords 3 out_is_file status lines × (taken_now ≡ taken))
+      ((e : Fault) × makes files out_name reader (Err e) files_now × ReportsLacking WriteFailed e None taken taken_now status lines)
+      ⊎ (makes files out_name reader (Ok None) files_now × ReportsWords 3 out_is_file status lines × (taken_now ≡ taken))
 
   -- the normal form of an open file was written to OUT, or OUT can't be made
   abbrev pub EndsBeside : List ℕ → R → F → F → Taken → Taken → ℕ → Device → Type 0
@@ -136,16 +136,16 @@ module _ {F R W : Type 0} (remaining : R → Option (List ℕ)) (contents : W �
   EndsWords (words.Compare first second) files files_now taken taken_now status input out lines =
       IsIdle input × IsIdle out × EndsFiles first second files files_now taken taken_now status lines
   EndsWords (words.Help text) files files_now taken taken_now status input out lines =
-      (files_now ≡ files) × IsIdle input × IsIdle out × TellsWords 0 text status lines × (taken_now ≡ taken)
+      (files_now ≡ files) × IsIdle input × IsIdle out × ReportsWords 0 text status lines × (taken_now ≡ taken)
   EndsWords (words.Refused text) files files_now taken taken_now status input out lines =
-      (files_now ≡ files) × IsIdle input × IsIdle out × TellsWords 3 text status lines × (taken_now ≡ taken)
+      (files_now ≡ files) × IsIdle input × IsIdle out × ReportsWords 3 text status lines × (taken_now ≡ taken)
   EndsWords words.NoMemory files files_now taken taken_now status input out lines =
-      (files_now ≡ files) × IsIdle input × IsIdle out × TellsFault OutOfMemory None status lines × (taken_now ≡ taken)
+      (files_now ≡ files) × IsIdle input × IsIdle out × ReportsFault OutOfMemory None status lines × (taken_now ≡ taken)
   EndsWords words.Unread files files_now taken taken_now status input out lines =
-      (files_now ≡ files) × IsIdle input × IsIdle out × TellsFault OutOfMemory None status lines × (taken_now ≡ taken)
+      (files_now ≡ files) × IsIdle input × IsIdle out × ReportsFault OutOfMemory None status lines × (taken_now ≡ taken)
 
   -- The request of the arguments was done. `lacks` are the arguments over which clap ran out of memory, and `between` are the numbers
   -- of the memory after the arguments were parsed.
-  abbrev pub Answers : (List (List ℕ) → Type 0) → List (List ℕ) → F → F → Taken → Taken → ℕ → Device → Device → Device → Type 0
-  Answers lacks ws files files_now taken taken_now status input out lines = (asked : Words) × (between : Taken) × AskedBy lacks ws asked
+  abbrev pub DoesRequest : (List (List ℕ) → Type 0) → List (List ℕ) → F → F → Taken → Taken → ℕ → Device → Device → Device → Type 0
+  DoesRequest lacks ws files files_now taken taken_now status input out lines = (asked : Words) × (between : Taken) × AskedBy lacks ws asked
       × LacksWords asked taken between × EndsWords asked files files_now between taken_now status input out lines

@@ -2,14 +2,14 @@
 ghost use Rattle.std.specs.Prelude.{◌≡◌, drop, map, IfErr, IfOk};
 ghost use Rattle.px_jobs.specs.declared.Job.TheVariants.{Normalise};
 ghost use Rattle.px_jobs.specs.Endings.{Ends, IsIdle};
-ghost use Rattle.px_runs.specs.Programs.{job_of, Answers, EndsBeside, EndsFile, EndsFiles, EndsForm, EndsJob, EndsOther, EndsPair};
-ghost use Rattle.px_runs.specs.Programs.{EndsWords, TellsClosed, TellsNoWords};
+ghost use Rattle.px_runs.specs.Programs.{job_of, DoesRequest, EndsBeside, EndsFile, EndsFiles, EndsForm, EndsJob, EndsOther, EndsPair};
+ghost use Rattle.px_runs.specs.Programs.{EndsWords, ReportsClosed, ReportsNoWords};
 ghost use Rattle.px_bytes.specs.Devices.{CanFail, no_calls, over};
 
 use crate::opens::Opens;
 use px_bytes::{Memory, Sink, Source, Watched};
 use px_engine::{Fault, Side, VERSION};
-use px_jobs::{Job, run_compare_in, run_one_in, say_text, tell};
+use px_jobs::{Job, print_text, report_fault, run_compare_in, run_one_in};
 use px_words::{OUT_IS_FILE, One, Parser, Words, parse};
 use std::convert::AsStr;
 
@@ -49,20 +49,20 @@ pub fn run_given<S: AsStr + Drop, P: Parser, O: Opens, I: Source, W: Sink, L: Si
 ) -> u8
     requires reading { CanFail (I.calls streams.old.input) }
     requires writing { CanFail (W.calls streams.old.out) }
-    requires telling { CanFail (L.calls streams.old.lines) }
-    ensures given { IfOk given (λ all. Answers O.Reader.remaining O.Writer.contents O.opens O.makes O.closes
+    requires reporting { CanFail (L.calls streams.old.lines) }
+    ensures given { IfOk given (λ all. DoesRequest O.Reader.remaining O.Writer.contents O.opens O.makes O.closes
         (P.lacks parser.now) (map S.text (drop 1 all.items)) files.old files.new memory.old memory.new result
         (over I.calls I.bytes_left streams.old.input streams.new.input)
         (over W.calls W.bytes_taken streams.old.out streams.new.out)
         (over L.calls L.bytes_taken streams.old.lines streams.new.lines)) }
     ensures same { IfErr given (λ _. (files.new ≡ files.old) × (memory.new ≡ memory.old)
         × (streams.new.input ≡ streams.old.input) × (streams.new.out ≡ streams.old.out)) }
-    ensures told { IfErr given (λ why. TellsNoWords why result (over L.calls L.bytes_taken streams.old.lines streams.new.lines)) }
+    ensures reported { IfErr given (λ why. ReportsNoWords why result (over L.calls L.bytes_taken streams.old.lines streams.new.lines)) }
 {
     match given {
         Ok(all) => run_words(parser, files, memory, after_name(&all), streams),
-        Err(NoWords::OutOfMemory) => tell(&mut streams.lines, Fault::OutOfMemory, None),
-        Err(NoWords::NotText) => say_text(
+        Err(NoWords::OutOfMemory) => report_fault(&mut streams.lines, Fault::OutOfMemory, None),
+        Err(NoWords::NotText) => print_text(
             &mut streams.lines,
             "refused words: they are not text",
             3,
@@ -87,8 +87,8 @@ pub fn run_words<'a, S: AsStr, P: Parser, O: Opens, I: Source, W: Sink, L: Sink>
 ) -> u8
     requires reading { CanFail (I.calls streams.old.input) }
     requires writing { CanFail (W.calls streams.old.out) }
-    requires telling { CanFail (L.calls streams.old.lines) }
-    ensures { Answers O.Reader.remaining O.Writer.contents O.opens O.makes O.closes
+    requires reporting { CanFail (L.calls streams.old.lines) }
+    ensures { DoesRequest O.Reader.remaining O.Writer.contents O.opens O.makes O.closes
         (P.lacks parser.now) (map S.text words.entry.now) files.old files.new memory.old memory.new result
         (over I.calls I.bytes_left streams.old.input streams.new.input)
         (over W.calls W.bytes_taken streams.old.out streams.new.out)
@@ -107,7 +107,7 @@ fn run_asked<O: Opens, I: Source, W: Sink, L: Sink>(
 ) -> u8
     requires reading { CanFail (I.calls streams.old.input) }
     requires writing { CanFail (W.calls streams.old.out) }
-    requires telling { CanFail (L.calls streams.old.lines) }
+    requires reporting { CanFail (L.calls streams.old.lines) }
     ensures { EndsWords O.Reader.remaining O.Writer.contents O.opens O.makes O.closes asked
         files.old files.new memory.old memory.new result (over I.calls I.bytes_left streams.old.input streams.new.input)
         (over W.calls W.bytes_taken streams.old.out streams.new.out)
@@ -134,9 +134,13 @@ fn run_asked<O: Opens, I: Source, W: Sink, L: Sink>(
                 &mut streams.lines,
             )
         }
-        Words::Help(text) => say_text(&mut streams.lines, text.as_str(), 0),
-        Words::Refused(text) => say_text(&mut streams.lines, text.as_str(), 3),
-        Words::NoMemory | Words::Unread => tell(&mut streams.lines, Fault::OutOfMemory, None),
+        Words::Help(text) => print_text(&mut streams.lines, text.as_str(), 0),
+        Words::Refused(text) => print_text(&mut streams.lines, text.as_str(), 3),
+        Words::NoMemory | Words::Unread => report_fault(
+            &mut streams.lines,
+            Fault::OutOfMemory,
+            None,
+        ),
     }
 }
 
@@ -161,7 +165,7 @@ fn run_job<F: Source + Drop, W: Sink, L: Sink>(
 ) -> u8
     requires reading { F.calls reader ≡ no_calls }
     requires writing { CanFail (W.calls out.old) }
-    requires telling { CanFail (L.calls lines.old) }
+    requires reporting { CanFail (L.calls lines.old) }
     ensures { EndsJob job (F.bytes_left reader) memory.old memory.new result
         (over W.calls W.bytes_taken out.old out.new) (over L.calls L.bytes_taken lines.old lines.new) }
 {
@@ -177,7 +181,7 @@ fn run_pair<F: Source + Drop, S: Source + Drop, L: Sink>(
 ) -> u8
     requires first { F.calls first ≡ no_calls }
     requires second { S.calls second ≡ no_calls }
-    requires telling { CanFail (L.calls lines.old) }
+    requires reporting { CanFail (L.calls lines.old) }
     ensures { EndsPair (F.bytes_left first) (S.bytes_left second)
         memory.old memory.new result (over L.calls L.bytes_taken lines.old lines.new) }
 {
@@ -191,7 +195,7 @@ fn run_filter<I: Source, W: Sink, L: Sink>(
 ) -> u8
     requires reading { CanFail (I.calls streams.old.input) }
     requires writing { CanFail (W.calls streams.old.out) }
-    requires telling { CanFail (L.calls streams.old.lines) }
+    requires reporting { CanFail (L.calls streams.old.lines) }
     ensures { Ends Normalise (over I.calls I.bytes_left streams.old.input streams.new.input)
         (over W.calls W.bytes_taken streams.old.out streams.new.out)
         (over L.calls L.bytes_taken streams.old.lines streams.new.lines) memory.old memory.new result }
@@ -214,7 +218,7 @@ fn run_file<O: Opens, I: Source, W: Sink, L: Sink>(
     streams: &mut Streams<I, W, L>,
 ) -> u8
     requires writing { CanFail (W.calls streams.old.out) }
-    requires telling { CanFail (L.calls streams.old.lines) }
+    requires reporting { CanFail (L.calls streams.old.lines) }
     ensures input { IsIdle (over I.calls I.bytes_left streams.old.input streams.new.input) }
     ensures ends { EndsFile O.Reader.remaining O.Writer.contents O.opens O.makes O.closes (job_of what) name.now
         files.old files.new memory.old memory.new result (over W.calls W.bytes_taken streams.old.out streams.new.out)
@@ -231,15 +235,15 @@ fn run_file<O: Opens, I: Source, W: Sink, L: Sink>(
                 &mut streams.lines,
             )
         }
-        Err(fault) => tell(&mut streams.lines, fault, None),
+        Err(fault) => report_fault(&mut streams.lines, fault, None),
     }
 }
 
 // Reports that a file can't be closed, unless the job that wrote it has failed, with this status. Returns the status
 // of the run.
-fn tell_closed<L: Sink>(closed: Result<(), Fault>, status: u8, lines: &mut L) -> u8
+fn report_closed<L: Sink>(closed: Result<(), Fault>, status: u8, lines: &mut L) -> u8
     requires { status ≡ 0 → CanFail (L.calls lines.old) }
-    ensures { TellsClosed closed status result (over L.calls L.bytes_taken lines.old lines.new) }
+    ensures { ReportsClosed closed status result (over L.calls L.bytes_taken lines.old lines.new) }
 {
     match closed {
         Ok(()) => status,
@@ -247,7 +251,7 @@ fn tell_closed<L: Sink>(closed: Result<(), Fault>, status: u8, lines: &mut L) ->
             if status != 0 {
                 return status;
             }
-            tell(lines, fault, None)
+            report_fault(lines, fault, None)
         }
     }
 }
@@ -269,10 +273,10 @@ fn run_beside<O: Opens, L: Sink>(
             let mut out = Watched::new(out);
             let status = run_job(memory, Job::Normalise, Watched::new(file), &mut out, lines);
             let closed = files.close(out.into_inner());
-            tell_closed(closed, status, lines)
+            report_closed(closed, status, lines)
         }
-        Ok(None) => say_text(lines, OUT_IS_FILE, 3),
-        Err(fault) => tell(lines, fault, None),
+        Ok(None) => print_text(lines, OUT_IS_FILE, 3),
+        Err(fault) => report_fault(lines, fault, None),
     }
 }
 
@@ -290,7 +294,7 @@ fn run_form<O: Opens, L: Sink>(
 {
     match files.open(name) {
         Ok(file) => run_beside(files, memory, file, out_name, lines),
-        Err(fault) => tell(lines, fault, None),
+        Err(fault) => report_fault(lines, fault, None),
     }
 }
 
@@ -308,7 +312,7 @@ fn run_other<O: Opens, L: Sink>(
 {
     match files.open(name) {
         Ok(other) => run_pair(memory, Watched::new(file), Watched::new(other), lines),
-        Err(fault) => tell(lines, fault, Some(Side::Second)),
+        Err(fault) => report_fault(lines, fault, Some(Side::Second)),
     }
 }
 
@@ -326,6 +330,6 @@ fn run_files<O: Opens, L: Sink>(
 {
     match files.open(first) {
         Ok(file) => run_other(files, memory, file, second, lines),
-        Err(fault) => tell(lines, fault, Some(Side::First)),
+        Err(fault) => report_fault(lines, fault, Some(Side::First)),
     }
 }

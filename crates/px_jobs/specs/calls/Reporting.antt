@@ -3,14 +3,14 @@ use Rattle.std.specs.Prelude.{◌≡◌, ◌≢◌, ◌⊎◌, ℕ, None, Result
 use Rattle.px_engine.specs.declared.Fault.{Fault}
 use Rattle.px_engine.specs.declared.Fault.TheVariants.{WriteFailed}
 use Rattle.px_bytes.specs.Devices.{Device}
-use Rattle.px_jobs.specs.Lines.{TellsFault}
+use Rattle.px_jobs.specs.Lines.{ReportsFault}
 use Rattle.px_jobs.specs.Endings.{IsIdle}
 
 -- after a failed write of a text nothing is written; any other fault came before the text and has its status and line
-abbrev pub TellsBehind : Fault → ℕ → Device → Type 0
-TellsBehind e status lines = ((e ≡ WriteFailed) × (status ≡ 4) × IsIdle lines) ⊎ ((e ≢ WriteFailed) × TellsFault e None status lines)
+abbrev pub ReportsAfter : Fault → ℕ → Device → Type 0
+ReportsAfter e status lines = ((e ≡ WriteFailed) × (status ≡ 4) × IsIdle lines) ⊎ ((e ≢ WriteFailed) × ReportsFault e None status lines)
 
 -- after a text
-abbrev pub TellsPrinted : {A : Type 0} → Result A Fault → ℕ → Device → Type 0
-TellsPrinted (Ok x) status lines = (status ≡ 0) × IsIdle lines
-TellsPrinted (Err e) status lines = TellsBehind e status lines
+abbrev pub ReportsPrinted : {A : Type 0} → Result A Fault → ℕ → Device → Type 0
+ReportsPrinted (Ok x) status lines = (status ≡ 0) × IsIdle lines
+ReportsPrinted (Err e) status lines = ReportsAfter e status lines

@@ -2,8 +2,8 @@ use Rattle.std.proofs.Common.{refl}
 use Rattle.px_jobs.proofs.LineLaws.{idle_last}
 use Rattle.px_jobs.proofs.job.report_printed.Goals as goal
 
-pub returns-in-Err-clause-told : goal.returns-in-Err-clause-told
-returns-in-Err-clause-told g c = rw c.in-Err.is c.report_text_fault.ensures.told
+pub returns-in-Err-clause-reported : goal.returns-in-Err-clause-reported
+returns-in-Err-clause-reported g c = rw c.in-Err.is c.report_text_fault.ensures.reported
 
 pub report_text_fault-requires : goal.report_text_fault-requires
 report_text_fault-requires g c = c.requires c.in-Err.fault c.in-Err.is

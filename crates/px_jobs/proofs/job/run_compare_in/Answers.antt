@@ -14,5 +14,5 @@ returns-clause-ends g c = (
     leaves_second g.S.Device.calls g.S.Source.bytes_left c.compare_in.result c.args.second.now c.compare_in.new.second
         c.compare_in.ensures.untouched,
   ),
-  c.report_compared.ensures.told,
+  c.report_compared.ensures.reported,
 )

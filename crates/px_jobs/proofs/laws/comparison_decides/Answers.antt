@@ -1,5 +1,5 @@
-use Rattle.px_jobs.proofs.Headlines as told
-use Rattle.px_jobs.proofs.laws.comparison_tells.Goals as goal
+use Rattle.px_jobs.proofs.Headlines as reported
+use Rattle.px_jobs.proofs.laws.comparison_decides.Goals as goal
 
 pub returns : goal.returns
-returns c = told.comparison_tells c.comparing_tells.ensures
+returns c = reported.comparison_decides c.comparing_tells.ensures

@@ -1,5 +1,5 @@
-use Rattle.px_jobs.proofs.Headlines as told
-use Rattle.px_jobs.proofs.laws.forms_tell.Goals as goal
+use Rattle.px_jobs.proofs.Headlines as reported
+use Rattle.px_jobs.proofs.laws.forms_decide.Goals as goal
 
 pub returns : goal.returns
-returns c = told.forms_tell c.runs_tell.ensures
+returns c = reported.forms_decide c.runs_tell.ensures
