@@ -12,7 +12,7 @@ ghost use Rattle.px_meaning.specs.calls.Seen.{thumb_of};
 ghost use Rattle.px_plans.specs.calls.Building.{AreInside, PutsOver, at_places, contents_in, value_pieces, dir_pieces};
 ghost use Rattle.px_plans.specs.calls.Building.{IsPiece, piece_bytes, pieces_size};
 ghost use Rattle.px_layout.specs.calls.Items.{item_of, entry_of, IsCounted};
-ghost use Rattle.px_plans.specs.calls.Layouts.{said_plan, said_meaning, header_in, table_in};
+ghost use Rattle.px_plans.specs.calls.Layouts.{plan_of_layout, meaning_of_layout, header_in, table_in};
 ghost use Rattle.px_layout.specs.Laid.{all_strip_contents, jpeg_contents, strip_contents, thumb_contents, header, laid};
 ghost use Rattle.px_layout.specs.Plans.{Legal, place};
 
@@ -134,11 +134,11 @@ fn lay_parts(block: &mut [u8], layout: &Layout, thumb: &Thumb)
 
 // Writes the thumbnail's bytes.
 fn lay_thumb(block: &mut [u8], layout: &Layout)
-    requires fits { Fits (said_meaning layout.now) }
-    requires legal { Legal (said_meaning layout.now) (said_plan layout.now) }
-    requires len { length block.old ≡ (said_plan layout.now).length }
+    requires fits { Fits (meaning_of_layout layout.now) }
+    requires legal { Legal (meaning_of_layout layout.now) (plan_of_layout layout.now) }
+    requires len { length block.old ≡ (plan_of_layout layout.now).length }
     ensures len { length block.new ≡ length block.old }
-    ensures bytes { PutsOver block.old block.new (at_places layout.now (thumb_contents (said_meaning layout.now).thumb)) }
+    ensures bytes { PutsOver block.old block.new (at_places layout.now (thumb_contents (meaning_of_layout layout.now).thumb)) }
 {
     match &layout.m.thumb {
         Some(thumb) => lay_parts(block, layout, thumb),
@@ -206,13 +206,14 @@ fn lay_table(
     entries: &Entries,
 ) -> Result<(), Refused>
     requires few { length entries.now < 2 ^ 16 }
-    requires inside { place (said_plan layout.now) (Chunk.Table dir) + length (table_in layout.now dir entries.now) ≤ length block.old }
+    requires inside { place (plan_of_layout layout.now) (Chunk.Table dir) + length (table_in layout.now dir entries.now)
+        ≤ length block.old }
     ensures memory { Lacks result memory.old memory.new }
     ensures asked { AsksAtMost (6 * length (table_in layout.now dir entries.now) + 131072) memory.old memory.new }
     ensures paid { OnOk result (AsksAtMost (6 * length (table_in layout.now dir entries.now)) memory.old memory.new) }
     ensures len { length block.new ≡ length block.old }
     ensures bytes { OnOk result (PutsOver block.old block.new
-        ((place (said_plan layout.now) (Chunk.Table dir), table_in layout.now dir entries.now) ∷ [])) }
+        ((place (plan_of_layout layout.now) (Chunk.Table dir), table_in layout.now dir entries.now) ∷ [])) }
 {
     let bytes = bytes_of(memory, layout, Piece::Table(dir, entries))?;
     put_at(block, place_of(layout.plan, Chunk::Table(dir)), &bytes);
@@ -229,7 +230,7 @@ fn lay_entries(
 ) -> Result<(), Refused>
     requires few { length entries.now < 2 ^ 16 }
     requires values { AreInside (length block.old) (value_pieces layout.now dir entries.now) }
-    requires table { place (said_plan layout.now) (Chunk.Table dir) + length (table_in layout.now dir entries.now) ≤ length block.old }
+    requires table { place (plan_of_layout layout.now) (Chunk.Table dir) + length (table_in layout.now dir entries.now) ≤ length block.old }
     ensures memory { Lacks result memory.old memory.new }
     ensures asked { AsksAtMost
         (6 * (length (table_in layout.now dir entries.now) + pieces_size (value_pieces layout.now dir entries.now)) + 131072)
@@ -239,7 +240,8 @@ fn lay_entries(
         memory.old memory.new) }
     ensures len { length block.new ≡ length block.old }
     ensures bytes { OnOk result (PutsOver block.old block.new
-        ((place (said_plan layout.now) (Chunk.Table dir), table_in layout.now dir entries.now) ∷ value_pieces layout.now dir entries.now)) }
+        ((place (plan_of_layout layout.now) (Chunk.Table dir), table_in layout.now dir entries.now)
+        ∷ value_pieces layout.now dir entries.now)) }
 {
     lay_values(memory, block, layout, dir, entries)?;
     lay_table(memory, block, layout, dir, entries)
@@ -247,16 +249,16 @@ fn lay_entries(
 
 // Writes a directory if the meaning has it.
 fn lay_dir(memory: &mut Memory, block: &mut [u8], layout: &Layout, dir: Dir) -> Result<(), Refused>
-    requires fits { Fits (said_meaning layout.now) }
-    requires legal { Legal (said_meaning layout.now) (said_plan layout.now) }
-    requires len { length block.old ≡ (said_plan layout.now).length }
+    requires fits { Fits (meaning_of_layout layout.now) }
+    requires legal { Legal (meaning_of_layout layout.now) (plan_of_layout layout.now) }
+    requires len { length block.old ≡ (plan_of_layout layout.now).length }
     ensures memory { Lacks result memory.old memory.new }
-    ensures asked { AsksAtMost (6 * pieces_size (dir_pieces layout.now (said_meaning layout.now) dir) + 131072)
+    ensures asked { AsksAtMost (6 * pieces_size (dir_pieces layout.now (meaning_of_layout layout.now) dir) + 131072)
         memory.old memory.new }
-    ensures paid { OnOk result (AsksAtMost (6 * pieces_size (dir_pieces layout.now (said_meaning layout.now) dir))
+    ensures paid { OnOk result (AsksAtMost (6 * pieces_size (dir_pieces layout.now (meaning_of_layout layout.now) dir))
         memory.old memory.new) }
     ensures len { length block.new ≡ length block.old }
-    ensures bytes { OnOk result (PutsOver block.old block.new (dir_pieces layout.now (said_meaning layout.now) dir)) }
+    ensures bytes { OnOk result (PutsOver block.old block.new (dir_pieces layout.now (meaning_of_layout layout.now) dir)) }
 {
     match entries_in(layout.m, dir) {
         Some(entries) => lay_entries(memory, block, layout, dir, &entries),
@@ -266,9 +268,9 @@ fn lay_dir(memory: &mut Memory, block: &mut [u8], layout: &Layout, dir: Dir) -> 
 
 // Writes all directories, the last first.
 fn lay_dirs(memory: &mut Memory, block: &mut [u8], layout: &Layout) -> Result<(), Refused>
-    requires fits { Fits (said_meaning layout.now) }
-    requires legal { Legal (said_meaning layout.now) (said_plan layout.now) }
-    requires len { length block.old ≡ (said_plan layout.now).length }
+    requires fits { Fits (meaning_of_layout layout.now) }
+    requires legal { Legal (meaning_of_layout layout.now) (plan_of_layout layout.now) }
+    requires len { length block.old ≡ (plan_of_layout layout.now).length }
     ensures memory { Lacks result memory.old memory.new }
     ensures asked { AsksAtMost (6 * pieces_size (at_places layout.now (flat_map (contents_in layout.now) dirs)) + 131072)
         memory.old memory.new }
@@ -299,14 +301,15 @@ fn lay_header(memory: &mut Memory, block: &mut [u8], layout: &Layout) -> Result<
 
 // Writes the whole block over filler bytes.
 pub(crate) fn lay_all(memory: &mut Memory, block: &mut [u8], layout: &Layout) -> Result<(), Refused>
-    requires fits { Fits (said_meaning layout.now) }
-    requires legal { Legal (said_meaning layout.now) (said_plan layout.now) }
-    requires len { length block.old ≡ (said_plan layout.now).length }
-    requires bare { block.old ≡ replicate (said_plan layout.now).length layout.now.filler }
+    requires fits { Fits (meaning_of_layout layout.now) }
+    requires legal { Legal (meaning_of_layout layout.now) (plan_of_layout layout.now) }
+    requires len { length block.old ≡ (plan_of_layout layout.now).length }
+    requires bare { block.old ≡ replicate (plan_of_layout layout.now).length layout.now.filler }
     ensures memory { Lacks result memory.old memory.new }
-    ensures asked { AsksAtMost (6 * (said_plan layout.now).length + 131072) memory.old memory.new }
+    ensures asked { AsksAtMost (6 * (plan_of_layout layout.now).length + 131072) memory.old memory.new }
     ensures len { length block.new ≡ length block.old }
-    ensures bytes { OnOk result (block.new ≡ laid (said_meaning layout.now) (said_plan layout.now) layout.now.order layout.now.filler) }
+    ensures bytes { OnOk result (block.new ≡ laid (meaning_of_layout layout.now)
+        (plan_of_layout layout.now) layout.now.order layout.now.filler) }
 {
     lay_thumb(block, layout);
     lay_dirs(memory, block, layout)?;

@@ -10,7 +10,7 @@ ghost use Rattle.px_plans.specs.calls.Planned.{plan_of};
 ghost use Rattle.px_layout.specs.Chunks.{chunks};
 ghost use Rattle.px_layout.specs.Plans.{place, Legal};
 ghost use Rattle.px_plans.specs.Asking.{legal_request};
-ghost use Rattle.px_plans.specs.calls.Judging.{stands, all_stand};
+ghost use Rattle.px_plans.specs.calls.Judging.{is_placed, all_placed};
 
 use crate::plan::Plan;
 use crate::sizing::chunk_sizes;
@@ -24,17 +24,17 @@ use std::alloc::{AllocError, Global};
 fn claim(
     memory: &mut Memory,
     plan: &Plan,
-    held: &mut Ranges,
+    claimed: &mut Ranges,
     chunk: Chunk,
     size: u64,
 ) -> Result<bool, Refused>
     requires { (plan_of plan.now).length ≤ limit }
     ensures memory { Lacks result memory.old memory.new }
-    ensures free { (taken : List Range) → Agrees taken held.old.ranges →
-        IfOk result (λ free. (free ≡ stands (plan_of plan.now) taken (chunk, size))
-        × (free ≡ true → Agrees (range (place (plan_of plan.now) chunk) size ∷ taken) held.new.ranges)) }
-    ensures room { held.old.room ≤ held.new.room }
-    ensures fits { (plan_of plan.now).length ≤ held.old.room → memory.new.asked ≡ memory.old.asked }
+    ensures free { (taken : List Range) → Agrees taken claimed.old.ranges →
+        IfOk result (λ free. (free ≡ is_placed (plan_of plan.now) taken (chunk, size))
+        × (free ≡ true → Agrees (range (place (plan_of plan.now) chunk) size ∷ taken) claimed.new.ranges)) }
+    ensures room { claimed.old.room ≤ claimed.new.room }
+    ensures fits { (plan_of plan.now).length ≤ claimed.old.room → memory.new.asked ≡ memory.old.asked }
 {
     let Some(offset) = plan.offset(chunk) else {
         return Ok(false);
@@ -46,25 +46,25 @@ fn claim(
     if u64::from(offset) + size > len {
         return Ok(false);
     }
-    held.add_in(memory, offset, size as u32)
+    claimed.add_in(memory, offset, size as u32)
 }
 
 // The same for all chunks.
 fn claim_all(
     memory: &mut Memory,
     plan: &Plan,
-    held: &mut Ranges,
+    claimed: &mut Ranges,
     chunks: &[(Chunk, u64)],
 ) -> Result<bool, Refused>
     requires { (plan_of plan.now).length ≤ limit }
     ensures memory { Lacks result memory.old memory.new }
-    ensures free { (taken : List Range) → Agrees taken held.old.ranges →
-        IfOk result (λ free. free ≡ all_stand (plan_of plan.now) taken chunks.now) }
-    ensures fits { (plan_of plan.now).length ≤ held.old.room → memory.new.asked ≡ memory.old.asked }
+    ensures free { (taken : List Range) → Agrees taken claimed.old.ranges →
+        IfOk result (λ free. free ≡ all_placed (plan_of plan.now) taken chunks.now) }
+    ensures fits { (plan_of plan.now).length ≤ claimed.old.room → memory.new.asked ≡ memory.old.asked }
 {
     for i in 0..chunks.len() {
         let (chunk, size) = chunks[i];
-        if !claim(memory, plan, held, chunk, size)? {
+        if !claim(memory, plan, claimed, chunk, size)? {
             return Ok(false);
         }
     }
@@ -76,12 +76,12 @@ fn claim_all(
 fn are_apart(memory: &mut Memory, plan: &Plan, chunks: &[(Chunk, u64)]) -> Result<bool, Refused>
     requires { (plan_of plan.now).length ≤ limit }
     ensures memory { Lacks result memory.old memory.new }
-    ensures free { IfOk result (λ free. free ≡ all_stand (plan_of plan.now) (range 0 8 ∷ []) chunks.now) }
+    ensures free { IfOk result (λ free. free ≡ all_placed (plan_of plan.now) (range 0 8 ∷ []) chunks.now) }
     ensures asked { 8 ≤ (plan_of plan.now).length → AsksAtMost (mark_bytes (plan_of plan.now).length) memory.old memory.new }
 {
-    let mut held = Ranges::with_room_in(memory, plan.len())?;
-    held.add_in(memory, 0, 8)?;
-    claim_all(memory, plan, &mut held, chunks)
+    let mut claimed = Ranges::with_room_in(memory, plan.len())?;
+    claimed.add_in(memory, 0, 8)?;
+    claim_all(memory, plan, &mut claimed, chunks)
 }
 
 /// Like `is_legal_in`, with memory of its own.

@@ -8,7 +8,7 @@ ghost use Rattle.px_meaning.specs.calls.Seen.{meaning_of};
 ghost use Rattle.px_layout.specs.Chunks.{chunks};
 ghost use Rattle.px_plans.specs.Asking.{place_request, plan_request};
 ghost use Rattle.px_plans.specs.calls.Planned.{plan_of, bare, paid_of};
-ghost use Rattle.px_plans.specs.calls.PlanningNormal.{AnswersNext, AnswersAll, AnswersPlan};
+ghost use Rattle.px_plans.specs.calls.PlanningNormal.{NextResult, AllResult, PlanResult};
 
 use crate::plan::Plan;
 use crate::sizing::chunk_sizes;
@@ -26,7 +26,7 @@ fn place_next(
     size: u64,
 ) -> Result<u32, WriteRefusal>
     requires { at ≤ limit }
-    ensures next { AnswersNext result (plan_of plan.old) (plan_of plan.new) at (chunk, size) }
+    ensures next { NextResult result (plan_of plan.old) (plan_of plan.new) at (chunk, size) }
     ensures memory { LacksWrite result memory.old memory.new }
     ensures asked { memory.new.asked ≤ memory.old.asked + paid_of plan.old + place_request 1 }
     ensures paid { OnOk result (memory.new.asked + paid_of plan.new ≤ memory.old.asked + paid_of plan.old + place_request 1) }
@@ -45,7 +45,7 @@ fn place_all(
     chunks: &[(Chunk, u64)],
 ) -> Result<u32, WriteRefusal>
     requires { plan_of plan.old ≡ bare 8 }
-    ensures all { AnswersAll result (plan_of plan.new) chunks.now }
+    ensures all { AllResult result (plan_of plan.new) chunks.now }
     ensures memory { LacksWrite result memory.old memory.new }
     ensures asked { memory.new.asked ≤ memory.old.asked + paid_of plan.old + place_request (length chunks.now) }
 {
@@ -60,7 +60,7 @@ fn place_all(
 /// Like `plan_normal_in`, with memory of its own.
 pub fn plan_normal(alloc: Global, m: &Meaning) -> Result<Plan, WriteRefusal>
     requires { Fits (meaning_of m.now) }
-    ensures { AnswersPlan result (meaning_of m.now) }
+    ensures { PlanResult result (meaning_of m.now) }
 {
     plan_normal_in(&mut Memory::new(alloc), m)
 }
@@ -73,7 +73,7 @@ pub fn plan_normal(alloc: Global, m: &Meaning) -> Result<Plan, WriteRefusal>
 /// than `LIMIT`. `OutOfMemory`: an allocation failed.
 pub fn plan_normal_in(memory: &mut Memory, m: &Meaning) -> Result<Plan, WriteRefusal>
     requires { Fits (meaning_of m.now) }
-    ensures plan { AnswersPlan result (meaning_of m.now) }
+    ensures plan { PlanResult result (meaning_of m.now) }
     ensures memory { LacksWrite result memory.old memory.new }
     ensures asked { AsksAtMost (plan_request (length (chunks (meaning_of m.now)))) memory.old memory.new }
 {

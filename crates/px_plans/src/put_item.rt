@@ -5,7 +5,7 @@ ghost use Rattle.px_bytes.specs.Devices.{CanFail};
 ghost use Rattle.px_bytes.specs.Parts.{limit};
 ghost use Rattle.px_bytes.specs.Waiting.{AddsTo};
 ghost use Rattle.px_layout.specs.calls.Items.{item_of, entry_of, IsCounted};
-ghost use Rattle.px_plans.specs.calls.Layouts.{said_plan, item_in, last_in, entry_in};
+ghost use Rattle.px_plans.specs.calls.Layouts.{plan_of_layout, item_in, last_in, entry_in};
 ghost use Rattle.px_layout.specs.Laid.{long_bytes, item_bytes, last_bytes};
 ghost use Rattle.px_plans.specs.calls.Planned.{plan_of};
 ghost use Rattle.px_layout.specs.Plans.{place};
@@ -35,7 +35,7 @@ pub(crate) fn put_place<W: Sink>(
 ) -> Result<(), Failed>
     requires { CanFail (W.calls writer.old) }
     ensures { AddsTo W.calls W.bytes_taken result writer.old writer.new pending.old pending.new
-        (long_bytes layout.now.order (place (said_plan layout.now) chunk)) }
+        (long_bytes layout.now.order (place (plan_of_layout layout.now) chunk)) }
 {
     put_long(pending, writer, layout.order, place_of(layout.plan, chunk))
 }
@@ -49,7 +49,7 @@ fn put_strip_offsets<W: Sink>(
 ) -> Result<(), Failed>
     requires { CanFail (W.calls writer.old) }
     ensures { AddsTo W.calls W.bytes_taken result writer.old writer.new pending.old pending.new (flat_map
-        (λ i. long_bytes layout.now.order (place (said_plan layout.now) (Chunk.Strip i))) (range_with_len 0 count)) }
+        (λ i. long_bytes layout.now.order (place (plan_of_layout layout.now) (Chunk.Strip i))) (range_with_len 0 count)) }
 {
     for i in 0..count {
         put_place(pending, writer, layout, Chunk::Strip(i))?;

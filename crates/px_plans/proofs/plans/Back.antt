@@ -16,15 +16,15 @@ use Rattle.px_meaning.specs.declared.Meaning.{Meaning as Read}
 use Rattle.px_meaning.specs.calls.Seen.{meaning_of}
 use Rattle.px_meaning.specs.lemmas.MeaningLaws.{one_meaning}
 
-said_reads_back : (r : Result Read Refusal) (b : List ℕ) (m : Meaning) (old new : ℕ) → SaysExif b m
+meaning_reads_back : (r : Result Read Refusal) (b : List ℕ) (m : Meaning) (old new : ℕ) → SaysExif b m
     → IfOk r (λ x. SaysExif b (meaning_of x))
     → IfErr r (IsRefused b new) → LacksBlockBy r old new → ReadsBack meaning_of r m old new
-said_reads_back (Ok x) b m old new s h k l = (one_meaning b (meaning_of x) m h s, l)
-said_reads_back (Err OutOfMemory) b m old new s h k l = l
-said_reads_back (Err (Content cause place)) b m old new s h k l = absurd (k.unsaid m s)
+meaning_reads_back (Ok x) b m old new s h k l = (one_meaning b (meaning_of x) m h s, l)
+meaning_reads_back (Err OutOfMemory) b m old new s h k l = l
+meaning_reads_back (Err (Content cause place)) b m old new s h k l = absurd (k.unsaid m s)
 
 pub reads_back : (r : Result Read Refusal) (b : List ℕ) (old new : ℕ) → IfOk r (λ x. SaysExif b (meaning_of x)) → IfErr r (IsRefused b new)
     → LacksBlockBy r old new → (m : Meaning) (plan : Plan) (o : Order) (filler : ℕ) → Fits m → Legal m plan → b ≡ laid m plan o filler
     → ReadsBack meaning_of r m old new
 reads_back r b old new h k l m plan o filler f g e =
-    said_reads_back r b m old new (subst (λ z. SaysExif z m) (sym e) (legal_says m plan o filler f g)) h k l
+    meaning_reads_back r b m old new (subst (λ z. SaysExif z m) (sym e) (legal_says m plan o filler f g)) h k l

@@ -7,16 +7,16 @@ use Rattle.std.proofs.lemmas.List.{drop_all}
 use Rattle.px_bytes.specs.Range.{Range, range, is_free, Agrees}
 use Rattle.px_layout.specs.declared.chunks.Chunk.{Chunk}
 use Rattle.px_layout.specs.Plans.{Plan, place}
-use Rattle.px_plans.specs.calls.Judging.{stands, all_stand}
+use Rattle.px_plans.specs.calls.Judging.{is_placed, all_placed}
 
 module _ (plan : Plan) where
   -- some ranges are claimed, and the chunks xs are legal with them exactly if b
   abbrev pub Left : List (Chunk × ℕ) → List (ℕ × ℕ) → Bool → Type 0
-  Left xs held b = (now : List Range) × Agrees now held × (all_stand plan now xs ≡ b)
+  Left xs claimed b = (now : List Range) × Agrees now claimed × (all_placed plan now xs ≡ b)
 
   -- the result of one call: whether the chunk is legal, and what is claimed then
   abbrev pub Holds : Bool → Chunk × ℕ → List Range → List (ℕ × ℕ) → Type 0
-  Holds b c taken new = (b ≡ stands plan taken c) × (b ≡ true → Agrees (range (place plan c.0) c.1 ∷ taken) new)
+  Holds b c taken new = (b ≡ is_placed plan taken c) × (b ≡ true → Agrees (range (place plan c.0) c.1 ∷ taken) new)
 
   -- ---- one chunk
 
@@ -61,8 +61,8 @@ module _ (plan : Plan) where
       let g = f w.0 w.1 in (
         range (place plan c.0) c.1 ∷ w.0,
         g.1 t,
-        ap (λ a. a && all_stand plan (range (place plan c.0) c.1 ∷ w.0) (drop (i + 1) cs)) (sym t ∙ g.0)
-            ∙ sym (ap (all_stand plan w.0) (here cs i c d l e)) ∙ w.2,
+        ap (λ a. a && all_placed plan (range (place plan c.0) c.1 ∷ w.0) (drop (i + 1) cs)) (sym t ∙ g.0)
+            ∙ sym (ap (all_placed plan w.0) (here cs i c d l e)) ∙ w.2,
       )
 
   -- the next chunk isn't legal
@@ -70,9 +70,9 @@ module _ (plan : Plan) where
       → c ≡ get_or cs i d
       → free ≡ false → ((taken : List Range) → Agrees taken old → Holds free c taken new) → Left (drop i cs) old b → false ≡ b
   left_stop cs i c d old new b free l e t f w =
-      ap (λ a. a && all_stand plan (range (place plan c.0) c.1 ∷ w.0) (drop (i + 1) cs)) (sym t ∙ (f w.0 w.1).0)
-      ∙ sym (ap (all_stand plan w.0) (here cs i c d l e)) ∙ w.2
+      ap (λ a. a && all_placed plan (range (place plan c.0) c.1 ∷ w.0) (drop (i + 1) cs)) (sym t ∙ (f w.0 w.1).0)
+      ∙ sym (ap (all_placed plan w.0) (here cs i c d l e)) ∙ w.2
 
   -- no chunk is left
-  pub left_done : (cs : List (Chunk × ℕ)) (i : ℕ) (held : List (ℕ × ℕ)) (b : Bool) → length cs ≤ i → Left (drop i cs) held b → true ≡ b
-  left_done cs i held b l w = sym (ap (all_stand plan w.0) (drop_all i cs l)) ∙ w.2
+  pub left_done : (cs : List (Chunk × ℕ)) (i : ℕ) (claimed : List (ℕ × ℕ)) (b : Bool) → length cs ≤ i → Left (drop i cs) claimed b → true ≡ b
+  left_done cs i claimed b l w = sym (ap (all_placed plan w.0) (drop_all i cs l)) ∙ w.2

@@ -18,7 +18,7 @@ use Rattle.px_layout.specs.Plans.{Plan, Legal}
 use Rattle.px_layout.specs.Normal.{even, running, padded_size, normal_plan, normal_exif}
 use Rattle.px_layout.specs.lemmas.LineLaws.{same_chunk_true, length_normal, legal_in_line}
 use Rattle.px_plans.specs.calls.Planned.{with_chunk, with_length}
-use Rattle.px_plans.specs.calls.PlanningNormal.{Placed, AnswersNext, AnswersAll, AnswersPlan}
+use Rattle.px_plans.specs.calls.PlanningNormal.{Placed, NextResult, AllResult, PlanResult}
 
 abbrev or_else : Option ℕ → Option ℕ → Option ℕ
 or_else None y = y
@@ -100,7 +100,7 @@ placed_planned m f p q end h e =
 
 -- if the chunk at i doesn't fit any more, they are too long
 pub placed_stopped : (e : WriteRefusal) (old new : Plan) (x i : ℕ) (cs : List (Chunk × ℕ)) (c d : Chunk × ℕ) → Placed old x (take i cs)
-    → i < length cs → c ≡ get_or cs i d → AnswersNext (Err e) old new x c → AnswersAll (Err e) new cs
+    → i < length cs → c ≡ get_or cs i d → NextResult (Err e) old new x c → AllResult (Err e) new cs
 placed_stopped NormalTooLong old new x i cs c d p l q h =
     let f = part_fits cs i (get_or cs i d) (slice_get-get_or cs i d l) in
     let s = ap (λ (z : Chunk × ℕ). even z.1) q in
@@ -109,7 +109,7 @@ placed_stopped OutOfMemory old new x i cs c d p l q h = tt
 placed_stopped WriteFailed old new x i cs c d p l q h = h
 
 pub plan_refused : (m : Meaning) → Fits m → (e : WriteRefusal) (plan : Plan) (cs : List (Chunk × ℕ)) → cs ≡ chunks m
-    → AnswersAll (Err e) plan cs → AnswersPlan (Err e) m
+    → AllResult (Err e) plan cs → PlanResult (Err e) m
 unfolding normal_plan
 plan_refused m f NormalTooLong plan cs s h =
     let n : length (normal_exif m) ≡ (normal_plan m).length = length_normal m f in

@@ -22,12 +22,12 @@ use Rattle.px_layout.specs.lemmas.StandLaws.{piece_range}
 use Rattle.px_layout.specs.lemmas.EntryLaws.{Good, good_items, few_items}
 use Rattle.px_layout.specs.lemmas.SizeLaws.{ranges_are}
 use Rattle.px_plans.specs.calls.Building.{made, AreInside, PutsOver, at_places, value_pieces, dir_pieces}
-use Rattle.px_plans.specs.calls.Layouts.{said_plan, said_meaning, table_in}
+use Rattle.px_plans.specs.calls.Layouts.{plan_of_layout, meaning_of_layout, table_in}
 use Rattle.px_plans.proofs.plans.Built.{puts_none, puts_more, none_made, drop_get}
 
 module _ (l : Layout) where
   abbrev P : Plan
-  P = said_plan l
+  P = plan_of_layout l
 
   abbrev o : Order
   o = l.order
@@ -235,18 +235,18 @@ pub parts_over : (l : Layout) (a b c : List ℕ) (t : Thumbnail) → length b �
     → PutsOver a c (at_places l (thumb_contents (Some t)))
 unfolding thumb_contents
 parts_over l a b c t n p q =
-    subst (PutsOver a c) (sym (map-append (λ c. (place (said_plan l) c.0, c.1)) (jpeg_contents t.jpeg) (all_strip_contents t.strips)))
+    subst (PutsOver a c) (sym (map-append (λ c. (place (plan_of_layout l) c.0, c.1)) (jpeg_contents t.jpeg) (all_strip_contents t.strips)))
     (puts_more a b c _ _ n p q)
 
 module _ (l : Layout) (a b : List ℕ) where
   -- one such value
-  module _ (d : Dir) (x : ℕ × Item) (big : 4 < item_size x.1) (at : ℕ) (y : List ℕ) (here : at ≡ place (said_plan l) (Placed d x.0))
-      (is : y ≡ item_bytes (said_plan l) l.order l.filler x.1) where
+  module _ (d : Dir) (x : ℕ × Item) (big : 4 < item_size x.1) (at : ℕ) (y : List ℕ) (here : at ≡ place (plan_of_layout l) (Placed d x.0))
+      (is : y ≡ item_bytes (plan_of_layout l) l.order l.filler x.1) where
     pub value_over : PutsOver a b ((at, y) ∷ []) → PutsOver a b (value_pieces l d (x ∷ []))
     value_over p = subst (PutsOver a b) (ap₂ (λ n z. (n, z) ∷ []) here is ∙ sym (value_placed l d x big)) p
 
-    pub value_room : AreInside (length a) (value_pieces l d (x ∷ [])) → at + length y ≤ length a
-    value_room h = (subst (AreInside (length a)) (sym (ap₂ (λ n z. (n, z) ∷ []) here is ∙ sym (value_placed l d x big))) h).0
+    pub value_space : AreInside (length a) (value_pieces l d (x ∷ [])) → at + length y ≤ length a
+    value_space h = (subst (AreInside (length a)) (sym (ap₂ (λ n z. (n, z) ∷ []) here is ∙ sym (value_placed l d x big))) h).0
 
   pub value_none : (d : Dir) (x : ℕ × Item) → item_size x.1 ≤ 4 → PutsOver a a (value_pieces l d (x ∷ []))
   value_none d x h = subst (PutsOver a a) (sym (value_here l d x h)) (puts_none a)
@@ -265,11 +265,11 @@ on_ok (Err e) P Q f p = p
 
 -- a directory's table, written over its values
 pub entries_over : (l : Layout) (d : Dir) (xs : List (ℕ × Item)) (a b c : List ℕ) → length b ≡ length a
-    → PutsOver a b (value_pieces l d xs) → PutsOver b c ((place (said_plan l) (Table d), table_in l d xs) ∷ [])
-    → PutsOver a c ((place (said_plan l) (Table d), table_in l d xs) ∷ value_pieces l d xs)
+    → PutsOver a b (value_pieces l d xs) → PutsOver b c ((place (plan_of_layout l) (Table d), table_in l d xs) ∷ [])
+    → PutsOver a c ((place (plan_of_layout l) (Table d), table_in l d xs) ∷ value_pieces l d xs)
 entries_over l d xs a b c n p q =
-    puts_more a b c ((place (said_plan l) (Table d), table_in l d xs) ∷ []) (value_pieces l d xs) n p q
+    puts_more a b c ((place (plan_of_layout l) (Table d), table_in l d xs) ∷ []) (value_pieces l d xs) n p q
 
-pub dir_over : (l : Layout) (d : Dir) (xs : List (ℕ × Item)) (a b : List ℕ) → items (said_meaning l) d ≡ Some xs
-    → PutsOver a b ((place (said_plan l) (Table d), table_in l d xs) ∷ value_pieces l d xs) → PutsOver a b (dir_pieces l (said_meaning l) d)
-dir_over l d xs a b e p = subst (PutsOver a b) (sym (dir_some l (said_meaning l) d xs e)) p
+pub dir_over : (l : Layout) (d : Dir) (xs : List (ℕ × Item)) (a b : List ℕ) → items (meaning_of_layout l) d ≡ Some xs
+    → PutsOver a b ((place (plan_of_layout l) (Table d), table_in l d xs) ∷ value_pieces l d xs) → PutsOver a b (dir_pieces l (meaning_of_layout l) d)
+dir_over l d xs a b e p = subst (PutsOver a b) (sym (dir_some l (meaning_of_layout l) d xs e)) p

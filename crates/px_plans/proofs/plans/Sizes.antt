@@ -14,7 +14,7 @@ use Rattle.px_layout.specs.lemmas.StandLaws.{piece_range}
 use Rattle.px_layout.specs.lemmas.SizeLaws.{ranges_are}
 use Rattle.px_plans.specs.declared.layout.Layout.{Layout}
 use Rattle.px_plans.specs.calls.Building.{at_places, value_pieces, dir_pieces, pieces_size}
-use Rattle.px_plans.specs.calls.Layouts.{said_plan}
+use Rattle.px_plans.specs.calls.Layouts.{plan_of_layout}
 use Rattle.px_plans.proofs.plans.Built.{drop_get}
 use Rattle.px_plans.proofs.plans.Pieces.{values_cons, value_placed, dir_some, dirs_cons, pieces_split}
 
@@ -28,7 +28,7 @@ size_ranges (x ∷ xs) = let e = size_ranges xs in omega arith
 
 module _ (l : Layout) where
   abbrev P : Plan
-  P = said_plan l
+  P = plan_of_layout l
 
   -- ---- values that have an offset
 

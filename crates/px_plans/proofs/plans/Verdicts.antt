@@ -18,7 +18,7 @@ use Rattle.px_layout.specs.Plans.{Plan, place, plan_ranges, Legal}
 use Rattle.px_layout.specs.lemmas.RankLaws.{rank, chunks_rise}
 use Rattle.px_layout.specs.lemmas.LineLaws.{same_chunk_true, same_chunk_self, other_chunk}
 use Rattle.px_plans.specs.calls.Counted.{IsCount}
-use Rattle.px_plans.specs.calls.Judging.{stands, all_stand}
+use Rattle.px_plans.specs.calls.Judging.{is_placed, all_placed}
 
 abbrev names : List (Chunk × ℕ) → List Chunk
 names cs = map (λ c. c.0) cs
@@ -99,20 +99,20 @@ module _ (plan : Plan) where
   before taken x (r ∷ rs) a h =
       (and_from (not (shares r x)) (is_free taken r) (test_from_apart r x (turned x r a.0)) h.0, before taken x rs a.1 h.1)
 
-  standing : (taken : List Range) (cs : List (Chunk × ℕ)) → all_stand plan taken cs ≡ true → Standing taken cs
+  standing : (taken : List Range) (cs : List (Chunk × ℕ)) → all_placed plan taken cs ≡ true → Standing taken cs
   standing taken [] h = record { there = tt; inside = tt; free = tt; apart = tt }
   standing taken (c ∷ cs) h =
-      let p = and_parts (stands plan taken c) (all_stand plan (at c ∷ taken) cs) h in
+      let p = and_parts (is_placed plan taken c) (all_placed plan (at c ∷ taken) cs) h in
       let q = and_parts (is_some (plan.offset c.0) && nat_le (place plan c.0 + c.1) plan.length) (is_free taken (at c)) p.0 in
       let r = and_parts (is_some (plan.offset c.0)) (nat_le (place plan c.0 + c.1) plan.length) q.0 in
       let s = standing (at c ∷ taken) cs p.1 in
       let t = behind taken (at c) (map at cs) s.free in
       record { there = (r.0, s.there); inside = (leb-true _ _ r.1, s.inside); free = (q.1, t.1); apart = (t.0, s.apart) }
 
-  stood : (taken : List Range) (cs : List (Chunk × ℕ)) → Standing taken cs → all_stand plan taken cs ≡ true
+  stood : (taken : List Range) (cs : List (Chunk × ℕ)) → Standing taken cs → all_placed plan taken cs ≡ true
   stood taken [] s = refl
   stood taken (c ∷ cs) s =
-      and_from (stands plan taken c) (all_stand plan (at c ∷ taken) cs)
+      and_from (is_placed plan taken c) (all_placed plan (at c ∷ taken) cs)
       (and_from (is_some (plan.offset c.0) && nat_le (place plan c.0 + c.1) plan.length) (is_free taken (at c))
       (and_from (is_some (plan.offset c.0)) (nat_le (place plan c.0 + c.1) plan.length) s.there.0 (le-leb _ _ s.inside.0)) s.free.0)
       (stood (at c ∷ taken) cs (record {
@@ -139,7 +139,7 @@ module _ (m : Meaning) (f : Fits m) (plan : Plan) (n : ℕ) (count : IsCount n p
   distinct_all = ranks_distinct (chunks m) (chunks_rise m f)
 
   -- a chunk that has an offset is one of those
-  pub plan_judged : 8 ≤ plan.length → plan.length ≤ limit → n ≡ length (chunks m) → all_stand plan (range 0 8 ∷ []) (chunks m) ≡ true
+  pub plan_judged : 8 ≤ plan.length → plan.length ≤ limit → n ≡ length (chunks m) → all_placed plan (range 0 8 ∷ []) (chunks m) ≡ true
       → Legal m plan
   unfolding plan_ranges
   plan_judged least most same h =
@@ -173,9 +173,9 @@ module _ (m : Meaning) (f : Fits m) (plan : Plan) (n : ℕ) (count : IsCount n p
       let many = count.most all (λ c p. let w = (l.exactly c).0 p in list_any_at c all w.0 w.1 w.2) in
       let k = length_all in omega arith
 
-  pub legal_stand : Legal m plan → all_stand plan (range 0 8 ∷ []) (chunks m) ≡ true
+  pub legal_placed : Legal m plan → all_placed plan (range 0 8 ∷ []) (chunks m) ≡ true
   unfolding plan_ranges
-  legal_stand l = stood plan (range 0 8 ∷ []) (chunks m) (record {
+  legal_placed l = stood plan (range 0 8 ∷ []) (chunks m) (record {
     there = each_there plan all all (λ c h. (l.exactly c).1 (list_any_contains c all h));
     inside = l.inside.1;
     free = before plan [] (range 0 8) (map (at plan) (chunks m)) l.apart.0 (all_free plan (map (at plan) (chunks m)));
@@ -184,12 +184,12 @@ module _ (m : Meaning) (f : Fits m) (plan : Plan) (n : ℕ) (count : IsCount n p
 
   -- the verdict
   pub plan_verdict : (b : Bool) → 8 ≤ plan.length → plan.length ≤ limit → n ≡ length (chunks m)
-      → b ≡ all_stand plan (range 0 8 ∷ []) (chunks m)
+      → b ≡ all_placed plan (range 0 8 ∷ []) (chunks m)
       → (b ≡ true) ↔ Legal m plan
-  plan_verdict b least most same e = ((λ h. plan_judged least most same (sym e ∙ h)), (λ l. e ∙ legal_stand l))
+  plan_verdict b least most same e = ((λ h. plan_judged least most same (sym e ∙ h)), (λ l. e ∙ legal_placed l))
 
   pub plan_verdicts : {E : Type 0} (r : Result Bool E) (cs : List (Chunk × ℕ)) → 8 ≤ plan.length → plan.length ≤ limit → n ≡ length cs
-      → cs ≡ chunks m → IfOk r (λ b. b ≡ all_stand plan (range 0 8 ∷ []) cs) → IfOk r (λ b. IsTrue b ↔ Legal m plan)
+      → cs ≡ chunks m → IfOk r (λ b. b ≡ all_placed plan (range 0 8 ∷ []) cs) → IfOk r (λ b. IsTrue b ↔ Legal m plan)
   plan_verdicts (Ok b) cs least most same is h =
-      plan_verdict b least most (same ∙ ap (λ xs. length xs) is) (h ∙ ap (all_stand plan (range 0 8 ∷ [])) is)
+      plan_verdict b least most (same ∙ ap (λ xs. length xs) is) (h ∙ ap (all_placed plan (range 0 8 ∷ [])) is)
   plan_verdicts (Err e) cs least most same is h = h

@@ -10,7 +10,7 @@ use Rattle.px_plans.specs.declared.building.Piece.{Piece}
 use Rattle.px_plans.specs.declared.building.Piece.TheVariants.{Header, Table, Value}
 use Rattle.px_layout.specs.calls.Items.{item_of, IsCounted}
 use Rattle.px_layout.specs.Plans.{place}
-use Rattle.px_plans.specs.calls.Layouts.{said_plan, said_meaning, header_in, item_in, table_in}
+use Rattle.px_plans.specs.calls.Layouts.{plan_of_layout, meaning_of_layout, header_in, item_in, table_in}
 use Rattle.px_layout.specs.Laid.{placed_content, contents_of_dir, byte_at}
 
 -- the block of n bytes that pieces make
@@ -44,16 +44,16 @@ IsPiece (Value x) = IsCounted (item_of x)
 
 -- chunks with their offsets
 abbrev pub at_places : Layout → List (Chunk × List ℕ) → List (ℕ × List ℕ)
-at_places l cs = map (λ c. (place (said_plan l) c.0, c.1)) cs
+at_places l cs = map (λ c. (place (plan_of_layout l) c.0, c.1)) cs
 
 -- the values of entries that have an offset
 abbrev pub value_pieces : Layout → Dir → List (ℕ × Item) → List (ℕ × List ℕ)
-value_pieces l d xs = at_places l (filter_map (placed_content (said_plan l) l.order l.filler d) xs)
+value_pieces l d xs = at_places l (filter_map (placed_content (plan_of_layout l) l.order l.filler d) xs)
 
 -- the chunks of a directory, if the meaning has it
 abbrev pub contents_in : Layout → Dir → List (Chunk × List ℕ)
-contents_in l d = contents_of_dir (said_plan l) l.order l.filler (said_meaning l) d (items (said_meaning l) d)
+contents_in l d = contents_of_dir (plan_of_layout l) l.order l.filler (meaning_of_layout l) d (items (meaning_of_layout l) d)
 
 -- a directory's table and its values that have an offset
 abbrev pub dir_pieces : Layout → Meaning → Dir → List (ℕ × List ℕ)
-dir_pieces l m d = at_places l (contents_of_dir (said_plan l) l.order l.filler m d (items m d))
+dir_pieces l m d = at_places l (contents_of_dir (plan_of_layout l) l.order l.filler m d (items m d))

@@ -9,28 +9,28 @@ use Rattle.px_layout.specs.Laid.{header, item_bytes, last_bytes, entry_bytes, ne
 use Rattle.px_layout.specs.Plans.{Plan}
 use Rattle.px_plans.specs.calls.Planned.{plan_of}
 
-abbrev pub said_plan : Layout → Plan
-said_plan l = plan_of l.plan.now
+abbrev pub plan_of_layout : Layout → Plan
+plan_of_layout l = plan_of l.plan.now
 
-abbrev pub said_meaning : Layout → Meaning
-said_meaning l = meaning_of l.m.now
+abbrev pub meaning_of_layout : Layout → Meaning
+meaning_of_layout l = meaning_of l.m.now
 
 -- ---- the bytes of its parts
 
 abbrev pub header_in : Layout → List ℕ
-header_in l = header (said_plan l) l.order l.filler
+header_in l = header (plan_of_layout l) l.order l.filler
 
 abbrev pub item_in : Layout → Item → List ℕ
-item_in l x = item_bytes (said_plan l) l.order l.filler x
+item_in l x = item_bytes (plan_of_layout l) l.order l.filler x
 
 abbrev pub last_in : Layout → Dir → ℕ × Item → List ℕ
-last_in l d i = last_bytes (said_plan l) l.order l.filler d i
+last_in l d i = last_bytes (plan_of_layout l) l.order l.filler d i
 
 abbrev pub entry_in : Layout → Dir → ℕ × Item → List ℕ
-entry_in l d i = entry_bytes (said_plan l) l.order l.filler d i
+entry_in l d i = entry_bytes (plan_of_layout l) l.order l.filler d i
 
 abbrev pub next_in : Layout → Dir → List ℕ
-next_in l d = next_bytes (said_plan l) l.order l.filler (said_meaning l) d
+next_in l d = next_bytes (plan_of_layout l) l.order l.filler (meaning_of_layout l) d
 
 abbrev pub table_in : Layout → Dir → List (ℕ × Item) → List ℕ
-table_in l d xs = table_bytes (said_plan l) l.order l.filler (said_meaning l) d xs
+table_in l d xs = table_bytes (plan_of_layout l) l.order l.filler (meaning_of_layout l) d xs

@@ -1,5 +1,5 @@
 use Rattle.std.proofs.Common.{ℕ, List, length, ◌∙◌, ap, refl, arith}
-use Rattle.px_plans.specs.calls.Layouts.{said_plan}
+use Rattle.px_plans.specs.calls.Layouts.{plan_of_layout}
 use Rattle.px_layout.specs.lemmas.SizeLaws.{length_header}
 use Rattle.px_plans.proofs.plans.Pieces.{one_as}
 use Rattle.px_plans.proofs.building.lay_header.Goals as goal
@@ -7,7 +7,7 @@ use Rattle.px_plans.proofs.building.lay_header.Goals as goal
 pub put_at-requires : goal.put_at-requires
 put_at-requires c =
     let n = ap (λ (x : List ℕ). length x) (c.deref.ensures.value ∙ c.in_ok-bytes.ensures.bytes) in
-    let h = length_header (said_plan c.args.layout.now) c.args.layout.now.order c.args.layout.now.filler in
+    let h = length_header (plan_of_layout c.args.layout.now) c.args.layout.now.order c.args.layout.now.filler in
     let r = c.requires in
     omega arith
 

@@ -1,7 +1,7 @@
 use Rattle.std.proofs.Common.{◌<◌, sym, ◌∙◌, arith, ltb-true, ltb-false}
 use Rattle.px_meaning.specs.Fits.{item_size}
 use Rattle.px_layout.specs.calls.Items.{entry_of}
-use Rattle.px_plans.proofs.plans.Pieces.{value_none, value_over, value_room}
+use Rattle.px_plans.proofs.plans.Pieces.{value_none, value_over, value_space}
 use Rattle.px_plans.proofs.plans.Sizes.{size_placed}
 use Rattle.px_plans.proofs.building.lay_value.Goals as goal
 
@@ -12,7 +12,7 @@ returns-then-not-needs_place-clause-bytes c =
 
 pub put_at-requires : goal.put_at-requires
 put_at-requires c =
-    value_room c.args.layout.now c.args.block.now c.args.block.now c.args.dir (entry_of c.args.entry.now)
+    value_space c.args.layout.now c.args.block.now c.args.block.now c.args.dir (entry_of c.args.entry.now)
     (let s = c.size.ensures in let t = ltb-true 4 _ (sym c.needs_place.ensures ∙ c.if-not-needs_place.false) in omega arith)
     c.place_of-at.result c.deref.result.now c.place_of-at.ensures (c.deref.ensures.value ∙ c.in_ok-bytes.ensures.bytes) c.requires.inside
 

@@ -5,5 +5,5 @@ use Rattle.px_plans.proofs.legal.are_apart.Goals as goal
 
 pub returns-clause-free : goal.returns-clause-free
 returns-clause-free c =
-    let listed = c.in_ok-add_in.ensures.listed [] (agrees_none _ c.in_ok-held.ensures.none) in
+    let listed = c.in_ok-add_in.ensures.listed [] (agrees_none _ c.in_ok-claimed.ensures.none) in
     c.claim_all.ensures.free (range 0 8 ∷ []) (listed.1 listed.0)

@@ -3,7 +3,7 @@ use Rattle.std.proofs.lemmas.Result.{err_from_is_err_and}
 use Rattle.px_meaning.specs.declared.Dir.TheVariants.{Main}
 use Rattle.px_layout.specs.declared.chunks.Chunk.TheVariants.{Table}
 use Rattle.px_plans.specs.calls.Planned.{plan_of}
-use Rattle.px_plans.specs.calls.Judging.{all_stand}
+use Rattle.px_plans.specs.calls.Judging.{all_placed}
 use Rattle.px_plans.proofs.plans.Holding.{left_more, left_stop, left_done}
 use Rattle.px_plans.proofs.legal.claim_all.Goals as goal
 
@@ -17,14 +17,14 @@ returns-in_err-claim-clause-free c =
 pub returns-then-not-branch-clause-free : goal.returns-then-not-branch-clause-free
 returns-then-not-branch-clause-free c = λ taken a.
     left_stop (plan_of c.args.plan.now) c.args.chunks.now c.loop-i.i (get_or c.args.chunks.now c.loop-i.i (Table Main, 0)) (Table Main, 0)
-    c.loop-i.held.ranges c.claim.new.held.ranges (all_stand (plan_of c.args.plan.now) taken c.args.chunks.now) c.in_ok-claim.field-0
+    c.loop-i.claimed.ranges c.claim.new.claimed.ranges (all_placed (plan_of c.args.plan.now) taken c.args.chunks.now) c.in_ok-claim.field-0
     c.loop-i-test.true refl c.if-not-branch.true c.in_ok-claim.ensures.free (c.loop-i.invariant.left taken a)
 
 pub loop-i-preserved : goal.loop-i-preserved
 loop-i-preserved c = record {
   left = λ taken a.
       left_more (plan_of c.args.plan.now) c.args.chunks.now c.loop-i.i (get_or c.args.chunks.now c.loop-i.i (Table Main, 0)) (Table Main, 0)
-      c.loop-i.held.ranges c.claim.new.held.ranges (all_stand (plan_of c.args.plan.now) taken c.args.chunks.now) c.in_ok-claim.field-0
+      c.loop-i.claimed.ranges c.claim.new.claimed.ranges (all_placed (plan_of c.args.plan.now) taken c.args.chunks.now) c.in_ok-claim.field-0
       c.loop-i-test.true refl c.if-not-branch.false c.in_ok-claim.ensures.free (c.loop-i.invariant.left taken a);
   memory = c.in_ok-claim.ensures.memory ∙ c.loop-i.invariant.memory;
   room = omega (arith, c.loop-i.invariant.room, c.in_ok-claim.ensures.room);
@@ -33,8 +33,8 @@ loop-i-preserved c = record {
 
 pub returns-clause-free : goal.returns-clause-free
 returns-clause-free c = λ taken a.
-    left_done (plan_of c.args.plan.now) c.args.chunks.now c.loop-i.i c.loop-i.held.ranges
-    (all_stand (plan_of c.args.plan.now) taken c.args.chunks.now)
+    left_done (plan_of c.args.plan.now) c.args.chunks.now c.loop-i.i c.loop-i.claimed.ranges
+    (all_placed (plan_of c.args.plan.now) taken c.args.chunks.now)
     c.loop-i-test.false (c.loop-i.invariant.left taken a)
 
 pub returns-in_err-claim-clause-fits : goal.returns-in_err-claim-clause-fits

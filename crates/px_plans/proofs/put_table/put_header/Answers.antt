@@ -1,6 +1,6 @@
 use Rattle.std.proofs.Common.{refl, rules}
 use Rattle.std.proofs.lemmas.Result.{err_from_is_err_and}
-use Rattle.px_plans.specs.calls.Layouts.{said_plan}
+use Rattle.px_plans.specs.calls.Layouts.{plan_of_layout}
 use Rattle.px_layout.specs.lemmas.PutLaws.{both_as, first_as}
 use Rattle.px_layout.specs.lemmas.EntryBytes.{header_as}
 use Rattle.px_plans.proofs.put_table.put_header.Goals as goal
@@ -10,7 +10,7 @@ returns-in_err-put g c =
     let p = err_from_is_err_and c.from_residual.result c.from_residual.ensures.1 in
     rw p.1 (
       first_as g.W.Sink.bytes_taken _ _ c.args.pending.now _ _ _
-          (header_as (said_plan c.args.layout.now) c.args.layout.now.order c.args.layout.now.filler c.magic_of.result _
+          (header_as (plan_of_layout c.args.layout.now) c.args.layout.now.order c.args.layout.now.filler c.magic_of.result _
           c.magic_of.ensures refl)
           (c.in_err-put.ensures.bytes, c.in_err-put.ensures.waits),
       search rules,
@@ -19,7 +19,7 @@ returns-in_err-put g c =
 pub returns : goal.returns
 returns g c = (
   both_as g.W.Sink.bytes_taken c.put_place.result _ _ _ c.args.pending.now c.put.new.self c.put_place.new.pending _ _ _
-      (header_as (said_plan c.args.layout.now) c.args.layout.now.order c.args.layout.now.filler c.magic_of.result _ c.magic_of.ensures refl)
+      (header_as (plan_of_layout c.args.layout.now) c.args.layout.now.order c.args.layout.now.filler c.magic_of.result _ c.magic_of.ensures refl)
       (c.in_ok-put.ensures.bytes, c.in_ok-put.ensures.waits) c.put_place.ensures.0,
   search rules,
 )
