@@ -15,12 +15,6 @@ class Coded(Word):
 
     sentence: str  # of `compare`, which prints the damage of a damaged one
 
-    def __new__(cls, word: str, sentence: str = "") -> "Coded":
-        coded = str.__new__(cls, word)
-        coded._value_ = word
-        coded.sentence = sentence
-        return coded
-
     @property
     def is_damaged(self) -> bool:
         """Whether a file is damaged."""

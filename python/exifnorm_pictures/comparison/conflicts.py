@@ -18,12 +18,6 @@ class ConflictKind(Word):
 
     text: str  # of the summary of `conflicts`
 
-    def __new__(cls, word: str, text: str = "") -> "ConflictKind":
-        kind = str.__new__(cls, word)
-        kind._value_ = word
-        kind.text = text
-        return kind
-
     ALIKE = ("alike",)
     ORDER = ("another order", "a list in another order")
     EMPTY = ("empty", "an empty field")

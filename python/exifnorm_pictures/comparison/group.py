@@ -19,12 +19,6 @@ class Basis(Word):
     is_later: bool  # whether a group joins pictures of earlier groups, and has one of each
     has_reasons: bool  # whether a block of some pictures is refused
 
-    def __new__(cls, word: str, is_later: bool = False, has_reasons: bool = False) -> "Basis":
-        basis = str.__new__(cls, word)
-        basis._value_ = word
-        basis.is_later, basis.has_reasons = is_later, has_reasons
-        return basis
-
     MEANING = ("meaning",)
     FIELDS = ("fields",)  # the meaning but for the fields left out, by the listing of fields, which is tested and not proved
     BYTES = ("bytes", False, True)

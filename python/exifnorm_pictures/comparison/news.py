@@ -28,12 +28,6 @@ class Kind(Word):
 
     is_open: bool  # whether something can't be decided tonight that could be at the last whole night
 
-    def __new__(cls, word: str, is_open: bool = False) -> "Kind":
-        kind = str.__new__(cls, word)
-        kind._value_ = word
-        kind.is_open = is_open
-        return kind
-
     ABSENT = ("folder not there", True)
     CLOSED = ("folder not readable", True)
     LOST = ("text lost",)

@@ -20,12 +20,6 @@ class NotKnown(Word):
 
     text: str  # for people
 
-    def __new__(cls, word: str, text: str) -> "NotKnown":
-        reason = str.__new__(cls, word)
-        reason._value_ = word
-        reason.text = text
-        return reason
-
     NOT_LOOKED_AT = ("not looked at", "with --no-look ExifTool isn't asked")
     NO_EXIFTOOL = ("no ExifTool", "ExifTool isn't installed (Debian: libimage-exiftool-perl)")
     LOST = ("gone or changed", "the file is gone or has changed")

@@ -23,12 +23,6 @@ class State(Word):
     text: str  # of how many it is true
     is_good: Optional[bool]  # whether its picture is as it was; None: nobody knows
 
-    def __new__(cls, word: str, text: str, is_good: Optional[bool]) -> "State":
-        state = str.__new__(cls, word)
-        state._value_ = word
-        state.text, state.is_good = text, is_good
-        return state
-
     AS_IT_WAS = ("as they were", "files as they were", True)
     CAPTIONED = ("captioned", "captioned: other metadata, the same picture", True)
     AGAIN = ("written again", "written again: the same metadata, the same picture", True)

@@ -27,12 +27,6 @@ class Problem(Word):
     follows: Follows
     program: str  # which solves it, once it is installed
 
-    def __new__(cls, word: str, text: str, counted: str, follows: Follows, program: str = "") -> "Problem":
-        problem = str.__new__(cls, word)
-        problem._value_ = word
-        problem.text, problem.counted, problem.follows, problem.program = text, counted, follows, program
-        return problem
-
     NO_PICTURE = ("NoPicture", "the file is no picture that ExifTool knows", "no picture", Follows.NOTHING)
     UNREADABLE = ("Unreadable", "the file can't be read", "not readable", Follows.NO_BYTES | Follows.FAILED | Follows.AGAIN)
     VANISHED = (

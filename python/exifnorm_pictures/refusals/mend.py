@@ -28,12 +28,6 @@ class Remedy(Word):
 
     text: str  # for people
 
-    def __new__(cls, word: str, text: str) -> "Remedy":
-        remedy = str.__new__(cls, word)
-        remedy._value_ = word
-        remedy.text = text
-        return remedy
-
     COPY = ("copy", "no block is to be mended: a plain copy")
     REPAIR = ("repair", "the block was repaired, and the rest of the file kept")
     TOUCH = ("touch", "ExifTool added a field and removed it")
