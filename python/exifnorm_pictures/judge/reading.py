@@ -1,4 +1,5 @@
-"""A picture that was read: its judged blocks, the texts that they have, and what was not read."""
+"""A picture that was read: its judged blocks, the texts that they have, and what was not read. Commands print it, also with a problem and as a
+catalogue has it, where a program that calls `read` gets an exception or has no picture: `api.Picture` is this one for programs."""
 
 from __future__ import annotations
 
