@@ -153,22 +153,27 @@ class Together(Catalogue):
 
     def _attach(self, about: Sequence[About]) -> None:
         with self.guarded():
-            for one, schema in zip(about, self._schemas):
-                self.base.execute(f"ATTACH ? AS {schema}", (address(one.name),))
-                check_schema(self.base, one.name, schema)
+            for shard, schema in zip(about, self._schemas):
+                self.base.execute(f"ATTACH ? AS {schema}", (address(shard.name),))
+                check_schema(self.base, shard.name, schema)
             for table in _TABLES:
                 rows = " UNION ALL ".join(f"SELECT * FROM {schema}.{table}" for schema in self._schemas)
                 self.base.execute(f"CREATE TEMP VIEW {table} AS {rows}")
 
     def _refuse_twice(self, about: Sequence[About]) -> None:
         """Raises `Twice`. Where the paths of one catalogue lie behind those of the other, none is read."""
-        for (one, schema), (other, its) in itertools.combinations(zip(about, self._schemas), 2):
-            if one.paths[0] <= other.paths[1] and other.paths[0] <= one.paths[1]:
-                if one.numbers[1] - one.numbers[0] > other.numbers[1] - other.numbers[0]:
-                    one, schema, other, its = other, its, one, schema  # the smaller one is read, and each path is looked up in the other
+        for (shard, schema), (other, its) in itertools.combinations(zip(about, self._schemas), 2):
+            if shard.paths[0] <= other.paths[1] and other.paths[0] <= shard.paths[1]:
+                if shard.numbers[1] - shard.numbers[0] > other.numbers[1] - other.numbers[0]:
+                    shard, schema, other, its = (
+                        other,
+                        its,
+                        shard,
+                        schema,
+                    )  # the smaller one is read, and each path is looked up in the other
                 query = f"SELECT path FROM {schema}.pictures AS mine CROSS JOIN {its}.pictures AS other USING (path) LIMIT 1"
                 for (path,) in self.rows(query):
-                    raise twice(path, one.name, other.name)
+                    raise twice(path, shard.name, other.name)
 
     def without_texts(self) -> str:
         """A query for the numbers of the pictures whose texts aren't kept."""

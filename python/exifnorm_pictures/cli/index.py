@@ -53,13 +53,7 @@ def run(arguments: argparse.Namespace) -> int:
         from . import index_shards  # which few need
 
         return index_shards.run(arguments)
-    names = named(arguments, arguments.folders)
-    if any(not it for it in names):
-        raise NoCatalogue("a name is empty")
-    if arguments.elsewhere and not arguments.scheduler:
-        raise NoScheduler("--elsewhere is a path on the workers of --scheduler, which is missing")
-    if not any(map(os.path.lexists, names)) and not _are_known(names, arguments.catalogue):
-        raise NothingThere(f"there is no folder or file {', '.join(map(shown_path, names))}")
+    names = _names(arguments)
     with Catalogue(arguments.catalogue, make=True) as catalogue:
         if arguments.keep_old:
             copy_over(catalogue, arguments.keep_old, arguments.session.room)
@@ -92,6 +86,18 @@ def run(arguments: argparse.Namespace) -> int:
     if any(counts[it] for it in NOT_READABLE) or any(os.path.exists(it) and not _may_be_read(it) for it in names):
         return UNKNOWN
     return SUCCESS
+
+
+def _names(arguments: argparse.Namespace) -> List[bytes]:
+    """The names that are given. Raises `NoCatalogue`, `NoScheduler` and `NothingThere`."""
+    names = named(arguments, arguments.folders)
+    if any(not name for name in names):
+        raise NoCatalogue("a name is empty")
+    if arguments.elsewhere and not arguments.scheduler:
+        raise NoScheduler("--elsewhere is a path on the workers of --scheduler, which is missing")
+    if not any(map(os.path.lexists, names)) and not _are_known(names, arguments.catalogue):
+        raise NothingThere(f"there is no folder or file {', '.join(map(shown_path, names))}")
+    return names
 
 
 def _are_known(names: Sequence[bytes], catalogue: str) -> bool:

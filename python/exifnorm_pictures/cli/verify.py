@@ -66,15 +66,8 @@ def run(arguments: argparse.Namespace) -> int:
         if arguments.evidence:
             _write_evidence(arguments, now)
     if arguments.json:
-        members = {
-            "counts": dict(counts),
-            "damaged_before": told.old,
-            "new": new,
-            "files": files,
-            "bytes": size,
-            "earlier": reading.earlier,
-        }
-        print_object("verify", "summary", members)
+        about = {"counts": dict(counts), "damaged_before": told.old, "new": new}
+        print_object("verify", "summary", {**about, "files": files, "bytes": size, "earlier": reading.earlier})
     else:
         print_line(f"{files:,} file{'s' * (files != 1)} read again, {_size(size)}{_by_earlier(reading.earlier)}.")
         for line in told.lines():

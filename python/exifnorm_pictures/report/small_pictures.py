@@ -107,12 +107,12 @@ class SmallPictures:
             return ""
         turned = self._shrinker.orientation(path)
         name = _name(source.digest, turned)
-        address = (self._kept.address(name) or self._made(path, source, name, whole)) if turned else ""
+        address = (self._kept.address(name) or self._new_address(path, source, name, whole)) if turned else ""
         if not address and len(self._failed) < _MOST_FAILED:
             self._failed.add(source.digest)
         return address
 
-    def _made(self, path: bytes, source: _Source, name: str, whole: bool) -> str:
+    def _new_address(self, path: bytes, source: _Source, name: str, whole: bool) -> str:
         """The address of a new small picture."""
         embedded = thumbnail_of(path, self._session) if source.embedded is None else source.embedded
         octets = self._shrinker.small(path, embedded, whole)
