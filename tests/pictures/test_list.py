@@ -429,3 +429,23 @@ def test_a_question_visits_few_rows(folder, called):
             assert len(list(answer.pictures())) == 1
             steps[count] = counted
     assert steps[10_000] < 2 * steps[1_000], steps
+
+
+@pytest.mark.parametrize("question", ["without credit", "creator != anna", "not keywords has clay or title = x"])
+def test_a_question_that_many_pictures_fit_reads_rows_in_their_order(question, folder, called):
+    """By an index of paths each row is read from another place, and so is each row of the temporary tables."""
+    from exifnorm_pictures.catalogue.asking import Answer
+    from exifnorm_pictures.catalogue.store import Catalogue
+    from exifnorm_pictures.fields.questions import question_of
+
+    put(folder / "p", {"a.gif": gif()})
+    called("index", "p", "--catalogue", "c", "--quiet")
+    with Catalogue("c") as catalogue:
+        statements = []
+        answer = Answer(catalogue, question_of(question))
+        catalogue.base.set_trace_callback(statements.append)
+        fitting = list(answer.pictures())
+        catalogue.base.set_trace_callback(None)
+        plan = [row[3] for row in catalogue.base.execute(f"EXPLAIN QUERY PLAN {statements[-1]}")]
+    scans = [step for step in plan if re.match(r"SCAN (TABLE pictures AS )?p\b", step)]
+    assert len(fitting) == 1 and len(scans) == 1 and "INDEX" not in scans[0], plan

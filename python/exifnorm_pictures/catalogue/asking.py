@@ -68,11 +68,13 @@ class _Tables:
         """The name of the table for a condition."""
         if question not in self._tables:
             self._tables[question] = name = f"temp.found{next(self._numbers)}"
-            texts = [_Part("label = ?", (question.label,))] if isinstance(question, With) else _compared(question)
+            # the texts of a label are in the order of their pictures, so that DISTINCT keeps nothing
+            picture = "DISTINCT picture" if isinstance(question, With) else "picture"
+            texts = _with(question.label) if isinstance(question, With) else _compared(question)
             with self._catalogue.guarded():
                 self._catalogue.base.execute(f"CREATE TABLE {name} (picture INTEGER PRIMARY KEY)")
                 for part in texts:
-                    query = f"INSERT OR IGNORE INTO {name} SELECT picture FROM texts WHERE {part.sql}"
+                    query = f"INSERT OR IGNORE INTO {name} SELECT {picture} FROM texts WHERE {part.sql}"
                     self._catalogue.base.execute(query, part.values)
         return self._tables[question]
 
@@ -85,6 +87,10 @@ class _Tables:
             return f"({word.join(self.condition(it, is_sure) for it in question.questions)})"
         found = f"p.id IN (SELECT picture FROM {self.table(question)})"
         return found if is_sure else f"({found} OR {unread([question.label])})"
+
+
+def _with(label: str) -> List[_Part]:
+    return [_Part(f"label = ? AND long = {long}", (label,)) for long in (0, 1)]
 
 
 def _compared(question: Condition) -> List[_Part]:
@@ -162,6 +168,10 @@ class Scope:
         return _joined("AND", parts)
 
 
+# The pictures in the order of their numbers, which temporary tables have, too. In that of their paths each row would be read from another place
+_IN_ORDER = "pictures p NOT INDEXED"
+
+
 class Fitting(NamedTuple):
     """A picture that fits."""
 
@@ -171,9 +181,11 @@ class Fitting(NamedTuple):
 
 
 def _fitting(row: Tuple[int, bytes, str]) -> Fitting:
-    has(bytes, row[1])
-    has_short(str, row[2])
-    return Fitting(*row)
+    _, path, damage = row
+    if type(path) is not bytes or damage != "":
+        has(bytes, path)
+        has_short(str, damage)
+    return Fitting._make(row)
 
 
 def has_text(text: object) -> None:
@@ -220,6 +232,8 @@ class Answer:
         self._sure, self._may = _joined("AND", [self._scope, *sure]), _joined("AND", [self._scope, *may])
         self._not_known: Optional[int] = None
         self._open_for: Optional[str] = None  # the label for which `may_have` has a table
+        self._in_order = "pictures p" if scope.only is not None else _IN_ORDER
+        self._counted_in = self._in_order if question else "pictures p"
         self._are_all = question is None and scope == Scope()
 
     def count(self) -> int:
@@ -263,11 +277,11 @@ class Answer:
         return _Part(f"picture IN (SELECT p.id FROM pictures p WHERE {self._sure.sql})", self._sure.values)
 
     def _count(self, part: _Part) -> int:
-        return int(next(self._catalogue.rows(f"SELECT count(*) FROM pictures p WHERE {part.sql}", part.values))[0])
+        return int(next(self._catalogue.rows(f"SELECT count(*) FROM {self._counted_in} WHERE {part.sql}", part.values))[0])
 
     def pictures(self) -> Iterator[Fitting]:
         """The pictures that fit, by path."""
-        query = f"SELECT p.id, p.path, p.damage FROM pictures p WHERE {self._sure.sql} ORDER BY p.path"
+        query = f"SELECT p.id, p.path, p.damage FROM {self._in_order} WHERE {self._sure.sql} ORDER BY p.path"
         yield from self._catalogue.rows(query, self._sure.values, _fitting)
 
     def may_have(self, number: int, label: str) -> bool:
