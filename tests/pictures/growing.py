@@ -1,5 +1,6 @@
 """Pictures of each format, and folders, that grow in one way: each growth makes them in any size, and says what must be read of them."""
 
+import math
 import struct
 from typing import Callable, Dict, NamedTuple, Optional, Tuple
 
@@ -378,6 +379,17 @@ def one_packet(number, mark):
     return Whole(sharing(packet, number, 0x02BC, BYTE), {XMP: number})
 
 
+def texts_as_long_as_many(number, mark):
+    """Fields, keywords and members of a list: so many bytes of each, in as many texts as each has bytes. They begin alike, so that who compares
+    a text with another one reads all of it."""
+    many = math.isqrt(number)
+    texts = [mark + b"x" * many + b"%d" % it for it in range(many)]
+    entries = [(0xA500 + it, ASCII, text + b"\0") for it, text in enumerate(texts)]
+    members = "".join(f"<rdf:li>{text.decode()}</rdf:li>" for text in texts)
+    parts = Parts(tuple(entries), b"".join(map(iim, texts)), (xmp(f"<dc:subject><rdf:Bag>{members}</rdf:Bag></dc:subject>"),))
+    return Whole(pages(parts), dict.fromkeys(KINDS, many))
+
+
 def hole(number, mark):
     """A picture with a refused block, and a hole after it of so many megabytes."""
     block = as_written([(0x0110, ASCII, b"abc\0"), (0x010F, ASCII, mark + b"x\0")])
@@ -389,7 +401,19 @@ def plain_hole(number, mark):
 
 
 OF_FILES = ("show A", "captions P", "conflicts P --all", "list P --json --where title=x --jobs 1 --quiet")
+OF_TEXTS = (
+    "show A --json",
+    "compare A B --json --exact --no-exiftool",
+    "changed C D --no-exiftool --quiet --jobs 1",
+    "same --catalogue C --json --ignore dc:none",
+    "captions P",
+    "conflicts P --all",
+    "list C --count keywords",
+    "check rules C --json",
+    "export C written.sqlite --quiet",
+)
 OTHERS = {
+    "texts as long as they are many": ("tif", Growth(texts_as_long_as_many, 90_000, 1_000_000, (), OF_TEXTS)),
     "pages of one packet": ("tif", Growth(one_packet, 300, 2000, (), OF_FILES)),
     "a hole": ("jpg", Growth(plain_hole, 10, 100, ("written", "memory"))),
     "a hole after a refused block": ("jpg", Growth(hole, 10, 100, ("written", "memory"))),
