@@ -125,6 +125,24 @@ def test_a_large_archive_is_no_single_page(folder: Path, called: Called, monkeyp
             assert called("report", "c", "--html", "report/")[0] == 0
 
 
+def test_progress_counts_each_picture_when_it_is_first_shown(archive: Path, called: Called, monkeypatch: pytest.MonkeyPatch) -> None:
+    """Not only when the last list shows all: to make the small pictures of the lists before takes the time."""
+    counts: List[int] = []
+    before: List[int] = []
+    written = folders.NewFolder.write
+
+    def write(folder: folders.NewFolder, name: str, octets: bytes) -> None:
+        if name == "folders-1.html":
+            before.append(counts[-2])
+        written(folder, name, octets)
+
+    monkeypatch.setattr("exifnorm_pictures.scan.progress.Progress.done", lambda _, count: counts.append(count))
+    monkeypatch.setattr(folders.NewFolder, "write", write)
+    assert called("report", "c", "--since", "old", "--html", "report/")[0] == 0
+    total = len(list((archive / "p").rglob("*.jpg")))
+    assert counts == sorted(counts) and counts[-1] == total and before[0] >= 440
+
+
 # The folder
 
 

@@ -13,7 +13,7 @@ from .changes import Changes
 from .contents import About
 from .entries import Entry, pages_of
 from .marks import Marks
-from .rendering import Renderer
+from .rendering import WITH_PICTURES, Renderer
 from .searching import SearchIndex
 from .small_pictures import InPage, Kept
 
@@ -144,9 +144,9 @@ class Book:
                 self._search.add(key, f"{name}#{key}-{number}", entry)
         written.entries += len(page)
         written.number += sum(it.is_counted if key == "same" else len(it.pictures) for it in page)
-        if key == "folders":
-            self._shown += sum(len(it.pictures) for it in page)
-            self.done(self._shown)
+        if key in WITH_PICTURES:
+            self._shown += self._marks.shown(path for it in page for path in it.pictures)
+            self.done(min(self._shown, self.counts.total))  # the older catalogue may have more
         self._size += len(body)
         if not self._put and self._size > MOST_BYTES:
             raise TooLarge("what these pictures have is too much")

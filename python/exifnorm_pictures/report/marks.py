@@ -34,6 +34,10 @@ class Marks:
         if key in WORDS:
             self._base.executemany("INSERT OR IGNORE INTO marks VALUES (?, ?, ?)", ((path, key, place) for path, place in places))
 
+    def shown(self, paths: Iterable[bytes]) -> int:
+        """Notes that pictures were shown. Returns how many of them were not before."""
+        return self._base.executemany("INSERT OR IGNORE INTO marks VALUES (?, '', '')", ((path,) for path in paths)).rowcount
+
     def of(self, path: bytes) -> List[Tuple[str, str]]:
         """What the lists say of a picture, each with its place."""
         known = dict(self._base.execute("SELECT list, place FROM marks WHERE path = ?", (path,)))

@@ -25,6 +25,9 @@ if TYPE_CHECKING:
     from .book import Section, Written
 
 
+WITH_PICTURES = ("changed", "same", "folders")  # the lists that show small pictures
+
+
 class Renderer:
     """Makes HTML of what a report is about."""
 
@@ -65,7 +68,7 @@ class Renderer:
 
     def _small_pictures(self, key: str, entries: Sequence[Entry]) -> Dict[Any, str]:
         """The small pictures of those lists that show them, by paths; and those of earlier files, by the digests of their coded pictures."""
-        if not self._look or key not in ("changed", "same", "folders"):
+        if not self._look or key not in WITH_PICTURES:
             return {}
         paths = [path for entry in entries for path in entry.pictures]
         others = [one for entry in entries if key == "changed" and entry.data.is_other for one in entry.data.pictures]

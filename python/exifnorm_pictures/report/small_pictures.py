@@ -19,7 +19,7 @@ from ..model.records import Stamp, is_as_before
 from .thumbnails import Shrinker, thumbnail_of
 
 _PIECE, _MOST_PIECES = 1 << 20, 64  # bytes of a file at a time, and how many such pieces are compared
-_MOST_FAILED = 10_000  # names that are kept in memory
+_MOST_KNOWN = 10_000  # files and digests that are kept in memory
 _ORIENTATIONS = range(1, 9)
 
 
@@ -81,6 +81,7 @@ class SmallPictures:
         self._catalogues, self._kept, self._session = catalogues, kept, session
         self._shrinker = Shrinker()
         self._failed: Set[str] = set()
+        self._known: Dict[bytes, str] = {}
 
     def close(self) -> None:
         """Ends the process that makes them."""
@@ -90,8 +91,17 @@ class SmallPictures:
         """The addresses of the small pictures of these files, as far as there are any. Those that are `compared` with another are made from the
         picture: the thumbnail that a file has may be older."""
         whole = set(compared)
-        addresses = ((path, self._address(path, path in whole)) for path in dict.fromkeys((*whole, *paths)))
+        addresses = ((path, self._known_address(path, path in whole)) for path in dict.fromkeys((*whole, *paths)))
         return {path: address for path, address in addresses if address}
+
+    def _known_address(self, path: bytes, whole: bool) -> str:
+        """The address of a small picture, which is looked for once if there are few: most pictures are in several lists."""
+        address = self._known.get(path)
+        if address is None:
+            address = self._address(path, whole)
+            if len(self._known) < _MOST_KNOWN:
+                self._known[path] = address
+        return address
 
     def of_digest(self, digest: str) -> str:
         """The address of a small picture that an earlier report has of a coded picture that is gone; empty without any."""
@@ -108,7 +118,7 @@ class SmallPictures:
         turned = self._shrinker.orientation(path)
         name = _name(source.digest, turned)
         address = (self._kept.address(name) or self._new_address(path, source, name, whole)) if turned else ""
-        if not address and len(self._failed) < _MOST_FAILED:
+        if not address and len(self._failed) < _MOST_KNOWN:
             self._failed.add(source.digest)
         return address
 
