@@ -27,8 +27,10 @@ def read_all(paths: Iterable[PathLike], *, jobs: Optional[int] = None) -> Iterat
 
     `jobs` is the number of processes: as many as there are processors if it isn't given, and with 1 this process reads. At most 32 paths a
     process are taken before the first result is, so paths and results may be more than fit into memory. A picture at which a process
-    dies is `NotReadable`. Raises `exifnorm.LibraryMissing`, and `ValueError` for fewer jobs than one.
+    dies is `NotReadable`. Raises `exifnorm.LibraryMissing`, `ValueError` for fewer jobs than one, and `TypeError` for a single path.
     """
+    if isinstance(paths, (str, bytes, os.PathLike)):  # whose letters would be taken for paths
+        raise TypeError("several paths are expected: of one path read reads the picture")
     count = len(os.sched_getaffinity(0)) if jobs is None else jobs
     if count < 1:
         raise ValueError("jobs must be at least 1")

@@ -355,8 +355,8 @@ def test_a_file_that_has_changed_is_not_identical(tmp_path):
 def test_the_commands_print_the_same(path, called):
     them = json.loads(called("show", "--json", str(path))[1])
     ours = pictures.read(path)
-    assert [(it["name"], it["key"], it["plain"], it["exact"]) for block in them["blocks"] for it in block["fields"]] == [
-        (it.name, it.key, it.text, it.exact) for it in ours.fields
+    assert [(it["name"], it["key"], it["plain"], it["exact"], it["value"]) for block in them["blocks"] for it in block["fields"]] == [
+        (it.name, it.key, it.text, it.exact, json.loads(json.dumps(it.json, allow_nan=False))) for it in ours.fields
     ]
     them = json.loads(called("captions", "--json", str(path))[1])
     assert sorted((it["label"], it["field"], it["texts"]) for it in them["captions"]) == sorted(
@@ -467,6 +467,12 @@ def test_many_in_processes_and_threads():
     with concurrent.futures.ThreadPoolExecutor(4) as pool:
         assert [facts(it) for it in pool.map(pictures.read, SAMPLES * 3)] == [facts(it) for _, it in alone[: len(SAMPLES)]] * 3
         assert len(set(pool.map(facts, [shared] * 20))) == 1
+
+
+@pytest.mark.parametrize("path", ["a.jpg", b"a.jpg", Path("a.jpg")])
+def test_one_path_is_not_taken_for_many(path):
+    with pytest.raises(TypeError, match="several paths"):
+        pictures.read_all(path)
 
 
 def test_a_process_that_dies_ends_nothing(tmp_path, monkeypatch):

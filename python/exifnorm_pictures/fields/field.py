@@ -125,6 +125,13 @@ class Field:
         return value_of(self)
 
     @property
+    def json(self) -> Any:
+        """The value as `show --json` prints it, of what JSON has: a fraction is divided, and bytes are {"hex": "00ff"} (docs/JSON.md)."""
+        from .typed import typed
+
+        return typed(self)
+
+    @property
     def languages(self) -> Dict[str, str]:
         """Of alternatives in XMP the texts by their languages, as {"x-default": "Vase", "de": "Krug"}; empty for other fields."""
         from .typed import languages_of
