@@ -6,12 +6,12 @@ ghost use Rattle.std.specs.List.{AllByRecursion};
 ghost use Rattle.px_layout.specs.declared.entries.Extra.{Extra as CodeExtra};
 ghost use Rattle.px_bytes.specs.Parts.{limit};
 ghost use Rattle.px_meaning.specs.Iim.{normal_iim};
-ghost use Rattle.px_meaning.specs.Fits as said;
+ghost use Rattle.px_meaning.specs.Fits as spec;
 ghost use Rattle.px_meaning.specs.Fits.{Fits, FitsThumb, IsBytes, AtJpeg, JpegSize, AtStrips, StripSizes, Iptc, items, link, put_some};
 ghost use Rattle.px_meaning.specs.Fits.{main_items, exif_items, thumb_items, field_items};
 ghost use Rattle.px_meaning.specs.calls.Seen.{exif_of, thumb_of, meaning_of};
 ghost use Rattle.px_layout.specs.calls.Items.{item_of, entry_of, IsCounted, rank};
-ghost use Rattle.px_layout.specs.calls.Layers.{Stands, Tells, Finds, over, IsClear};
+ghost use Rattle.px_layout.specs.calls.Layers.{IsAtRank, IsEntryAt, FindsEntryAt, over, IsClear};
 
 use crate::items::{Entry, Item};
 use px_iim::Iim;
@@ -47,10 +47,10 @@ pub struct Entries<'m, 'a> {
 
 impl<'m, 'a> Model for Entries<'m, 'a> {
     ghost use Rattle.std.specs.Prelude.{List, ℕ};
-    ghost use Rattle.px_meaning.specs.Fits as said;
+    ghost use Rattle.px_meaning.specs.Fits as spec;
     ghost use Rattle.px_layout.specs.calls.Layers.{entries_of, AreLayers};
 
-    ghost Value = { List (ℕ × said.Item) };
+    ghost Value = { List (ℕ × spec.Item) };
 
     ghost view = { entries_of };
 
@@ -59,7 +59,7 @@ impl<'m, 'a> Model for Entries<'m, 'a> {
 
 // Looks up an index where one further entry may be.
 fn pass<'m, 'a>(extra: &Option<Extra<'m, 'a>>, i: usize) -> Step<'m, 'a>
-    ensures { (xs : List (ℕ × said.Item)) → Stands extra.now xs → i < length (over extra.now xs) → Tells result extra.now xs i }
+    ensures { (xs : List (ℕ × spec.Item)) → IsAtRank extra.now xs → i < length (over extra.now xs) → IsEntryAt result extra.now xs i }
 {
     let Some(extra) = extra else {
         return Step::Under(i);
@@ -79,8 +79,8 @@ fn pass_both<'m, 'a>(
     lower: &Option<Extra<'m, 'a>>,
     i: usize,
 ) -> Step<'m, 'a>
-    ensures { (xs : List (ℕ × said.Item)) → Stands lower.now xs → Stands upper.now (over lower.now xs)
-        → i < length (over upper.now (over lower.now xs)) → Finds result (over upper.now (over lower.now xs)) xs i }
+    ensures { (xs : List (ℕ × spec.Item)) → IsAtRank lower.now xs → IsAtRank upper.now (over lower.now xs)
+        → i < length (over upper.now (over lower.now xs)) → FindsEntryAt result (over upper.now (over lower.now xs)) xs i }
 {
     match pass(upper, i) {
         Step::Here(tag, item) => Step::Here(tag, item),
@@ -91,7 +91,7 @@ fn pass_both<'m, 'a>(
 // How many entries a further entry adds: one, or none if there is no such entry.
 #[tactic(auto, using(crate::proofs::plans::EntryLists::length_over))]
 fn number(extra: &Option<Extra>) -> usize
-    ensures added { (xs : List (ℕ × said.Item)) → length (over extra.now xs) ≡ length xs + result }
+    ensures added { (xs : List (ℕ × spec.Item)) → length (over extra.now xs) ≡ length xs + result }
     ensures bound { result ≤ 1 }
 {
     match extra {
@@ -102,7 +102,7 @@ fn number(extra: &Option<Extra>) -> usize
 
 // How many entries it adds before the first entry with a greater tag.
 fn adds(extra: &Option<Extra>, tag: u16) -> usize
-    ensures added { (xs : List (ℕ × said.Item)) → rank tag (over extra.now xs) ≡ rank tag xs + result }
+    ensures added { (xs : List (ℕ × spec.Item)) → rank tag (over extra.now xs) ≡ rank tag xs + result }
     ensures bound { result ≤ 1 }
 {
     let Some(extra) = extra else {
@@ -154,10 +154,10 @@ impl<'m, 'a> Entries<'m, 'a> {
         fourth: Option<Extra<'m, 'a>>,
     ) -> Entries<'m, 'a>
         requires few { length fields.now < 2 ^ 16 }
-        requires first { Stands first (field_items fields.now) }
-        requires second { Stands second (over first (field_items fields.now)) }
-        requires third { Stands third (over second (over first (field_items fields.now))) }
-        requires fourth { Stands fourth (over third (over second (over first (field_items fields.now)))) }
+        requires first { IsAtRank first (field_items fields.now) }
+        requires second { IsAtRank second (over first (field_items fields.now)) }
+        requires third { IsAtRank third (over second (over first (field_items fields.now))) }
+        requires fourth { IsAtRank fourth (over third (over second (over first (field_items fields.now)))) }
         ensures { result ≡ over fourth.entry (over third.entry (over second.entry (over first.entry (field_items fields.now)))) }
     {
         let clear = clear_of(&first, fields.len());
@@ -231,7 +231,7 @@ fn first_extra<'m, 'a>(
     item: Option<Item<'m, 'a>>,
 ) -> Option<Extra<'m, 'a>>
     requires { IfSome (option_map item_of item) IsCounted }
-    ensures stands { Stands result (field_items fields.now) }
+    ensures at_rank { IsAtRank result (field_items fields.now) }
     ensures over { over result (field_items fields.now) ≡ put_some tag (option_map item_of item.entry) (field_items fields.now) }
 {
     match item {
@@ -252,7 +252,7 @@ fn second_extra<'m, 'a>(
 ) -> Option<Extra<'m, 'a>>
     requires few { length fields.now < 2 ^ 16 }
     requires counted { IfSome (option_map item_of item) IsCounted }
-    ensures stands { Stands result (over first.now (field_items fields.now)) }
+    ensures at_rank { IsAtRank result (over first.now (field_items fields.now)) }
     ensures over { over result (over first.now (field_items fields.now))
         ≡ put_some tag (option_map item_of item.entry) (over first.now (field_items fields.now)) }
 {
@@ -275,7 +275,7 @@ fn third_extra<'m, 'a>(
 ) -> Option<Extra<'m, 'a>>
     requires few { length fields.now < 2 ^ 16 }
     requires counted { IfSome (option_map item_of item) IsCounted }
-    ensures stands { Stands result (over second.now (over first.now (field_items fields.now))) }
+    ensures at_rank { IsAtRank result (over second.now (over first.now (field_items fields.now))) }
     ensures over { over result (over second.now (over first.now (field_items fields.now)))
         ≡ put_some tag (option_map item_of item.entry) (over second.now (over first.now (field_items fields.now))) }
 {
@@ -298,7 +298,7 @@ fn jpeg_extra<'m, 'a>(
     jpeg: Option<&[u8]>,
 ) -> Option<Extra<'m, 'a>>
     requires { length fields.now < 2 ^ 16 }
-    ensures stands { Stands result (over third.now (over second.now (over first.now (field_items fields.now)))) }
+    ensures at_rank { IsAtRank result (over third.now (over second.now (over first.now (field_items fields.now)))) }
     ensures over { over result (over third.now (over second.now (over first.now (field_items fields.now))))
         ≡ put_some 0x0201 (option_map (λ _. AtJpeg) (option_map (λ x. x.now) jpeg.entry))
         (over third.now (over second.now (over first.now (field_items fields.now)))) }

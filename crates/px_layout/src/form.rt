@@ -3,7 +3,7 @@ ghost use Rattle.std.specs.Prelude.{◌≡◌, length};
 ghost use Rattle.px_meaning.specs.Fits.{Fits};
 ghost use Rattle.px_meaning.specs.calls.Seen.{meaning_of};
 ghost use Rattle.px_layout.specs.Normal.{normal_exif};
-ghost use Rattle.px_layout.specs.calls.Forms.{said_in, IsForm, AnswersForm};
+ghost use Rattle.px_layout.specs.calls.Forms.{said_in, IsForm, FormResult};
 
 use crate::starts::{Starts, starts_of};
 use px_bytes::WriteRefusal;
@@ -22,7 +22,7 @@ impl<'p, 'a> NormalForm<'p, 'a> {
     /// nothing. `NormalTooLong`: the form is longer than `LIMIT`. There is no other error.
     pub fn new(m: &'p Meaning<'a>) -> Result<NormalForm<'p, 'a>, WriteRefusal>
         requires { Fits (meaning_of m.now) }
-        ensures { AnswersForm result (meaning_of m.now) }
+        ensures { FormResult result (meaning_of m.now) }
     {
         match starts_of(m) {
             Ok(starts) => Ok(NormalForm { m, starts }),

@@ -11,7 +11,7 @@ ghost use Rattle.px_layout.specs.lemmas.ItemLaws.{Suits};
 ghost use Rattle.px_layout.specs.calls.Items.{item_of, entry_of, IsCounted};
 ghost use Rattle.px_layout.specs.Laid.{item_bytes, contents_of_dir, contents};
 ghost use Rattle.px_layout.specs.Normal.{normal_exif, padded};
-ghost use Rattle.px_layout.specs.calls.Given.{TellsAll, field_bytes};
+ghost use Rattle.px_layout.specs.calls.Given.{CountsAllStrips, field_bytes};
 ghost use Rattle.px_layout.specs.calls.Forms.{said_in, plan_in, IsForm};
 ghost use Rattle.px_layout.specs.calls.Placed.{placed_bytes};
 ghost use Rattle.px_field.specs.Values.{spelled};
@@ -38,7 +38,7 @@ fn put_padded_item<W: Sink>(
     requires form { IsForm form.now }
     requires counted { IsCounted (item_of entry.now.item) }
     requires suits { Suits (role dir entry.now.tag) (item_of entry.now.item) }
-    requires tells { TellsAll (said_in form.now) (item_of entry.now.item) }
+    requires tells { CountsAllStrips (said_in form.now) (item_of entry.now.item) }
     ensures { AddsTo W.calls W.bytes_taken result writer.old writer.new pending.old pending.new
         (padded (item_bytes (plan_in form.now) Order.Most 0 (item_of entry.now.item))) }
 {
@@ -91,7 +91,7 @@ fn put_any_placed<W: Sink>(
     requires form { IsForm form.now }
     requires counted { IsCounted (item_of entry.now.item) }
     requires suits { Suits (role dir entry.now.tag) (item_of entry.now.item) }
-    requires tells { TellsAll (said_in form.now) (item_of entry.now.item) }
+    requires tells { CountsAllStrips (said_in form.now) (item_of entry.now.item) }
     ensures { AddsTo W.calls W.bytes_taken result writer.old writer.new pending.old pending.new
         (placed_bytes (plan_in form.now) (entry_of entry.now)) }
 {
@@ -113,7 +113,7 @@ fn put_placed<W: Sink>(
     requires form { IsForm form.now }
     requires counted { IsCounted (item_of entry.now.item) }
     requires suits { Suits (role dir entry.now.tag) (item_of entry.now.item) }
-    requires tells { TellsAll (said_in form.now) (item_of entry.now.item) }
+    requires tells { CountsAllStrips (said_in form.now) (item_of entry.now.item) }
     ensures { AddsTo W.calls W.bytes_taken result writer.old writer.new pending.old pending.new
         (placed_bytes (plan_in form.now) (entry_of entry.now)) }
 {

@@ -5,7 +5,7 @@ ghost use Rattle.std.specs.List.{AllByRecursion};
 ghost use Rattle.px_bytes.specs.Devices.{CanFail, Counts};
 ghost use Rattle.px_bytes.specs.Parts.{limit};
 ghost use Rattle.px_bytes.specs.Waiting.{PutsTo, AddsTo};
-ghost use Rattle.px_meaning.specs.Tree as said;
+ghost use Rattle.px_meaning.specs.Tree as spec;
 ghost use Rattle.px_field.specs.Values.{spelled};
 ghost use Rattle.px_meaning.specs.Fits.{items, item_size, Field};
 ghost use Rattle.px_layout.specs.calls.Items.{item_of, entry_of, IsCounted};
@@ -14,7 +14,7 @@ ghost use Rattle.px_layout.specs.Normal.{normal_plan};
 ghost use Rattle.px_layout.specs.Plans.{place};
 ghost use Rattle.px_layout.specs.lemmas.RunLaws.{start, strips_start, value_size};
 ghost use Rattle.px_layout.specs.calls.Given.{head_bytes, entry_given, field_given, near_given};
-ghost use Rattle.px_layout.specs.calls.Given.{strip_list, TellsAll, strips_size, strip_places};
+ghost use Rattle.px_layout.specs.calls.Given.{strip_list, CountsAllStrips, strips_size, strip_places};
 ghost use Rattle.px_layout.specs.calls.Forms.{said_in, plan_in, IsForm};
 
 use crate::chunks::Chunk;
@@ -162,7 +162,7 @@ pub(crate) fn put_item_value<W: Sink>(
     requires few { CanFail (W.calls writer.old) }
     requires form { IsForm form.now }
     requires counted { IsCounted (item_of item) }
-    requires tells { TellsAll (said_in form.now) (item_of item) }
+    requires tells { CountsAllStrips (said_in form.now) (item_of item) }
     ensures { AddsTo W.calls W.bytes_taken result writer.old writer.new pending.old pending.new
         (item_bytes (plan_in form.now) Order.Most 0 (item_of item.entry)) }
 {
@@ -237,7 +237,7 @@ fn put_near_entry<W: Sink>(
     requires few { CanFail (W.calls writer.old) }
     requires form { IsForm form.now }
     requires counted { IsCounted (item_of entry.now.item) }
-    requires tells { TellsAll (said_in form.now) (item_of entry.now.item) }
+    requires tells { CountsAllStrips (said_in form.now) (item_of entry.now.item) }
     requires near { item_size (item_of entry.now.item) ≤ 4 }
     ensures { AddsTo W.calls W.bytes_taken result writer.old writer.new pending.old pending.new
         (near_given (plan_in form.now) (entry_of entry.now)) }
@@ -259,7 +259,7 @@ fn put_any_entry<W: Sink>(
     requires few { CanFail (W.calls writer.old) }
     requires form { IsForm form.now }
     requires counted { IsCounted (item_of entry.item) }
-    requires tells { TellsAll (said_in form.now) (item_of entry.item) }
+    requires tells { CountsAllStrips (said_in form.now) (item_of entry.item) }
     ensures { AddsTo W.calls W.bytes_taken result writer.old writer.new pending.old pending.new
         (entry_given (plan_in form.now) at (entry_of entry.entry)) }
 {
@@ -280,7 +280,7 @@ fn put_given_entry<W: Sink>(
     requires few { CanFail (W.calls writer.old) }
     requires form { IsForm form.now }
     requires counted { IsCounted (item_of entry.now.item) }
-    requires tells { TellsAll (said_in form.now) (item_of entry.now.item) }
+    requires tells { CountsAllStrips (said_in form.now) (item_of entry.now.item) }
     ensures { AddsTo W.calls W.bytes_taken result writer.old writer.new pending.old pending.new
         (entry_given (plan_in form.now) at (entry_of entry.now)) }
 {
@@ -391,7 +391,7 @@ pub(crate) fn put_running_header<W: Sink>(
     writer: &mut W,
 ) -> Result<(), Failed>
     requires few { CanFail (W.calls writer.old) }
-    ensures bytes { (m : said.Meaning) → PutsTo W.bytes_taken result writer.old writer.new pending.old pending.new
+    ensures bytes { (m : spec.Meaning) → PutsTo W.bytes_taken result writer.old writer.new pending.old pending.new
         (header (normal_plan m) Order.Most 0) }
     ensures count { Counts result (W.calls writer.old) (W.calls writer.new) }
 {

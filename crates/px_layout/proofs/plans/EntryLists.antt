@@ -16,9 +16,9 @@ use Rattle.px_meaning.specs.Tree.{Fields, ExifPart, Thumbnail, Meaning}
 use Rattle.px_meaning.specs.Fits.{Item, Field, StripSizes, items, put, main_items, exif_items, thumb_items, field_items, FitsFields}
 use Rattle.px_meaning.specs.Fits.{FitsExif}
 use Rattle.px_meaning.specs.Fits.{FitsThumb, IsBytes}
-use Rattle.px_layout.specs.declared.items.Item as held
+use Rattle.px_layout.specs.declared.items.Item as program
 use Rattle.px_layout.specs.calls.Items.{item_of, IsCounted, rank}
-use Rattle.px_layout.specs.calls.Layers.{over, Stands, Tells, Finds, IsClear}
+use Rattle.px_layout.specs.calls.Layers.{over, IsAtRank, IsEntryAt, FindsEntryAt, IsClear}
 use Rattle.px_layout.specs.declared.entries.Extra.{Extra}
 use Rattle.px_layout.specs.declared.entries.Step.{Step}
 use Rattle.px_layout.specs.declared.entries.Step.TheVariants.{Here, Under}
@@ -156,16 +156,16 @@ rank_fields t (y ∷ ys) =
 pub length_over : (e : Extra) (xs : List (ℕ × Item)) → length (over (Some e) xs) ≡ length xs + 1
 length_over e xs = length_put e.tag (item_of e.item) xs ∙ omega arith
 
-pub pass_before : (e : Extra) (xs : List (ℕ × Item)) (i : ℕ) → i < e.place → Stands (Some e) xs → i < length (over (Some e) xs)
-    → Tells (Under i) (Some e) xs i
+pub pass_before : (e : Extra) (xs : List (ℕ × Item)) (i : ℕ) → i < e.place → IsAtRank (Some e) xs → i < length (over (Some e) xs)
+    → IsEntryAt (Under i) (Some e) xs i
 pass_before e xs i l s h = let p = s.0 in let r = rank_le e.tag xs in (put_before e.tag (item_of e.item) xs i (omega arith), omega arith)
 
-pub pass_here : (e : Extra) (xs : List (ℕ × Item)) (i : ℕ) → i ≡ e.place → Stands (Some e) xs → i < length (over (Some e) xs)
-    → Tells (Here e.tag e.item) (Some e) xs i
+pub pass_here : (e : Extra) (xs : List (ℕ × Item)) (i : ℕ) → i ≡ e.place → IsAtRank (Some e) xs → i < length (over (Some e) xs)
+    → IsEntryAt (Here e.tag e.item) (Some e) xs i
 pass_here e xs i q s h = (put_here e.tag (item_of e.item) xs i (q ∙ s.0), s.1)
 
-pub pass_behind : (e : Extra) (xs : List (ℕ × Item)) (i : ℕ) → e.place < i → Stands (Some e) xs → i < length (over (Some e) xs)
-    → Tells (Under (i - 1)) (Some e) xs i
+pub pass_behind : (e : Extra) (xs : List (ℕ × Item)) (i : ℕ) → e.place < i → IsAtRank (Some e) xs → i < length (over (Some e) xs)
+    → IsEntryAt (Under (i - 1)) (Some e) xs i
 pass_behind e xs zero l s h = absurd (omega arith)
 pass_behind e xs (suc j) l s h =
     let p = s.0 in
@@ -174,7 +174,7 @@ pass_behind e xs (suc j) l s h =
     (put_behind e.tag (item_of e.item) xs j (omega arith) ∙ ap (slice_get xs) k, omega arith)
 
 abbrev pub Passes : Step → Option Extra → ℕ → Type 0
-Passes p o i = (xs : List (ℕ × Item)) → Stands o xs → i < length (over o xs) → Tells p o xs i
+Passes p o i = (xs : List (ℕ × Item)) → IsAtRank o xs → i < length (over o xs) → IsEntryAt p o xs i
 
 pub passes_some : (p : Step) (o : Option Extra) (e : Extra) (i : ℕ) → o ≡ Some e → Passes p (Some e) i → Passes p o i
 passes_some p o e i q f = subst (λ o. Passes p o i) (sym q) f
@@ -187,8 +187,8 @@ clear_passes (Some e) n i c l xs s h = pass_before e xs i (omega arith) s h
 -- after the steps over four further entries, the field is at the index that is left
 pub passes_through : (a b c d : Option Extra) (fs : Fields) (i k j h g : ℕ) →
     Passes (Under k) d i → Passes (Under j) c k → Passes (Under h) b j → Passes (Under g) a h →
-    Stands a (field_items fs) → Stands b (over a (field_items fs)) → Stands c (over b (over a (field_items fs)))
-    → Stands d (over c (over b (over a (field_items fs)))) →
+    IsAtRank a (field_items fs) → IsAtRank b (over a (field_items fs)) → IsAtRank c (over b (over a (field_items fs)))
+    → IsAtRank d (over c (over b (over a (field_items fs)))) →
     i < length (over d (over c (over b (over a (field_items fs))))) →
     (slice_get (over d (over c (over b (over a (field_items fs))))) i ≡ option_map (λ p. (p.0, Field p.1)) (slice_get fs g)) × (g < length
     fs)
@@ -205,14 +205,14 @@ passes_through a b c d fs i k j h g pd pc pb pa sa sb sc sd l =
 -- ---- two further entries, the upper one first
 
 abbrev pub PassesBoth : Step → Option Extra → Option Extra → ℕ → Type 0
-PassesBoth p d c i = (xs : List (ℕ × Item)) → Stands c xs → Stands d (over c xs) → i < length (over d (over c xs))
-    → Finds p (over d (over c xs)) xs i
+PassesBoth p d c i = (xs : List (ℕ × Item)) → IsAtRank c xs → IsAtRank d (over c xs) → i < length (over d (over c xs))
+    → FindsEntryAt p (over d (over c xs)) xs i
 
-found_under : (p : Step) (ys zs xs : List (ℕ × Item)) (i j : ℕ) → slice_get ys i ≡ slice_get zs j → Finds p zs xs j → Finds p ys xs i
+found_under : (p : Step) (ys zs xs : List (ℕ × Item)) (i j : ℕ) → slice_get ys i ≡ slice_get zs j → FindsEntryAt p zs xs j → FindsEntryAt p ys xs i
 found_under (Here t x) ys zs xs i j e f = (e ∙ f.0, f.1)
 found_under (Under k) ys zs xs i j e f = (e ∙ f.0, f.1)
 
-pub upper_here : (t : ℕ) (x : held.Item) (d c : Option Extra) (i : ℕ) → Passes (Here t x) d i → PassesBoth (Here t x) d c i
+pub upper_here : (t : ℕ) (x : program.Item) (d c : Option Extra) (i : ℕ) → Passes (Here t x) d i → PassesBoth (Here t x) d c i
 upper_here t x d c i p xs sc sd l = p (over c xs) sd l
 
 pub passes_both : (p : Step) (d c : Option Extra) (i j : ℕ) → Passes (Under j) d i → Passes p c j → PassesBoth p d c i
@@ -221,14 +221,14 @@ passes_both p d c i j pd pc xs sc sd l =
 
 -- past two and two more
 pub both_twice : (p : Step) (a b c d : Option Extra) (ys : List (ℕ × Item)) (i j : ℕ) → PassesBoth (Under j) d c i → PassesBoth p b a j
-    → Stands a ys → Stands b (over a ys) → Stands c (over b (over a ys)) → Stands d (over c (over b (over a ys)))
-    → i < length (over d (over c (over b (over a ys)))) → Finds p (over d (over c (over b (over a ys)))) ys i
+    → IsAtRank a ys → IsAtRank b (over a ys) → IsAtRank c (over b (over a ys)) → IsAtRank d (over c (over b (over a ys)))
+    → i < length (over d (over c (over b (over a ys)))) → FindsEntryAt p (over d (over c (over b (over a ys)))) ys i
 both_twice p a b c d ys i j pd pb sa sb sc sd l =
     let z = pd (over b (over a ys)) sc sd l in
     found_under p (over d (over c (over b (over a ys)))) (over b (over a ys)) ys i j z.0 (pb ys sa sb z.1)
 
 -- the field at the index that is left is found
-pub field_found : (fs : Fields) (ys : List (ℕ × Item)) (i g : ℕ) → Finds (Under g) ys (field_items fs) i
+pub field_found : (fs : Fields) (ys : List (ℕ × Item)) (i g : ℕ) → FindsEntryAt (Under g) ys (field_items fs) i
     → (slice_get ys i ≡ option_map (λ p. (p.0, Field p.1)) (slice_get fs g)) × (g < length fs)
 field_found fs ys i g w = (
   w.0 ∙ slice_get-map (λ (p : ℕ × Value). (p.0, Field p.1)) fs g,
@@ -238,8 +238,8 @@ field_found fs ys i g w = (
 -- the fields come before all further entries
 pub clear_through : (a b c d : Option Extra) (fs : Fields) (n i : ℕ) →
     IsClear n a → IsClear n b → IsClear n c → IsClear n d →
-    Stands a (field_items fs) → Stands b (over a (field_items fs)) → Stands c (over b (over a (field_items fs)))
-    → Stands d (over c (over b (over a (field_items fs)))) → i < n →
+    IsAtRank a (field_items fs) → IsAtRank b (over a (field_items fs)) → IsAtRank c (over b (over a (field_items fs)))
+    → IsAtRank d (over c (over b (over a (field_items fs)))) → i < n →
     i < length (over d (over c (over b (over a (field_items fs))))) →
     (slice_get (over d (over c (over b (over a (field_items fs))))) i ≡ option_map (λ p. (p.0, Field p.1)) (slice_get fs i)) × (i < length
     fs)
@@ -249,7 +249,7 @@ clear_through a b c d fs n i ca cb cc cd sa sb sc sd u l =
     sa sb sc sd l
 
 -- an item that is there is counted
-pub counted_in : (o : Option held.Item) (x : held.Item) → o ≡ Some x → IfSome (option_map item_of o) IsCounted → IsCounted (item_of x)
+pub counted_in : (o : Option program.Item) (x : program.Item) → o ≡ Some x → IfSome (option_map item_of o) IsCounted → IsCounted (item_of x)
 counted_in None x q h = cc
 counted_in (Some y) x q h = let k : y ≡ x = cc in subst (λ z. IsCounted (item_of z)) k h
 

@@ -26,7 +26,7 @@ use Rattle.px_layout.specs.lemmas.EntryLaws.{Good, good_items, each_put}
 use Rattle.px_layout.specs.lemmas.RunLaws.{values_size, start, dir_end, thumb_start, strips_start, jpeg_part, strips_part, thumb_parts}
 use Rattle.px_layout.specs.lemmas.RunLaws.{thumb_found, jpeg_place, run_none, without_all_strips, table_place, no_table_place, value_place}
 use Rattle.px_layout.specs.lemmas.RunLaws.{strip_place}
-use Rattle.px_layout.specs.calls.Given.{head_bytes, last_given, entry_given, strip_list, TellsAll, strips_size, strip_places}
+use Rattle.px_layout.specs.calls.Given.{head_bytes, last_given, entry_given, strip_list, CountsAllStrips, strips_size, strip_places}
 use Rattle.px_layout.specs.calls.Starting.{AreStarts}
 use Rattle.px_meaning.specs.Directory.{magic}
 use Rattle.px_layout.proofs.writing.Beginnings.{dir_there, form_end, sized_read, sized_length}
@@ -115,14 +115,14 @@ module _ (m : Meaning) where
 
 -- ---- the strips that an entry names
 
-tells_fields : (m : Meaning) (fs : Fields) → AllByRecursion (λ i. TellsAll m i.1) (field_items fs)
-tells_fields m [] = tt
-tells_fields m (x ∷ xs) = (tt, tells_fields m xs)
+counts_fields : (m : Meaning) (fs : Fields) → AllByRecursion (λ i. CountsAllStrips m i.1) (field_items fs)
+counts_fields m [] = tt
+counts_fields m (x ∷ xs) = (tt, counts_fields m xs)
 
-tells_some : (m : Meaning) (t : ℕ) (o : Option Item) (ys : List (ℕ × Item)) → IfSome o (TellsAll m)
-    → AllByRecursion (λ i. TellsAll m i.1) ys → AllByRecursion (λ i. TellsAll m i.1) (put_some t o ys)
-tells_some m t None ys p h = h
-tells_some m t (Some x) ys p h = each_put (λ i. TellsAll m i.1) t x ys p h
+counts_some : (m : Meaning) (t : ℕ) (o : Option Item) (ys : List (ℕ × Item)) → IfSome o (CountsAllStrips m)
+    → AllByRecursion (λ i. CountsAllStrips m i.1) ys → AllByRecursion (λ i. CountsAllStrips m i.1) (put_some t o ys)
+counts_some m t None ys p h = h
+counts_some m t (Some x) ys p h = each_put (λ i. CountsAllStrips m i.1) t x ys p h
 
 pub strips_sum : (n : ℕ) (s : List (List ℕ)) → padded_size (strip_chunks n s) ≡ strips_size s
 strips_sum n [] = refl
@@ -143,7 +143,7 @@ same_places p n x (y ∷ s) h = ap₂ (λ (k : ℕ) (ys : List ℕ). long_bytes 
     (same_places p (n + 1) (x + even (length y)) s (λ j l. ap p (omega arith) ∙ h (suc j) (omega arith) ∙ omega arith))
 
 -- the bytes of the item that names all strips
-pub strips_told : (m : Meaning) (n : ℕ) → TellsAll m (AtStrips n)
+pub strips_told : (m : Meaning) (n : ℕ) → CountsAllStrips m (AtStrips n)
     → flat_map (long_bytes Most) (strip_places (strips_start m) (strip_list m.thumb)) ≡ flat_map
     (λ i. long_bytes Most (place (normal_plan m) (Strip i))) (range_with_len 0 n)
 strips_told m n h = sym (ap (λ k. flat_map (λ i. long_bytes Most (place (normal_plan m) (Strip i))) (range_with_len 0 k)) h
@@ -182,63 +182,63 @@ thumb_gone m e = sym (jpeg_run m ∙ ap (λ o. unwrap_or o 0) (ap (λ y. running
 
 -- ---- the entries that name strips
 
-tells_link : {X : Type 0} (m : Meaning) (d : Dir) (o : Option X) → IfSome (link d o) (TellsAll m)
-tells_link m d None = tt
-tells_link m d (Some x) = tt
+counts_link : {X : Type 0} (m : Meaning) (d : Dir) (o : Option X) → IfSome (link d o) (CountsAllStrips m)
+counts_link m d None = tt
+counts_link m d (Some x) = tt
 
-tells_record : (m : Meaning) (o : Option Iim) → IfSome (option_map Iptc o) (TellsAll m)
-tells_record m None = tt
-tells_record m (Some x) = tt
+counts_record : (m : Meaning) (o : Option Iim) → IfSome (option_map Iptc o) (CountsAllStrips m)
+counts_record m None = tt
+counts_record m (Some x) = tt
 
-tells_jpeg : (m : Meaning) (o : Option (List ℕ)) → IfSome (option_map (λ _. AtJpeg) o) (TellsAll m) × IfSome
-    (option_map (λ (x : List ℕ). JpegSize (length x)) o) (TellsAll m)
-tells_jpeg m None = (tt, tt)
-tells_jpeg m (Some x) = (tt, tt)
+counts_jpeg : (m : Meaning) (o : Option (List ℕ)) → IfSome (option_map (λ _. AtJpeg) o) (CountsAllStrips m) × IfSome
+    (option_map (λ (x : List ℕ). JpegSize (length x)) o) (CountsAllStrips m)
+counts_jpeg m None = (tt, tt)
+counts_jpeg m (Some x) = (tt, tt)
 
-tells_exif : (m : Meaning) (o : Option ExifPart) → IfSome (option_map exif_items o) (AllByRecursion (λ i. TellsAll m i.1))
-tells_exif m None = tt
-tells_exif m (Some e) = tells_some m _ (link Interop e.interop) _ (tells_link m Interop e.interop) (tells_fields m e.fields)
+counts_exif : (m : Meaning) (o : Option ExifPart) → IfSome (option_map exif_items o) (AllByRecursion (λ i. CountsAllStrips m i.1))
+counts_exif m None = tt
+counts_exif m (Some e) = counts_some m _ (link Interop e.interop) _ (counts_link m Interop e.interop) (counts_fields m e.fields)
 
-tells_plain : (m : Meaning) (o : Option Fields) → IfSome (option_map field_items o) (AllByRecursion (λ i. TellsAll m i.1))
-tells_plain m None = tt
-tells_plain m (Some fs) = tells_fields m fs
+counts_plain : (m : Meaning) (o : Option Fields) → IfSome (option_map field_items o) (AllByRecursion (λ i. CountsAllStrips m i.1))
+counts_plain m None = tt
+counts_plain m (Some fs) = counts_fields m fs
 
-tells_interop : (m : Meaning) (o : Option ExifPart) → IfSome (option_and_then (λ e. option_map field_items e.interop) o)
-    (AllByRecursion (λ i. TellsAll m i.1))
-tells_interop m None = tt
-tells_interop m (Some e) = tells_plain m e.interop
+counts_interop : (m : Meaning) (o : Option ExifPart) → IfSome (option_and_then (λ e. option_map field_items e.interop) o)
+    (AllByRecursion (λ i. CountsAllStrips m i.1))
+counts_interop m None = tt
+counts_interop m (Some e) = counts_plain m e.interop
 
-tells_thumb : (m : Meaning) (o : Option Thumbnail) → m.thumb ≡ o → IfSome (option_map thumb_items o) (AllByRecursion (λ i. TellsAll m i.1))
-tells_thumb m None e = tt
-tells_thumb m (Some t) e =
-    tells_some m _ (option_map (λ _. AtJpeg) t.jpeg) _ (tells_jpeg m t.jpeg).0
-    (tells_some m _ (option_map (λ x. JpegSize (length x)) t.jpeg) _ (tells_jpeg m t.jpeg).1
-    (tells_some m _ (option_map (λ s. AtStrips (length s)) t.strips) _ (offsets t.strips refl)
-    (tells_some m _ (option_map (λ s. StripSizes (map (λ x. length x) s)) t.strips) _ (sizes t.strips) (tells_fields m t.fields))))
+counts_thumb : (m : Meaning) (o : Option Thumbnail) → m.thumb ≡ o → IfSome (option_map thumb_items o) (AllByRecursion (λ i. CountsAllStrips m i.1))
+counts_thumb m None e = tt
+counts_thumb m (Some t) e =
+    counts_some m _ (option_map (λ _. AtJpeg) t.jpeg) _ (counts_jpeg m t.jpeg).0
+    (counts_some m _ (option_map (λ x. JpegSize (length x)) t.jpeg) _ (counts_jpeg m t.jpeg).1
+    (counts_some m _ (option_map (λ s. AtStrips (length s)) t.strips) _ (offsets t.strips refl)
+    (counts_some m _ (option_map (λ s. StripSizes (map (λ x. length x) s)) t.strips) _ (sizes t.strips) (counts_fields m t.fields))))
   where
-    offsets : (s : Option (List (List ℕ))) → t.strips ≡ s → IfSome (option_map (λ s. AtStrips (length s)) s) (TellsAll m)
+    offsets : (s : Option (List (List ℕ))) → t.strips ≡ s → IfSome (option_map (λ s. AtStrips (length s)) s) (CountsAllStrips m)
     offsets None q = tt
     offsets (Some s) q = sym (ap (λ y. length (strip_list y)) e ∙ ap (λ y. length (unwrap_or y [])) q)
 
-    sizes : (s : Option (List (List ℕ))) → IfSome (option_map (λ s. StripSizes (map (λ x. length x) s)) s) (TellsAll m)
+    sizes : (s : Option (List (List ℕ))) → IfSome (option_map (λ s. StripSizes (map (λ x. length x) s)) s) (CountsAllStrips m)
     sizes None = tt
     sizes (Some s) = tt
 
-pub tells_all : (m : Meaning) (d : Dir) → IfSome (items m d) (AllByRecursion (λ i. TellsAll m i.1))
+pub counts_all : (m : Meaning) (d : Dir) → IfSome (items m d) (AllByRecursion (λ i. CountsAllStrips m i.1))
 unfolding items
-tells_all m Main =
-    tells_some m _ (link Exif m.exif) _ (tells_link m Exif m.exif) (tells_some m _ (link Gps m.gps) _ (tells_link m Gps m.gps)
-    (tells_some m _ (option_map Iptc m.iptc) _ (tells_record m m.iptc) (tells_fields m m.main)))
-tells_all m Exif = tells_exif m m.exif
-tells_all m Interop = tells_interop m m.exif
-tells_all m Gps = tells_plain m m.gps
-tells_all m Thumb = tells_thumb m m.thumb refl
+counts_all m Main =
+    counts_some m _ (link Exif m.exif) _ (counts_link m Exif m.exif) (counts_some m _ (link Gps m.gps) _ (counts_link m Gps m.gps)
+    (counts_some m _ (option_map Iptc m.iptc) _ (counts_record m m.iptc) (counts_fields m m.main)))
+counts_all m Exif = counts_exif m m.exif
+counts_all m Interop = counts_interop m m.exif
+counts_all m Gps = counts_plain m m.gps
+counts_all m Thumb = counts_thumb m m.thumb refl
 
-pub tells_read : (m : Meaning) (d : Dir) (xs : List (ℕ × Item)) (i : ℕ) (x : ℕ × Item) → items m d ≡ Some xs → slice_get xs i ≡ Some x
-    → TellsAll m x.1
-tells_read m d xs i x e r =
-    each_read (λ i. TellsAll m i.1) xs i x (subst (λ (o : Option (List (ℕ × Item))). IfSome o (AllByRecursion (λ i. TellsAll m i.1))) e
-    (tells_all m d)) r
+pub counts_read : (m : Meaning) (d : Dir) (xs : List (ℕ × Item)) (i : ℕ) (x : ℕ × Item) → items m d ≡ Some xs → slice_get xs i ≡ Some x
+    → CountsAllStrips m x.1
+counts_read m d xs i x e r =
+    each_read (λ i. CountsAllStrips m i.1) xs i x (subst (λ (o : Option (List (ℕ × Item))). IfSome o (AllByRecursion (λ i. CountsAllStrips m i.1))) e
+    (counts_all m d)) r
 
 -- what strips from one on take
 pub strips_next : (s : List (List ℕ)) (i n : ℕ) → slice_get (map (λ x. length x) s) i ≡ Some n
@@ -272,10 +272,10 @@ strips_most m s t a f e =
     part (Some t) = all t.strips
 
 -- the item that names all strips
-pub item_told : (m : Meaning) (x : Item) (n : ℕ) → x ≡ AtStrips n → TellsAll m x
+pub item_told : (m : Meaning) (x : Item) (n : ℕ) → x ≡ AtStrips n → CountsAllStrips m x
     → flat_map (long_bytes Most) (strip_places (strips_start m) (strip_list m.thumb)) ≡ item_bytes (normal_plan m) Most 0 x
 unfolding item_bytes
-item_told m x n e h = strips_told m n (subst (TellsAll m) e h) ∙ sym (ap (item_bytes (normal_plan m) Most 0) e)
+item_told m x n e h = strips_told m n (subst (CountsAllStrips m) e h) ∙ sym (ap (item_bytes (normal_plan m) Most 0) e)
 
 -- ---- the tables
 

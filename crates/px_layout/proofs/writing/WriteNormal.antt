@@ -10,11 +10,11 @@ use Rattle.px_bytes.specs.lemmas.WaitingLaws.{fits_new, from_none, owed_prefix, 
 use Rattle.px_bytes.specs.lemmas.WriteLaws.{appends_kept, prefix_all}
 use Rattle.px_meaning.specs.Tree.{Meaning}
 use Rattle.px_layout.specs.Normal.{normal_exif}
-use Rattle.px_layout.specs.calls.Forms.{AnswersForm}
+use Rattle.px_layout.specs.calls.Forms.{FormResult}
 use Rattle.px_layout.specs.Writing.{WritesExif}
 
 -- there is no form to write
-pub no_form : (m : Meaning) (a : Option (List ℕ)) (calls : Calls) (e : WriteRefusal) → AnswersForm (Err e) m
+pub no_form : (m : Meaning) (a : Option (List ℕ)) (calls : Calls) (e : WriteRefusal) → FormResult (Err e) m
     → WritesExif (Err e) a a calls calls m
 no_form m a calls NormalTooLong h = (h, refl, refl)
 no_form m a calls OutOfMemory h = absurd h
@@ -22,7 +22,7 @@ no_form m a calls WriteFailed h = absurd h
 
 -- ---- a short form is one write
 
-pub short_has_form : (m : Meaning) (e : WriteRefusal) → AnswersForm (Err e) m → length (normal_exif m) ≤ 8192 → ⊥
+pub short_has_form : (m : Meaning) (e : WriteRefusal) → FormResult (Err e) m → length (normal_exif m) ≤ 8192 → ⊥
 short_has_form m NormalTooLong h l = absurd (omega (arith, h, l))
 short_has_form m OutOfMemory h l = absurd h
 short_has_form m WriteFailed h l = absurd h

@@ -23,8 +23,8 @@ abbrev pub IsForm : NormalForm → Type 0
 IsForm form = Fits (said_in form) × AreStarts form.starts (said_in form)
 
 -- the meaning's form; or it is too long
-abbrev pub AnswersForm : Result NormalForm WriteRefusal → Meaning → Type 0
-AnswersForm (Ok form) m = IsForm form × (said_in form ≡ m) × (length (normal_exif m) ≤ limit)
-AnswersForm (Err NormalTooLong) m = limit < length (normal_exif m)
-AnswersForm (Err OutOfMemory) m = ⊥
-AnswersForm (Err WriteFailed) m = ⊥
+abbrev pub FormResult : Result NormalForm WriteRefusal → Meaning → Type 0
+FormResult (Ok form) m = IsForm form × (said_in form ≡ m) × (length (normal_exif m) ≤ limit)
+FormResult (Err NormalTooLong) m = limit < length (normal_exif m)
+FormResult (Err OutOfMemory) m = ⊥
+FormResult (Err WriteFailed) m = ⊥

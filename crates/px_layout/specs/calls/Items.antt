@@ -5,19 +5,19 @@ use Rattle.px_bytes.specs.Parts.{limit}
 use Rattle.px_meaning.specs.Iim.{normal_iim}
 use Rattle.px_meaning.specs.Fits.{Item, Field, Iptc, AtJpeg, JpegSize, AtStrips, StripSizes}
 use Rattle.px_meaning.specs.Fits as fits
-use Rattle.px_layout.specs.declared.items.Item as held
+use Rattle.px_layout.specs.declared.items.Item as program
 use Rattle.px_layout.specs.declared.items.Entry.{Entry}
-use Rattle.px_layout.specs.declared.items.Item.TheVariants as held_as
+use Rattle.px_layout.specs.declared.items.Item.TheVariants as item_as
 
 -- the meaning of an item of the code
-abbrev pub item_of : held.Item → Item
-item_of (held_as.Field v) = Field v.now
-item_of (held_as.Record i) = Iptc i.now
-item_of (held_as.Link d) = fits.Link d
-item_of held_as.JpegOffset = AtJpeg
-item_of (held_as.JpegLength n) = JpegSize n
-item_of (held_as.StripOffsets s) = AtStrips (length s.now)
-item_of (held_as.StripLengths s) = StripSizes (map (λ x. length x) s.now)
+abbrev pub item_of : program.Item → Item
+item_of (item_as.Field v) = Field v.now
+item_of (item_as.Record i) = Iptc i.now
+item_of (item_as.Link d) = fits.Link d
+item_of item_as.JpegOffset = AtJpeg
+item_of (item_as.JpegLength n) = JpegSize n
+item_of (item_as.StripOffsets s) = AtStrips (length s.now)
+item_of (item_as.StripLengths s) = StripSizes (map (λ x. length x) s.now)
 
 -- an entry of the code, likewise
 abbrev pub entry_of : Entry → ℕ × Item

@@ -13,18 +13,18 @@ over None xs = xs
 over (Some x) xs = put x.tag (item_of x.item) xs
 
 -- the entry is counted, and its index is that of the first entry of a greater tag
-abbrev pub Stands : Option Extra → List (ℕ × Item) → Type 0
-Stands None xs = ⊤
-Stands (Some x) xs = (x.place ≡ rank x.tag xs) × IsCounted (item_of x.item)
+abbrev pub IsAtRank : Option Extra → List (ℕ × Item) → Type 0
+IsAtRank None xs = ⊤
+IsAtRank (Some x) xs = (x.place ≡ rank x.tag xs) × IsCounted (item_of x.item)
 
 -- the element of the list ys at an index: an entry, or an element of the list without it
-abbrev pub Finds : Step → List (ℕ × Item) → List (ℕ × Item) → ℕ → Type 0
-Finds (Here t x) ys xs i = (slice_get ys i ≡ Some (t, item_of x)) × IsCounted (item_of x)
-Finds (Under j) ys xs i = (slice_get ys i ≡ slice_get xs j) × (j < length xs)
+abbrev pub FindsEntryAt : Step → List (ℕ × Item) → List (ℕ × Item) → ℕ → Type 0
+FindsEntryAt (Here t x) ys xs i = (slice_get ys i ≡ Some (t, item_of x)) × IsCounted (item_of x)
+FindsEntryAt (Under j) ys xs i = (slice_get ys i ≡ slice_get xs j) × (j < length xs)
 
 -- the element of the list with the entry: the entry, or an element of the list without it
-abbrev pub Tells : Step → Option Extra → List (ℕ × Item) → ℕ → Type 0
-Tells p e xs i = Finds p (over e xs) xs i
+abbrev pub IsEntryAt : Step → Option Extra → List (ℕ × Item) → ℕ → Type 0
+IsEntryAt p e xs i = FindsEntryAt p (over e xs) xs i
 
 abbrev pub under_second : Inside → List (ℕ × Item)
 under_second e = over e.first (field_items e.fields.now)
@@ -47,10 +47,10 @@ IsClear n (Some x) = n ≤ x.place
 -- each further entry is at its index
 pub record AreLayers (e : Inside) : Type 0 where
   pub few : length e.fields.now < 2 ^ 16
-  pub first : Stands e.first (field_items e.fields.now)
-  pub second : Stands e.second (under_second e)
-  pub third : Stands e.third (under_third e)
-  pub fourth : Stands e.fourth (under_fourth e)
+  pub first : IsAtRank e.first (field_items e.fields.now)
+  pub second : IsAtRank e.second (under_second e)
+  pub third : IsAtRank e.third (under_third e)
+  pub fourth : IsAtRank e.fourth (under_fourth e)
   pub clear_first : IsClear e.clear e.first
   pub clear_second : IsClear e.clear e.second
   pub clear_third : IsClear e.clear e.third

@@ -5,7 +5,7 @@ use Rattle.px_bytes.specs.declared.WriteRefusal.TheVariants.{NormalTooLong, OutO
 use Rattle.px_bytes.specs.Parts.{limit}
 use Rattle.px_meaning.specs.declared.Dir.TheVariants.{Exif, Interop, Gps, Thumb}
 use Rattle.px_meaning.specs.Tree.{Meaning}
-use Rattle.px_layout.specs.declared.starts.Starts as held
+use Rattle.px_layout.specs.declared.starts.Starts as program
 use Rattle.px_layout.specs.Normal.{normal_exif}
 use Rattle.px_layout.specs.lemmas.RunLaws.{start, thumb_start, strips_start}
 
@@ -15,7 +15,7 @@ Ends (Some end) n = (end ≡ n) × (end ≤ limit)
 Ends None n = limit < n
 
 -- the offset of each part
-pub record AreStarts (s : held.Starts) (m : Meaning) : Type 0 where
+pub record AreStarts (s : program.Starts) (m : Meaning) : Type 0 where
   pub exif : s.exif ≡ start m Exif
   pub interop : s.interop ≡ start m Interop
   pub gps : s.gps ≡ start m Gps
@@ -26,8 +26,8 @@ pub record AreStarts (s : held.Starts) (m : Meaning) : Type 0 where
   pub most : s.end ≤ limit
 
 -- the parts of a form that is not too long
-abbrev pub AnswersStarts : Result held.Starts WriteRefusal → Meaning → Type 0
-AnswersStarts (Ok s) m = AreStarts s m
-AnswersStarts (Err NormalTooLong) m = limit < length (normal_exif m)
-AnswersStarts (Err OutOfMemory) m = ⊥
-AnswersStarts (Err WriteFailed) m = ⊥
+abbrev pub StartsResult : Result program.Starts WriteRefusal → Meaning → Type 0
+StartsResult (Ok s) m = AreStarts s m
+StartsResult (Err NormalTooLong) m = limit < length (normal_exif m)
+StartsResult (Err OutOfMemory) m = ⊥
+StartsResult (Err WriteFailed) m = ⊥

@@ -4,8 +4,8 @@ use Rattle.px_layout.specs.calls.Layers.{over}
 use Rattle.px_layout.proofs.plans.EntryLists.{counted_in}
 use Rattle.px_layout.proofs.entries.third_extra.Goals as goal
 
-pub returns-in-Some-clause-stands : goal.returns-in-Some-clause-stands
-returns-in-Some-clause-stands c =
+pub returns-in-Some-clause-at_rank : goal.returns-in-Some-clause-at_rank
+returns-in-Some-clause-at_rank c =
     let f = c.fields_before.ensures.rank in
     let a = c.adds.ensures.added (field_items c.args.fields.now) in
     let b = c.adds-in-Some.ensures.added (over c.args.first.now (field_items c.args.fields.now)) in

@@ -12,7 +12,7 @@ use Rattle.px_layout.specs.Normal.{normal_plan}
 use Rattle.px_layout.specs.lemmas.PutLaws.{more_as, stop_as}
 use Rattle.px_layout.specs.lemmas.WalkLaws.{few_there}
 use Rattle.px_layout.proofs.writing.Beginnings.{values_here}
-use Rattle.px_layout.proofs.writing.Runs.{entry_running, values_most, tells_read}
+use Rattle.px_layout.proofs.writing.Runs.{entry_running, values_most, counts_read}
 use Rattle.px_layout.proofs.put_running.put_running_entries.Goals as goal
 
 pub table_len-requires : goal.table_len-requires
@@ -41,7 +41,7 @@ overflow_add-at g c =
 
 pub put_given_entry-requires-clause-tells : goal.put_given_entry-requires-clause-tells
 put_given_entry-requires-clause-tells g c =
-    tells_read (said_in c.args.form.now) c.args.dir c.args.entries.now c.loop-i.i _ c.requires.there c.at-entry.ensures.entry
+    counts_read (said_in c.args.form.now) c.args.dir c.args.entries.now c.loop-i.i _ c.requires.there c.at-entry.ensures.entry
 
 pub returns-in_err-put_given_entry : goal.returns-in_err-put_given_entry
 returns-in_err-put_given_entry g c =
