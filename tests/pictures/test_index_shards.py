@@ -78,7 +78,7 @@ def test_a_folder_that_is_gone_forgets_nothing(archive, called_lines):
     (archive / "p" / "b").rename(archive / "unmounted")
     status, lines, _ = called_lines("index", "p", "--shards", "shards")
     assert status == 2
-    assert lines[0].endswith("/p/b: Unreadable: the folder isn't there or can't be read; its 2 pictures stay as they were")
+    assert lines[0].endswith("/p/b: Unreadable: the folder is empty, isn't there or can't be read; its 2 pictures stay as they were")
     assert rows(archive) == before
     status, lines, _ = called_lines("index", "p", "--shards", "shards", "--json")
     assert status == 2 and '"problem": "Unreadable"' in lines[0]
@@ -87,6 +87,41 @@ def test_a_folder_that_is_gone_forgets_nothing(archive, called_lines):
     (archive / "unmounted").rename(archive / "p" / "b")
     assert called_lines("index", "p", "--shards", "shards")[1][0] == "3 unchanged, 2 accepted"
     assert rows(archive) == before
+
+
+@pytest.mark.parametrize("name", ("b", ""))
+def test_a_folder_that_is_empty_forgets_nothing(archive, called_lines, name):
+    """As the folder on which a disk is mounted; also if all of the archive is on it."""
+    called_lines("index", "p", "--shards", "shards", "--quiet")
+    before, folder = rows(archive), archive / "p" / name
+    folder.rename(archive / "unmounted")
+    folder.mkdir()
+    status, lines, _ = called_lines("index", "p", "--shards", "shards")
+    assert status == 2 and sum("stay as they were" in line for line in lines) == (1 if name else 3)
+    assert rows(archive) == before
+    folder.rmdir()
+    (archive / "unmounted").rename(folder)
+    assert called_lines("index", "p", "--shards", "shards")[1][0] == "5 unchanged"
+
+
+def test_one_of_the_folders(archive, called_lines):
+    """It is the part that it was, with the folder by which rules are relative; and no picture gets into two catalogues."""
+    called_lines("index", "p", "--shards", "shards", "--quiet")
+    before = rows(archive)
+    (archive / "p" / "a" / "6.jpg").write_bytes(picture(6))
+    (archive / "p" / "b" / "7.jpg").write_bytes(picture(7))
+    assert called_lines("index", "p/a", "--shards", "shards")[1][0] == "2 unchanged, 1 accepted"
+    assert len(names(archive)) == 3 and {row[0] for row in rows(archive)} == {row[0] for row in before}
+    (archive / "p" / "a").rename(archive / "unmounted")
+    status, lines, _ = called_lines("index", "p/a", "--shards", "shards")
+    assert status == 2 and "its 3 pictures stay as they were" in lines[0] and lines[1] == "1 not readable"
+    (archive / "unmounted").rename(archive / "p" / "a")
+    (archive / "above").mkdir()
+    (archive / "p").rename(archive / "above" / "p")
+    called_lines("index", "above/p", "--shards", "others", "--quiet")
+    for words in (("above/p/a/deep", "--shards", "others"), ("above", "--shards", "others")):
+        status, lines, messages = called_lines("index", *words)
+        assert (status, lines) == (3, []) and "have pictures in common" in messages, words
 
 
 def test_the_folder_as_a_catalogue(archive, called_lines):

@@ -9,7 +9,7 @@ import os
 import re
 from collections import Counter
 from dataclasses import replace
-from typing import Dict, FrozenSet, Iterator, List, NamedTuple, Optional, Sequence, Tuple
+from typing import Dict, FrozenSet, Iterator, List, NamedTuple, Optional, Sequence, Set
 
 from ..catalogue import shards
 from ..catalogue.store import NUMBERS, Catalogue
@@ -59,27 +59,37 @@ class Outcome(NamedTuple):
     problem: Optional[PictureRecord] = None  # why the part wasn't looked at
 
 
+class _Kept(NamedTuple):
+    """What a catalogue that is there says of its part."""
+
+    part: Optional[Part]  # None: it has no picture
+    has_sidecars: bool
+    has_digests: bool
+
+
 def plan(where: str, names: Sequence[bytes], patterns: Sequence[str]) -> Plan:
     """The parts of some folders, whose catalogues are listed before the first of them is made: an answer over the list then knows which are
     missing. Raises `WrongFolder`."""
     tops = list(outermost(names))
     listed = _check(where, tops)
     known = {_key_of(name): name for name in listed}
+    kept = {key: _kept(os.path.join(where, name)) for key, name in known.items() if os.path.exists(os.path.join(where, name))}
+    roots = {one.part.top for one in kept.values() if one.part}
     excluded = Excluded(patterns)
-    now = {_key(part): part for top in tops for part in _parts(top, excluded, known)}
-    gone = [shard for key, name in known.items() if key not in now for shard in _gone(where, name, tops, excluded)]
+    now = {_key(part): part for top in tops for part in _parts(top, excluded, known, roots)}
+    others = [(known[key], one.part) for key, one in kept.items() if key not in now and one.part]
+    gone = [Shard(name, part, False) for name, part in others if _is_gone(part, tops, excluded)]
     for top in tops:
-        if not os.path.isdir(top) and not any(shard.part.top == top for shard in gone):
+        if not os.path.isdir(top) and not any(top in shard.part for shard in gone):
             raise WrongFolder(f"there is no folder {shown_path(top)}")
     first = max(map(_number_of, listed), default=-1) + 1
     new = [_name(number, key, now[key]) for number, key in enumerate((key for key in now if key not in known), first)]
     os.makedirs(where, exist_ok=True)
     if new:
         shards.put_list(where, [*listed, *new])
-    about = [_about(name) for name in (os.path.join(where, name) for name in listed) if os.path.exists(name)]
-    kinds = [any(one[at] for one in about) for at in range(3)]
     found = [Shard(name, now[_key_of(name)]) for name in (*listed, *new) if _key_of(name) in now]
-    return Plan([*found, *gone], kinds[0], kinds[1], not kinds[2], excluded.count, frozenset(excluded.unused()))
+    has_sidecars, has_digests = (any(one[at] for one in kept.values()) for at in (1, 2))
+    return Plan([*found, *gone], has_sidecars, has_digests, not roots, excluded.count, frozenset(excluded.unused()))
 
 
 def _check(where: str, tops: Sequence[bytes]) -> List[str]:
@@ -102,8 +112,18 @@ def _check(where: str, tops: Sequence[bytes]) -> List[str]:
     return listed
 
 
-def _parts(top: bytes, excluded: Excluded, known: Dict[str, str]) -> Iterator[Part]:
-    """The parts of a folder. One that can't be listed has its own files alone, and the run says why."""
+def _parts(top: bytes, excluded: Excluded, known: Dict[str, str], roots: Set[bytes]) -> Iterator[Part]:
+    """The parts of a folder, or it as one, if it is a part of a folder of an earlier run. One that can't be listed has its own files alone, and
+    the run says why. Raises `WrongFolder`."""
+    above = os.path.dirname(top)
+    if above in roots:
+        yield from [Part(above, top)] * os.path.isdir(top)
+        return
+    for root in roots:
+        if root != top and (root.startswith(os.path.join(top, b"")) or top.startswith(os.path.join(root, b""))):
+            raise WrongFolder(
+                f"{shown_path(top)} and {shown_path(root)}, which has catalogues here, have pictures in common: give that folder"
+            )
     own = Part(top, top)
     try:
         folders, has_files = parts_of(top, excluded)
@@ -112,6 +132,12 @@ def _parts(top: bytes, excluded: Excluded, known: Dict[str, str]) -> Iterator[Pa
     yield from folders
     if has_files or (os.path.isdir(top) and (not folders or _key(own) in known)):
         yield own
+
+
+def _is_gone(part: Part, tops: Sequence[bytes], excluded: Excluded) -> bool:
+    """Whether a part that isn't found now was to be indexed. What is excluded wasn't."""
+    is_asked = part.top in tops or part.folder in tops
+    return is_asked and (not os.path.isdir(part.folder) or not excluded.has_below(os.path.basename(part.folder)))
 
 
 def _key(part: Part) -> str:
@@ -132,31 +158,22 @@ def _number_of(name: str) -> int:
     return int(name.partition("-")[0])
 
 
-def _gone(where: str, name: str, tops: Sequence[bytes], excluded: Excluded) -> Iterator[Shard]:
-    """A part that isn't found now, if it was one of these folders; its catalogue knows its folder if it has a picture."""
-    file = os.path.join(where, name)
-    if not os.path.exists(file):
-        return
-    with Catalogue(file) as catalogue:
+def _kept(name: str) -> _Kept:
+    with Catalogue(name) as catalogue:
         row = next(catalogue.rows("SELECT root, path FROM pictures LIMIT 1"), None)
-        if row and row[0] in tops:
+        part = None
+        if row:
             top, below = row[0], row[1][len(row[0].rstrip(b"/")) + 1 :]
             part = Part(top, os.path.join(top, below.split(b"/")[0]) if b"/" in below else top)
-            if not os.path.isdir(part.folder) or not excluded.has_below(os.path.basename(part.folder)):
-                yield Shard(name, part, False)
-
-
-def _about(name: str) -> Tuple[bool, bool, bool]:
-    """Whether a catalogue has XMP sidecars, digests of coded pictures, and a picture."""
-    with Catalogue(name) as catalogue:
-        return catalogue.has_sidecars(), catalogue.has_digests(), not catalogue.is_empty()
+        return _Kept(part, catalogue.has_sidecars(), catalogue.has_digests())
 
 
 def indexed(where: str, shard: Shard, options: IndexOptions, patterns: Sequence[str]) -> Outcome:
-    """Looks at the pictures of a part. If its folder isn't there, as of a disk that isn't mounted, its pictures stay as they were."""
+    """Looks at the pictures of a part. If its folder is gone or empty, as of a disk that isn't mounted, its pictures stay as they were."""
     file = os.path.join(where, shard.name)
-    if not shard.is_there:
-        return _missing(file, shard, patterns)
+    if count := _unmounted(file, shard):
+        detail = f"the folder is empty, isn't there or can't be read; its {count:,} pictures stay as they were"
+        return not_looked_at(shard, Problem.UNREADABLE, detail, patterns)
     excluded = Excluded(patterns)
     with Catalogue(file, make=True) as catalogue:
         catalogue.number_above(_number_of(shard.name) * NUMBERS)
@@ -169,12 +186,21 @@ def indexed(where: str, shard: Shard, options: IndexOptions, patterns: Sequence[
     return Outcome(counts, frozenset(excluded.unused()), damaged, refused, excluded.known, was_stopped)
 
 
-def _missing(file: str, shard: Shard, patterns: Sequence[str]) -> Outcome:
+def _unmounted(file: str, shard: Shard) -> int:
+    """How many pictures a catalogue has of a folder that is gone, or in which nothing is."""
+    if not os.path.exists(file) or (shard.is_there and _has_some(shard.part.folder)):
+        return 0
     with Catalogue(file) as catalogue:
-        count = catalogue.count_below(shard.part.folder)
-    return not_looked_at(
-        shard, Problem.UNREADABLE, f"the folder isn't there or can't be read; its {count:,} pictures stay as they were", patterns
-    )
+        return catalogue.count_below(shard.part.folder)
+
+
+def _has_some(folder: bytes) -> bool:
+    """Whether something is in a folder. One that can't be listed is named by the run."""
+    try:
+        with os.scandir(folder) as entries:
+            return any(True for _ in entries)
+    except OSError:
+        return True
 
 
 def not_looked_at(shard: Shard, problem: Problem, detail: str, patterns: Sequence[str]) -> Outcome:
