@@ -205,7 +205,7 @@ def test_counts_and_next_steps(archive, called_lines):
     (archive / "p" / "b" / "cut.jpg").write_bytes(picture(4)[:-9])
     lines = called_lines("index", "p", "--shards", "shards")[1]
     assert any(line.endswith("1 cut off or damaged") for line in lines), lines
-    assert "refused or unreadable: exifnorm-pictures report --catalogue shards --html report/" in lines[-1]
+    assert "refused or unreadable: exifnorm-pictures report shards --html report/" in lines[-1]
     assert called_lines("same", "--catalogue", "shards")[0] == 0
 
 

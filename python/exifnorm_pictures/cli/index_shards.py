@@ -115,8 +115,8 @@ def _next_steps(arguments: argparse.Namespace, outcome: Outcome) -> Iterator[str
     if outcome.continued:
         folders = "1 folder goes" if outcome.continued == 1 else f"{outcome.continued:,} folders go"
         yield f"{folders} on from a run that was stopped: pictures that it looked at count as unchanged"
-    yield f"groups of pictures that mean the same: exifnorm-pictures same --catalogue {word}"
+    yield f"groups of pictures that mean the same: exifnorm-pictures same {word}"
     if outcome.refused:
-        yield f"{outcome.refused:,} refused or unreadable: exifnorm-pictures report --catalogue {word} --html report/"
+        yield f"{outcome.refused:,} refused or unreadable: exifnorm-pictures report {word} --html report/"
     if outcome.excluded:
-        yield f"{outcome.excluded:,} excluded, and in a catalogue from an earlier run: exifnorm-pictures forget FOLDER --catalogue {word}"
+        yield f"{outcome.excluded:,} excluded, and in a catalogue from an earlier run: exifnorm-pictures forget {word} FOLDER"
