@@ -345,6 +345,17 @@ def test_another_picture_is_shown_beside_the_earlier_one(is_replaced: bool, fold
     assert files_of(re.findall('href="([^"]*)"', after)) == {os.fsencode(folder / sides[1] / "a.jpg")} and "<img" in after
 
 
+def test_damaged_pictures_come_first(folder: Path, called: Called) -> None:
+    files = {f"p/{number}.jpg": picture(b"%03d" % number) for number in range(5)}
+    put(str(folder), files)
+    called("index", "p", "--catalogue", "c", "--quiet")
+    put(str(folder), {**{it: picture(b"new") for it in files}, "p/3.jpg": files["p/3.jpg"][:-9]})
+    called("index", "p", "--catalogue", "c", "--keep-old", "old", "--quiet")
+    called("report", "c", "--since", "old", "--html", "page.html")
+    kinds = re.findall(r'data-kind="([^"]*)"', (folder / "page.html").read_text(encoding="utf-8"))
+    assert "damaged" in kinds[0] and "different" in kinds[1:]
+
+
 # Words
 
 

@@ -256,6 +256,31 @@ def test_the_earlier_picture_of_a_file_that_was_replaced(folder: Path, called: C
     assert "the earlier file is gone" not in page and "as the last report kept it" in page
 
 
+def test_a_file_that_changed_since_it_was_indexed_is_shown_as_it_is(folder: Path, called: Called) -> None:
+    """The catalogue has the digest of what it was, and a small picture of that is kept."""
+    path = folder / "p" / "a.png"
+    path.parent.mkdir()
+    saved(half_red(), path)
+    called("index", "p", "--catalogue", "c", "--quiet", "--pixels")
+    called("report", "c", "--html", "report/")
+    saved(Image.new("RGB", (800, 400), BLUE), path)
+    called("report", "c", "--html", "report/")
+    (name,) = kept(folder / "report")
+    assert not is_red(Image.open(folder / "report" / name).getpixel((100, 20)))
+
+
+def test_long_files_that_begin_alike_are_two(tmp_path: Path, shrinker: thumbnails.Shrinker, monkeypatch: pytest.MonkeyPatch) -> None:
+    """Of a format without a digest of the coded picture. Only the beginning of a very long file is read for one."""
+    monkeypatch.setattr(small_pictures, "_PIECE", 100)
+    monkeypatch.setattr(small_pictures, "_MOST_PIECES", 2)
+    lower = half_red().transpose(Image.Transpose.FLIP_TOP_BOTTOM)
+    lower.paste(BLUE, (0, 396, 800, 400))  # as of the other, which a BMP begins with
+    paths = [saved(picture, tmp_path / name) for name, picture in (("a.bmp", half_red()), ("b.bmp", lower))]
+    assert len({Path(os.fsdecode(it)).read_bytes()[:200] for it in paths}) == 1
+    uris = small(paths, shrinker)
+    assert [is_red(shown(uris, it).getpixel((100, 20))) for it in paths] == [True, False]
+
+
 def with_thumbnail(octets: bytes) -> bytes:
     """An Exif block with a thumbnail (CIPA DC-008, 4.5.5)."""
     entries = [(0x0103, 3, 1, 6), (0x0201, 4, 1, 68), (0x0202, 4, 1, len(octets))]

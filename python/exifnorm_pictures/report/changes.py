@@ -22,7 +22,7 @@ from .entries import Entry, chunks
 from .marking import Marker, Pieces
 from .moved_folders import MovedFolder, MovedFolders
 
-_RESULTS = list(Result)
+_RESULTS = sorted(Result, key=lambda result: result not in (Result.DAMAGED, Result.DAMAGED_DIFFERENT))  # which somebody has to look after
 _NUL = b"\0"  # which no name has
 
 
@@ -127,7 +127,7 @@ class Changes:
         return self._folders.lines()
 
     def entries(self) -> Iterator[Entry]:
-        """Each difference with its pictures, by what happened and by their number; of many pictures so many as a page has."""
+        """Each difference with its pictures, by what happened and by their number, damaged ones first; of many pictures so many as a page has."""
         for text, count, names in self._equal.all(by_rank=True):
             rank, note, all_rows, is_other = json.loads(text)
             result = _RESULTS[rank]
