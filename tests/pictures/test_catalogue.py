@@ -256,7 +256,7 @@ class Archive(InFolder):
         shutil.copy(self.path("c"), self.path("d"))
         self.rows_by_path("c")
         one, several = (
-            [it.replace(f"--catalogue {name}", "") for it in self.asked("index", "p", "--catalogue", name, "--again", "--jobs", jobs)]
+            [it.replace(f" {name} ", " ") for it in self.asked("index", "p", "--catalogue", name, "--again", "--jobs", jobs)]
             for name, jobs in (("c", "1"), ("d", "3"))
         )
         self.assertEqual(one, several)
@@ -351,7 +351,7 @@ class Processes(WithPictures):
     def test_what_a_process_that_died_left(self):
         """Rows that no result names are removed before their pictures are looked at again: in a long run they would fill the disk."""
         ending = (
-            "import time\nread, by_each = extraction.blocks_of_file, processes._one_by_one\n"
+            "import time\nread, by_each, processes.SHORT = extraction.blocks_of_file, processes._one_by_one, 0\n"
             "def blocks_of(path, *more):\n"
             "    if path.endswith(b'00.jpg') and not os.path.exists('died'):\n"
             "        while not os.path.exists('room/rows-1'): time.sleep(0.001)\n"  # the other process's

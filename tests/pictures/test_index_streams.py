@@ -16,7 +16,7 @@ from work import Counting, compiled
 from exifnorm_pictures.catalogue.store import Catalogue
 from exifnorm_pictures.model.records import PictureRecord
 from exifnorm_pictures.scan import index, workers
-from exifnorm_pictures.scan.batches import How
+from exifnorm_pictures.scan.batches import How, batch
 from exifnorm_pictures.scan.excluded import Excluded
 
 NAMES = [b"a", b"a/b", b"a/b/c", b"a/d", b"e"]  # of folders
@@ -144,6 +144,23 @@ def test_a_run_that_is_stopped_takes_no_picture_for_gone(tmp_path):
         assert not [it for it in rows(catalogue) if it[5]]
         assert run(catalogue, [top], 50, again=True)["Vanished"] == 100
         assert {os.path.basename(os.path.dirname(it[0])) for it in rows(catalogue) if it[5]} == {b"0003"}
+
+
+def test_rows_of_files_and_single_results_keep_the_order(tmp_path):
+    """A catalogue takes rows of files over before it adds others, and several processes return both."""
+    (tmp_path / "p").mkdir()
+    many(os.fsencode(tmp_path / "p"), 100)
+
+    def mixed(work, how):
+        for number, result in enumerate(looked(work, how)):
+            yield batch(str(tmp_path / f"rows{number}"), [result], [], None) if number % 5 in (1, 2) else result
+
+    found = []
+    for name, look in (("one", looked), ("mixed", mixed)):
+        with Catalogue(str(tmp_path / name), make=True) as catalogue:
+            run(catalogue, [os.fsencode(tmp_path / "p")], 50, look)
+            found.append([row[0] for row in rows(catalogue)])
+    assert found[0] == found[1] and len(found[0]) == 100
 
 
 @pytest.mark.parametrize("processes", (1, 3, 64))

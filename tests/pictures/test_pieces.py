@@ -315,8 +315,12 @@ class Work(WithPictures):
         with mock.patch.object(
             workers, "_look", lambda it, how: PictureRecord.of(it.path, it.root, problem="NoPicture" if how.whole else "Vanished")
         ), mock.patch.object(workers.time, "monotonic", lambda: next(times)):
-            it = workers.look_at_some(workers.Task(found, self.path("rows")), batches.How(whole=True))
+            few = workers.look_at_some(workers.Task(found, self.path("rows")), batches.How(whole=True))
+            times = iter([0.0, 1.9, 2.0, 2.1])
+            with mock.patch.object(workers, "SHORT", 3):
+                it = workers.look_at_some(workers.Task(found, self.path("rows")), batches.How(whole=True))
         self.assertEqual((it.file, it.states, it.lines, it.unread, it.left), (self.path("rows"), {"NoPicture": 3}, [], [], found[3:]))
+        self.assertEqual(([one.path for one in few.entries], few.left), ([b"/0", b"/1", b"/2"], found[3:]))
 
     def test_rows_of_a_part(self):
         """Those that can't be read have none: if they were known before, their earlier results stay."""

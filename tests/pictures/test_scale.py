@@ -248,7 +248,7 @@ class Scale(WithPictures):
             own.append(costs["own statement"])
             self.assertGreater(costs["statement"] - costs["own statement"], 3 * count)  # a picture's row and those of its two blocks
         self.assertLess(own[1] - own[0], 50)
-        self.assertLess(own[1], 300)
+        self.assertLess(own[1], 350)  # the pictures of the first tasks, which are short, come one by one
 
     # Modules
 

@@ -301,6 +301,8 @@ class _Looking:
     def _look(self, files: Iterable[FoundFile]) -> None:
         """Looks at pictures, and commits each result."""
         for result in self.options.look(files, self.options.how):
+            if isinstance(result, Batch) and self.ready and not isinstance(self.ready[-1], Batch):
+                self.commit()  # a catalogue takes the pictures of files first, and their order is that of the names
             self.ready.append(result)
             self.files += isinstance(result, Batch)
             self.pictures += sum(result.states.values()) if isinstance(result, Batch) else 1

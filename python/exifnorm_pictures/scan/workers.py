@@ -15,7 +15,7 @@ from concurrent.futures import Future, ProcessPoolExecutor, wait
 from concurrent.futures.process import BrokenProcessPool
 from contextvars import ContextVar
 from multiprocessing import util
-from typing import Deque, Iterable, Iterator, List, NamedTuple, Sequence, Set
+from typing import Deque, Iterable, Iterator, List, NamedTuple, Sequence, Set, Union
 
 from ..extract import programs
 from ..files import signals
@@ -30,6 +30,7 @@ from .walk import FoundFile
 CHUNK = 500  # pictures that a process gets at once at most
 PARTS = 8  # chunks of each process at least, so that all end at nearly the same time ..
 LEAST_CHUNK = 8  # .. unless they have fewer pictures than this
+SHORT = 16  # pictures for which a file of rows takes longer than objects; many objects would keep the process waiting that writes
 SIZES = [LEAST_CHUNK << it for it in range(6)]  # of the first chunks
 AHEAD = 64_000  # files at most that are known before a process gets them
 WATCH = 5.0  # seconds after which it is looked whether a result can still come
@@ -39,8 +40,15 @@ class CannotStart(programs.Failed):
     """No further process or thread can be started. The text is the reason."""
 
 
+class Few(NamedTuple):
+    """Some pictures that were looked at, too few for a file of rows."""
+
+    entries: Sequence[PictureRecord]
+    left: Sequence[FoundFile]  # the pictures after them, which were not looked at yet
+
+
 class Task(NamedTuple):
-    """Pictures for a process, and the file to which it writes their rows."""
+    """Pictures for a process, and the file to which it writes their rows, if they are many."""
 
     chunk: Sequence[FoundFile]
     file: str
@@ -93,7 +101,7 @@ def chunks_of(work: Iterator[FoundFile], processes: int) -> Iterator[List[FoundF
     yield from (ahead[at : at + size] for at in range(0, len(ahead), size))
 
 
-def look_at_some(task: Task, how: How) -> Batch:
+def look_at_some(task: Task, how: How) -> Union[Batch, Few]:
     """A process's results for the first pictures of a task: for all of them, unless that takes too long or too much memory."""
     ends_at = time.monotonic() + LONGEST_WAIT
     entries: List[PictureRecord] = []
@@ -103,7 +111,8 @@ def look_at_some(task: Task, how: How) -> Batch:
         size += entries[-1].kept_bytes
         if size >= READY_BYTES or time.monotonic() > ends_at:
             break
-    return batch(task.file, entries, task.chunk[len(entries) :], how.lines)
+    left = task.chunk[len(entries) :]
+    return Few(entries, left) if len(entries) < SHORT and size < READY_BYTES else batch(task.file, entries, left, how.lines)
 
 
 def _look(file: FoundFile, how: How) -> PictureRecord:
@@ -130,9 +139,9 @@ def _begin(how: How, parent: int, mask: Set[int]) -> None:
     util.Finalize(None, session.close, exitpriority=10)  # the processes of a pool don't run atexit
 
 
-def _by_processes(chunks: Iterator[Sequence[FoundFile]], how: How, files: Iterator[str], unfinished: List[Task]) -> Iterator[Batch]:
+def _by_processes(chunks: Iterator[Sequence[FoundFile]], how: How, files: Iterator[str], unfinished: List[Task]) -> Iterator[Result]:
     """The results of several processes. If one of them dies, the tasks that have no result are left in `unfinished`, without files."""
-    waiting: "Deque[Future[Batch]]" = deque()  # in the order of `unfinished`, which has a task before it is given to the pool
+    waiting: "Deque[Future[Union[Batch, Few]]]" = deque()  # in the order of `unfinished`, which has a task before it is given to the pool
     pool = _pool(how, how.processes)
     try:
         while True:
@@ -148,7 +157,10 @@ def _by_processes(chunks: Iterator[Sequence[FoundFile]], how: How, files: Iterat
             result = waiting[0].result()
             waiting.popleft()
             unfinished[:1] = [Task(result.left, next(files))] if result.left else []
-            yield result
+            if isinstance(result, Few):
+                yield from result.entries
+            else:
+                yield result
             if result.left:
                 waiting.appendleft(pool.submit(look_at_some, unfinished[0], how))
         pool.shutdown()
