@@ -2,6 +2,8 @@
 
 import json
 import os
+import re
+import shutil
 
 import pytest
 from made_files import app1, exif, jpeg
@@ -59,3 +61,21 @@ def test_a_folder_and_a_picture(archive, called):
         f"{archive}/monday/a.jpg: Moved: to {archive}/first.jpg",
         f"{archive}/monday: Moved: 3 pictures to {archive}/tuesday",
     ]
+
+
+def test_a_folder_that_moved_into_another_one(archive, called):
+    """The folder above it has stayed, and isn't named."""
+    put(archive / "wednesday", {"e.jpg": jpeg(app1(exif(b"eee")))})
+    called("index", "p", "--catalogue", "c", "--quiet")
+    shutil.copy("c", "before")
+    (archive / "year").mkdir()
+    (archive / "monday").rename(archive / "year/monday")
+    assert moves(called("index", "p", "--catalogue", "c")[1]) == [f"{archive}/monday: Moved: 4 pictures to {archive}/year/monday"]
+    shutil.copy("before", "c")
+    printed = called("nightly", "p", "--catalogue", "c")[1]
+    assert "4 moved with their folder: monday to year/monday\n" in printed, printed
+    called("report", "c", "--since", "before", "--html", "page.html")
+    texts = re.sub(r"<[^>]*>", " ", (archive.parent / "page.html").read_text(encoding="utf-8"))
+    assert "monday to year/monday" in " ".join(texts.split())
+    status, printed, _ = called("changed", "before", "c")
+    assert status == 1 and "4 moved" in printed and "1 same" in printed, printed

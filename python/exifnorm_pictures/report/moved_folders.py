@@ -3,7 +3,9 @@
 from __future__ import annotations
 
 from collections import Counter
-from typing import List, NamedTuple, Tuple
+from typing import Dict, List, NamedTuple, Tuple
+
+from ..scan.moved import deepest, shared_folder
 
 MOST = 10_000  # pairs of folders that are counted
 
@@ -37,13 +39,15 @@ class MovedFolders:
 
     def __init__(self) -> None:
         self._counts: "Counter[Tuple[bytes, bytes]]" = Counter()
+        self._shared: Dict[Tuple[bytes, bytes], bytes] = {}
 
     def add(self, name: bytes, place: bytes) -> None:
         """Counts a picture that moved."""
         pair = folders_of(name, place)
         if pair != (b"", b"") and (pair in self._counts or len(self._counts) < MOST):
             self._counts[pair] += 1
+            self._shared[pair] = shared_folder(self._shared.get(pair), name)
 
     def lines(self) -> List[MovedFolder]:
         """The folders from which two and more pictures moved to another one, those of the most pictures first."""
-        return [MovedFolder(*pair, count) for pair, count in self._counts.most_common() if count > 1]
+        return [MovedFolder(*deepest(pair, self._shared[pair]), count) for pair, count in self._counts.most_common() if count > 1]

@@ -24,7 +24,7 @@ from ..model.problems import AGAIN, GONE, NEEDED, Problem
 from ..model.records import PictureRecord, is_as_before
 from .batches import LONGEST_WAIT, Batch, How, Lines, Result
 from .excluded import Excluded
-from .moved import Departed, moved_folders
+from .moved import Departed, deepest, moved_folders, shared_folder
 from .progress import Progress
 from .seen import Numbers, Paths
 from .walk import FoundFile, Part, Unlisted, below, can_overlap, outermost
@@ -112,13 +112,17 @@ def _settle(options: IndexOptions, at_work: "_Looking", departed: Departed) -> N
     if work.new:
         departed.settle(catalogue, run, lambda path: path not in work.reread)
     folders: "Counter[Tuple[bytes, bytes]]" = Counter()
-    if options.moved_line:
-        folders.update(filter(None, (moved_folders(*it) for it in departed.moves())))
-    for (path, to), picture in zip(departed.each(), departed.reports()):
-        both = None if to is None else moved_folders(path, to)
+    shared: Dict[Tuple[bytes, bytes], bytes] = {}
+    for path, to in departed.moves() if options.moved_line else ():
+        both = moved_folders(path, to)
+        if both:
+            folders[both] += 1
+            shared[both] = shared_folder(shared.get(both), path)
+    for (path, place), picture in zip(departed.each(), departed.reports()):
+        both = None if place is None else moved_folders(path, place)
         at_work.count(picture, None if both and folders[both] > 1 else options.how.lines)
     if options.moved_line:
-        at_work.print_lines(options.moved_line(*key, count) for key, count in folders.items() if count > 1)
+        at_work.print_lines(options.moved_line(*deepest(key, shared[key]), count) for key, count in folders.items() if count > 1)
 
 
 def _now() -> str:

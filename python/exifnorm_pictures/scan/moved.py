@@ -2,6 +2,7 @@
 
 from __future__ import annotations
 
+import functools
 import hashlib
 import os
 import sqlite3
@@ -121,14 +122,35 @@ def moved_together(went: Dict[bytes, bytes]) -> Dict[Tuple[bytes, bytes], List[b
     """The pictures that moved from one folder to another with the path below it, by these two folders; two and more of each.
 
     >>> moved_together({b"/a/x/1.jpg": b"/b/x/1.jpg", b"/a/x/2.jpg": b"/b/x/2.jpg", b"/a/3.jpg": b"/c/4.jpg"})
-    {(b'/a', b'/b'): [b'/a/x/1.jpg', b'/a/x/2.jpg']}
+    {(b'/a/x', b'/b/x'): [b'/a/x/1.jpg', b'/a/x/2.jpg']}
     """
     together: Dict[Tuple[bytes, bytes], List[bytes]] = {}
     for old, new in went.items():
         folders = moved_folders(old, new)
         if folders:
             together.setdefault(folders, []).append(old)
-    return {key: paths for key, paths in together.items() if len(paths) > 1}
+    return {deepest(key, functools.reduce(shared_folder, paths, None) or b""): paths for key, paths in together.items() if len(paths) > 1}
+
+
+def shared_folder(folder: Optional[bytes], path: bytes) -> bytes:
+    """The deepest folder that has a picture and all that another folder has; of the first picture its own folder.
+
+    >>> shared_folder(None, b"/a/x/1.jpg"), shared_folder(b"/a/x/y", b"/a/x/1.jpg"), shared_folder(b"/a/x", b"/a/z/1.jpg")
+    (b'/a/x', b'/a/x', b'/a')
+    """
+    own = os.path.dirname(path)
+    return own if folder is None else os.path.commonpath([folder, own])
+
+
+def deepest(folders: Tuple[bytes, bytes], shared: bytes) -> Tuple[bytes, bytes]:
+    """The folder that moved, and where it is: the one above it may have others that stayed.
+
+    >>> deepest((b"/a", b"/a/new"), b"/a/x"), deepest((b"/a", b"/b"), b"/a")
+    ((b'/a/x', b'/a/new/x'), (b'/a', b'/b'))
+    """
+    below = shared[len(folders[0]) :].strip(b"/")
+    old, new = (os.path.join(folder, below) if below else folder for folder in folders)
+    return old, new
 
 
 def moved_folders(old: bytes, new: bytes) -> Optional[Tuple[bytes, bytes]]:
