@@ -16,7 +16,7 @@ from pathlib import Path
 import pytest
 from attacks import FILES
 from made_blocks import BLOCKS, with_exif
-from made_files import app1, app1_xmp, exif, jpeg, packed_zeros, title
+from made_files import app1, app1_xmp, exif, jpeg, packed_zeros, png, png_xmp, title, xmp
 from studio import SMALL_JPEG, TOP, Studio, write
 
 SECONDS, MEMORY = 50, 256 << 20  # none takes a tenth of this time; one that goes through its data again and again takes far more
@@ -132,6 +132,20 @@ def test_a_file(name, tmp_path):
         os.remove(tmp_path / "p" / name)  # which pytest would keep
     found = words_of(tmp_path / "c")
     assert any(word in it for it in found) if word else "TooMuch" not in found, found
+
+
+@pytest.mark.parametrize(
+    "words", (["compare", "p/a.png", "q/a.png"], ["changed", "p", "q", "--quiet"], ["same", "--catalogue", "c"]), ids=" ".join
+)
+def test_a_pattern_of_fields(words, tmp_path):
+    """A property has a long name, in which the first word of the pattern is everywhere, and the second one nowhere."""
+    for number, side in enumerate("pq"):
+        (tmp_path / side).mkdir()
+        name = "date" * 200_000
+        write(tmp_path / side / "a.png", png(png_xmp(xmp(f"<dc:{name}>{number}</dc:{name}>"), packed=True)))
+    index = ["index", "p", "--catalogue", "c", "--quiet", "--jobs", "1"]
+    for ended in run_each(tmp_path, [index, [*words, "--ignore", "*date*time*", "--ignore", "*d?t*m?"]], PATH="/nowhere"):
+        ended.check(0, 1, 2)
 
 
 def installed_command(folder):

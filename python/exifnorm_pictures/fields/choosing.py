@@ -3,6 +3,7 @@
 from __future__ import annotations
 
 import difflib
+import fnmatch
 import re
 from dataclasses import dataclass
 from typing import Callable, Dict, FrozenSet, Iterable, Iterator, List, Sequence, Tuple
@@ -56,7 +57,8 @@ def fits_of(pattern: str) -> Test:
 
 
 def _compiled(folded: str) -> "re.Pattern[str]":
-    return re.compile("".join({"*": ".*", "?": "."}.get(it, re.escape(it)) for it in folded), re.S)
+    """A pattern as a regular expression that never goes back to an earlier star: names of properties are a stranger's, and may be megabytes."""
+    return re.compile(fnmatch.translate(folded.replace("[", "[[]")))
 
 
 def _of_form(folded: str, names: Iterable[str]) -> Iterator[str]:
