@@ -187,7 +187,6 @@ def test_what_is_wrong(archive, called_lines, capsys):
         (("p", "--shards", "full/file"), "is no folder of catalogues"),
         (("p", "--shards", "shards", "--keep-old", "old"), "--keep-old"),
         (("p", "--shards", "shards", "--elsewhere", "/x"), "--elsewhere"),
-        (("p", "--shards", "shards", "--sidecars", "--scheduler", "tcp://127.0.0.1:9"), "sidecars"),
     ):
         status, lines, messages = called_lines("index", *words)
         assert (status, lines) == (3, []) and text in messages, words

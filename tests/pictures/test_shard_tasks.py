@@ -6,12 +6,13 @@ from types import SimpleNamespace
 from unittest import mock
 
 import pytest
-from made_files import app1, exif, jpeg
+from made_files import app1, exif, jpeg, title
 from studio import needs, run, write
 from test_index_shards import archive, picture, rows
 from with_cluster import EXV, WithCluster
 
 from exifnorm_pictures.catalogue import shards
+from exifnorm_pictures.catalogue.store import Catalogue
 from exifnorm_pictures.extract import programs
 from exifnorm_pictures.scan import cluster, shard_tasks
 from exifnorm_pictures.scan.batches import How
@@ -116,7 +117,7 @@ def indexed(archive):
         with mock.patch.multiple(cluster, create=True, distributed=near, KilledWorker=Killed, CommClosedError=Killed):
             parts = Parts(FAR, str(archive / "shards"), False, How(), patterns)
             planned = parts.planned([os.fsencode(archive / "p")])
-            outcomes = {os.path.basename(shard.part.folder): it for shard, it in parts.outcomes(planned, How(pixels=True))}
+            outcomes = {os.path.basename(shard.part.folder): it for shard, it in parts.outcomes(planned, How(pixels=True, sidecars=True))}
         return planned, outcomes
 
     return call
@@ -130,6 +131,15 @@ def test_no_name_of_a_picture_and_no_row_goes_through_the_client(archive, indexe
     for octets in (*near.sent, *near.returned):
         assert b".jpg" not in octets and b"deep" not in octets
     assert max(map(len, near.returned[1:])) < 400, "counts of a part"
+
+
+def test_sidecars_are_read_by_workers(archive, indexed):
+    (archive / "p" / "b" / "3.xmp").write_bytes(title("beside"))
+    _, outcomes = indexed(Near())
+    assert outcomes[b"b"].counts == {"accepted": 2}
+    with Catalogue(shards.shards_of(str(archive / "shards")).there[1]) as catalogue:
+        first = next(catalogue.pictures())
+        assert catalogue.has_sidecars() and first.xmp and first.coded_picture is not None
 
 
 def test_few_parts_wait_for_each_worker(archive, indexed):

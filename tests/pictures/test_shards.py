@@ -224,10 +224,11 @@ def test_a_picture_in_two_catalogues_is_refused(archive, called_lines, are_apart
 
 
 def test_a_folder_is_one_of_pictures_unless_its_list_says_otherwise(archive, called_lines):
-    """A file of another kind with this name changes nothing."""
+    """A file of another kind with this name changes nothing, and neither does a folder."""
     (archive / "one" / "catalogues").write_text("catalogues of one archive, which are sold out\n")
+    (archive / "two" / "catalogues").mkdir()
     assert called_lines("changed", "one", "two", "--no-exiftool")[0] == 1
-    assert called_lines("list", "one")[1][-1] == "1 of 1 picture"
+    assert called_lines("list", "one")[1][-1] == called_lines("list", "two")[1][-1] == "1 of 1 picture"
     status, _, messages = called_lines("same", "--catalogue", "one")
     assert status == 4 and "no catalogue" in messages
 

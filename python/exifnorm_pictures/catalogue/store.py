@@ -229,12 +229,12 @@ def _check_head(name: str, make: bool) -> None:
 
 
 def list_of(folder: str) -> Optional[bytes]:
-    """What follows the first line of the list of a folder of catalogues; None if the folder has no such list."""
-    try:
-        with files.reading(os.path.join(folder, LIST)) as file:
-            octets = file.read(_LONGEST_LIST)
-    except (FileNotFoundError, NotADirectoryError):
+    """What follows the first line of the list of a folder of catalogues; None if the folder has no such list. Raises `OSError`."""
+    name = os.path.join(folder, LIST)
+    if not os.path.isfile(name):  # a folder of pictures may have a folder of that name
         return None
+    with files.reading(name) as file:
+        octets = file.read(_LONGEST_LIST)
     return octets[len(LIST_HEAD) :] if octets.startswith(LIST_HEAD) else None
 
 

@@ -32,8 +32,6 @@ def run(arguments: argparse.Namespace) -> int:
         raise NotTogether("--keep-old copies one catalogue: copy the folder of --shards before the run")
     if arguments.elsewhere:
         raise NotTogether("--elsewhere has no use with --shards: FOLDER and DIR are the paths that the workers have")
-    if arguments.sidecars and arguments.scheduler:
-        raise NotTogether("XMP sidecars are read here only, not on the workers of a cluster: leave out --scheduler")
     planned, outcomes = (_on_cluster if arguments.scheduler else _here)(arguments, names)
     _print(arguments, together(planned, outcomes))
     counts = [outcome.counts for outcome in outcomes]
