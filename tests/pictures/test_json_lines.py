@@ -377,7 +377,11 @@ def test_explanations_and_copies(objects, folder, tmp_path):
 # Every command
 
 EVERY = {  # what is run of each command that the parser has, in any order
-    "index": ["index after --catalogue c.catalogue --pixels", "index after nothing --catalogue c.catalogue"],
+    "index": [
+        "index after --catalogue c.catalogue --pixels",
+        "index after nothing --catalogue c.catalogue",
+        "index after before --shards shards",
+    ],
     "merge": ["merge a.catalogue b.catalogue --catalogue all.catalogue"],
     "forget": ["forget before --catalogue forgotten.catalogue"],
     "relocate": ["relocate before after --catalogue elsewhere.catalogue"],
