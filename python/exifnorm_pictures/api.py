@@ -296,10 +296,8 @@ class Picture:
 
     def _is_unchanged(self) -> bool:
         """Whether the file is the one that was read."""
-        try:
-            return self._stamp is not None and is_marked_as(Stamp.of(os.stat(self._path)), self._stamp[:4])
-        except OSError:
-            return False
+        now = Stamp.at(self._path)
+        return now is not None and self._stamp is not None and is_marked_as(now, self._stamp[:4])
 
     @property
     def names(self) -> Tuple[str, ...]:

@@ -13,7 +13,7 @@ from ..fields.choosing import UnknownField
 from ..fields.labels import LABELS, label_of
 from ..judge.reading import Reading
 from ..model.found import STANDARDS, damage
-from ..model.texts import Members, escaped, shown_path
+from ..model.texts import Members, escaped, pictures_in_words, shown_path
 from .captions import text_members
 from .exit_codes import DIFFERENCE, SUCCESS, UNKNOWN
 from .labelled import is_open, members, origins, pictures, refused, together
@@ -161,22 +161,18 @@ def _print(reading: Reading, conflicts: Sequence[Conflict]) -> None:
 
 
 def _summary(counts: _Counts, every: bool) -> Iterator[str]:
-    yield f"{_pictures(counts.pictures)} read, {counts.twice:,} of them with a label in more than one of Exif, IPTC and XMP"
+    yield f"{pictures_in_words(counts.pictures)} read, {counts.twice:,} of them with a label in more than one of Exif, IPTC and XMP"
     if counts.real:
-        yield f"{_pictures(counts.real)} with a contradiction ({_listed(counts.labels)})"
+        yield f"{pictures_in_words(counts.real)} with a contradiction ({_listed(counts.labels)})"
     if counts.minor:
         kinds = Counter({kind.text: number for kind, number in counts.kinds.items()})
-        yield f"{_pictures(counts.minor)} with differences of form alone" + ("" if every else ", which --all lists")
+        yield f"{pictures_in_words(counts.minor)} with differences of form alone" + ("" if every else ", which --all lists")
         yield f"differences of form: {_listed(kinds)}"
     if counts.left_out:
         yield f"left out though they contradict: {_listed(counts.left_out)}"
     if counts.unread:
-        yield f"{_pictures(counts.unread)} not wholly read: a block is refused, unreadable or has too many fields, or the file is damaged or isn't read (explain)"
+        yield f"{pictures_in_words(counts.unread)} not wholly read: a block is refused, unreadable or has too many fields, or the file is damaged or isn't read (explain)"
 
 
 def _listed(counts: "Counter[str]") -> str:
     return ", ".join(f"{word} {number:,}" for word, number in counts.most_common())
-
-
-def _pictures(number: int) -> str:
-    return f"{number:,} picture{'' if number == 1 else 's'}"

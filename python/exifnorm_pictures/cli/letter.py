@@ -6,7 +6,7 @@ from itertools import groupby
 from typing import Iterator, List, Sequence
 
 from ..comparison.news import Kind, Named, News
-from ..model.texts import escaped, shown_path
+from ..model.texts import escaped, pictures_in_words, shown_path
 from .columns import width
 
 LINES, COLUMNS = 30, 80
@@ -58,12 +58,8 @@ def _of_folders(news: Sequence[News]) -> Iterator[str]:
     for entry in news:
         if entry.kind in _OF_FOLDERS:
             why = "can't be read." if entry.kind == Kind.CLOSED else "is empty or gone (mounted?)."
-            kept = f" {why} Its {_pictures(entry.count)} stay{'s' * (entry.count == 1)} as known."
+            kept = f" {why} Its {pictures_in_words(entry.count)} stay{'s' * (entry.count == 1)} as known."
             yield "  " + _from_behind(shown_path(entry.names[0].path), COLUMNS - 2 - len(kept)) + kept
-
-
-def _pictures(count: int) -> str:
-    return f"{count:,} picture{'s' * (count != 1)}"
 
 
 def _of_pictures(news: Sequence[News]) -> Iterator[str]:

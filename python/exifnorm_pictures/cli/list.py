@@ -15,7 +15,7 @@ from ..fields.labels import DAMAGE, POSITION, is_in_maker_notes
 from ..fields.places import place_of
 from ..fields.questions import Not, Question, With, WrongQuestion, all_of, given_label, labels_of, question_of
 from ..files import signals
-from ..model.texts import Members, escaped, path_members, shown_path
+from ..model.texts import Members, escaped, path_members, pictures_in_words, shown_path
 from . import listed_texts
 from .exit_codes import SUCCESS, UNKNOWN
 from .looking import Preparing, catalogue_for_questions, refuse_for_catalogues
@@ -135,7 +135,11 @@ def _print_end(arguments: argparse.Namespace, answer: Answer, listed: int, damag
         numbers: Members = {"pictures": answer.count(), "listed": listed, "not_known": answer.not_known(), "damaged": damaged}
         print_object("list", "summary", numbers)
         return
-    end = f"{listed:,} of {_pictures(answer.count())}" + f", {damaged:,} of them cut off or damaged" * bool(damaged) + _of_unknown(answer)
+    end = (
+        f"{listed:,} of {pictures_in_words(answer.count())}"
+        + f", {damaged:,} of them cut off or damaged" * bool(damaged)
+        + _of_unknown(answer)
+    )
     if not (arguments.csv or arguments.null or arguments.geojson):
         print_line(end)
         if arguments.since and listed:
@@ -158,10 +162,6 @@ def _unread(labels: Sequence[str]) -> str:
     if any(map(is_in_maker_notes, labels)):
         return "they were not wholly read, or have a MakerNote, which index --maker-notes --again reads"
     return "they were not wholly read"
-
-
-def _pictures(count: int) -> str:
-    return f"{count:,} picture{'s' * (count != 1)}"
 
 
 # Counts
@@ -191,7 +191,7 @@ def _print_end_of_counts(arguments: argparse.Namespace, answer: Answer, label: s
         print_object("list", "summary", {"pictures": having + without + not_known, "with": having, "not_known": not_known})
         return not_known
     more = f"; of {not_known:,} that isn't known: {_unread([label])}" if not_known else ""
-    end = f"{_pictures(having)} with a text of {label}, {without:,} without{more}"
+    end = f"{pictures_in_words(having)} with a text of {label}, {without:,} without{more}"
     if not arguments.csv:
         print_line(end)
     elif not_known:

@@ -23,7 +23,7 @@ from ..model.results import Result
 from ..model.errors import WrongUse
 from ..model.found import KINDS
 from ..model.records import PictureRecord
-from ..model.texts import Members, path_members, shown_path
+from ..model.texts import Members, path_members, pictures_in_words, shown_path
 from . import listed_texts
 from .choice import choice_of, listings_of, note_absent, refuse_unknown
 from .exit_codes import UNKNOWN, status_of_results
@@ -220,15 +220,11 @@ def _of_absent(count: int) -> str:
 
 def _of_coded_pictures(counts: CodedPictures) -> Iterator[str]:
     """How many pictures were compared, and how many weren't."""
-    yield f"{_pictures(counts.compared)} compared by the data that {'its' if counts.compared == 1 else 'their'} pixels are decoded from"
+    yield f"{pictures_in_words(counts.compared)} compared by the data that {'its' if counts.compared == 1 else 'their'} pixels are decoded from"
     if counts.other:
-        yield f"{_pictures(counts.other)} not compared: no digest is made of a picture in their format"
+        yield f"{pictures_in_words(counts.other)} not compared: no digest is made of a picture in their format"
     if counts.damaged:
-        yield f"{_pictures(counts.damaged)} not compared: damaged"
-
-
-def _pictures(count: int) -> str:
-    return f"{count:,} picture{'s' * (count != 1)}"
+        yield f"{pictures_in_words(counts.damaged)} not compared: damaged"
 
 
 _NOT_FOUND = "A copy that was resized or saved again has other data, and isn't found by them"

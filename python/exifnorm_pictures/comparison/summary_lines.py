@@ -6,7 +6,7 @@ from collections import Counter
 from typing import Callable, Iterator, List, NamedTuple, Optional, Sequence
 
 from ..model.results import Result
-from ..model.texts import shown_path
+from ..model.texts import pictures_in_words, shown_path
 from . import changed
 from .summary import FIELDS, PARTS, FieldCount, PartCount, Summary
 from .wording import cut
@@ -27,7 +27,7 @@ class Line(NamedTuple):
     @property
     def number(self) -> str:
         """The number of pictures in words."""
-        return _pictures(self.pictures) + self.note
+        return pictures_in_words(self.pictures) + self.note
 
 
 Fits = Callable[[Sequence[Line]], bool]  # whether there is room for some lines
@@ -55,11 +55,7 @@ def sentence(counts: "Counter[Result]") -> str:
         others = undecided - sum(damaged.values())
         many = many[: bool(changes)] + [f"{count:,} {it}" for it, count in damaged.items()]
         many += [f"{others:,} not wholly compared"] * bool(others)
-    return f"{_pictures(total)} compared: {', '.join(many)}."
-
-
-def _pictures(count: int) -> str:
-    return f"{count:,} picture{'s' * (count != 1)}"
+    return f"{pictures_in_words(total)} compared: {', '.join(many)}."
 
 
 # What changed

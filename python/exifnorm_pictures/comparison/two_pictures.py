@@ -83,9 +83,7 @@ class ComparedPair:
 def read(name: bytes, how: How, session: Session) -> PictureRecord:
     """Reads a picture as `index --pixels` does, always with the digest of its file, if it can be read."""
     path = os.path.abspath(name)
-    stamp = None
-    with contextlib.suppress(OSError):
-        stamp = Stamp.of(os.stat(path))
+    stamp = Stamp.at(path)
     if stamp is None and not os.path.lexists(path):
         return PictureRecord.of(path, b"", problem=Problem.NO_FILE, detail=Problem.NO_FILE.text)
     picture = look(FoundFile(path, os.path.dirname(path), stamp), how, session, packs=False)

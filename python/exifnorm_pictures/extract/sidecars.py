@@ -173,10 +173,7 @@ def marks(path: bytes, sidecars: Sequence[Sidecar], is_racy: Callable[[int, int]
     """
     lines = []
     for sidecar in sidecars:
-        try:
-            now = Stamp.of(os.stat(os.path.join(os.path.dirname(path), sidecar.file)))
-        except OSError:
-            now = Stamp(0, 0, RACY, 0)
+        now = Stamp.at(os.path.join(os.path.dirname(path), sidecar.file)) or Stamp(0, 0, RACY, 0)
         changed = RACY if is_racy(now.modified, now.changed) else now.changed
         lines.append(f"{sidecar.file.hex()} {now.size} {now.modified} {changed} {now.inode}")
     return "\n".join(lines)

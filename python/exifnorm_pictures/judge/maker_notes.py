@@ -6,7 +6,6 @@ from __future__ import annotations
 
 import hashlib
 import json
-import os
 import zlib
 from collections import Counter
 from typing import Dict, Iterator, List, NamedTuple, Optional, Sequence, Tuple
@@ -168,7 +167,5 @@ def compared_notes(session: Session, sides: Sides, picture: PictureRecord, other
 
 def is_as_it_was(picture: PictureRecord) -> bool:
     """Whether the file is the one that was looked at."""
-    try:
-        return is_marked_as(Stamp.of(os.stat(picture.path)), picture.marks)
-    except (OSError, ValueError):  # a name that has a NUL
-        return False
+    now = Stamp.at(picture.path)
+    return now is not None and is_marked_as(now, picture.marks)

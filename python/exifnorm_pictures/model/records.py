@@ -112,6 +112,14 @@ class Stamp(NamedTuple):
             return tuple.__new__(cls, marks)
         return cls._make(map(_in_64_bits, marks))
 
+    @classmethod
+    def at(cls, path: bytes) -> "Optional[Stamp]":
+        """That of the file with this name; None if it isn't known."""
+        try:
+            return cls.of(os.stat(path))
+        except (OSError, ValueError):  # a name of a catalogue may have a NUL
+            return None
+
 
 def is_as_before(stamp: Stamp, other: Stamp) -> bool:
     """Whether two stamps show no edit."""

@@ -97,6 +97,15 @@ def path_members(path: bytes) -> Members:
         return {"path": shown_path(path), "path_hex": path.hex()}
 
 
+def pictures_in_words(count: int) -> str:
+    """A number of pictures.
+
+    >>> pictures_in_words(1), pictures_in_words(2000)
+    ('1 picture', '2,000 pictures')
+    """
+    return f"{count:,} picture{'s' * (count != 1)}"
+
+
 def moved_line(old: bytes, new: bytes, count: int) -> str:
     """A line for the pictures of a folder that moved together."""
     return f"{shown_path(old)}: Moved: {count:,} pictures to {shown_path(new)}"

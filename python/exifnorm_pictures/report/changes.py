@@ -3,7 +3,6 @@
 from __future__ import annotations
 
 import json
-import os
 from collections import Counter
 from typing import Iterator, List, NamedTuple, Optional, Tuple
 
@@ -154,10 +153,8 @@ class Changes:
 
 def _is_as_it_was(path: Optional[bytes], known: Known) -> bool:
     """Whether a file is there, as a catalogue knows it."""
-    try:
-        return bool(path and known.stamp and is_as_before(Stamp.of(os.stat(path)), known.stamp))
-    except OSError:
-        return False
+    now = Stamp.at(path) if path else None
+    return bool(now and known.stamp and is_as_before(now, known.stamp))
 
 
 def _path(head: bytes, name: bytes) -> bytes:

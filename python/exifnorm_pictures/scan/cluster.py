@@ -40,14 +40,7 @@ def look_there(root: bytes, names: Sequence[bytes], how: How) -> List[PictureRec
     """A worker's task: looks at files by their names relative to its own path of the folder."""
     with Session(how.seconds, how.debug) as session:
         paths = [os.path.join(root, name) for name in names]
-        return [looking.look(FoundFile(path, root, _stamp(path)), how, session) for path in paths]
-
-
-def _stamp(path: bytes) -> Optional[Stamp]:
-    try:
-        return Stamp.of(os.stat(path))
-    except OSError:
-        return None
+        return [looking.look(FoundFile(path, root, Stamp.at(path)), how, session) for path in paths]
 
 
 def looker(scheduler: str, elsewhere: Optional[str], names: Sequence[bytes]) -> Look:

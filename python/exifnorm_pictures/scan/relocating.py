@@ -2,7 +2,6 @@
 
 from __future__ import annotations
 
-import os
 import time
 from collections import Counter
 from itertools import islice
@@ -81,9 +80,8 @@ def _root(root: bytes, old: bytes, new: bytes) -> bytes:
 def _looked_at(place: bytes, marks: List[int], began: int) -> Tuple[str, Tuple[int, int, int]]:
     """Whether a file is as before, and the time of its last change of status, its inode and its device."""
     size, modified, *others = marks
-    try:
-        now = Stamp.of(os.stat(place))
-    except (OSError, ValueError):
+    now = Stamp.at(place)
+    if now is None:
         return ABSENT, (others[0], others[1], others[2])
     if (now.size, now.modified) != (size, modified):
         return CHANGED, (others[0], others[1], others[2])

@@ -118,7 +118,7 @@ def _below(
             if on_sidecar is not None and name in known.files:
                 on_sidecar(path)
             else:
-                yield FoundFile(path, top, _stamp(path), known.of(name))
+                yield FoundFile(path, top, Stamp.at(path), known.of(name))
 
 
 def _listed(folder: bytes, head: int, excluded: Excluded) -> Tuple[List[bytes], List[bytes]]:
@@ -142,13 +142,6 @@ def _leads_to_folder(entry: "os.DirEntry[bytes]") -> bool:
         return entry.is_dir()
     except OSError:  # a link that leads to itself
         return False
-
-
-def _stamp(path: bytes) -> Optional[Stamp]:
-    try:
-        return Stamp.of(os.stat(path))
-    except OSError:
-        return None
 
 
 def can_overlap(names: Sequence[bytes]) -> bool:
