@@ -9,6 +9,7 @@ import sqlite3
 import hypothesis
 import hypothesis.strategies as st
 import pytest
+from made_files import A, app1, app1_xmp, jpeg, xmp
 from test_groups import FILES, with_short_note
 from test_query_steps import SIZES, TIMES, make
 from work import Counting, compiled
@@ -52,7 +53,15 @@ OF_TWO = (
     "report {1} --since {0} --json --no-look",
 )
 FOLDERS = ("one", "two", "three")
-BEYOND = 12  # catalogues, of which SQLite attaches ten
+
+
+def titled(text, *parts):
+    """A picture with a title."""
+    return jpeg(*parts, app1_xmp(xmp(f"<dc:title><rdf:Alt><rdf:li xml:lang='x-default'>{text}</rdf:li></rdf:Alt></dc:title>")))
+
+
+TITLED = {"t1": titled("one"), "t2": titled("two"), "t3": titled("one", app1(A)), "t4": titled("One and more " * 9, app1(A))}
+PICTURES = {**FILES, **TITLED}
 
 
 def called(words):
@@ -97,7 +106,7 @@ def put(files):
     """The pictures, each in a folder."""
     for number, (name, folder) in enumerate(files):
         with open(f"pictures/{folder}/{number}.jpg", "wb") as file:
-            file.write(FILES[name])
+            file.write(PICTURES[name])
 
 
 def change(files, changes):
@@ -106,14 +115,14 @@ def change(files, changes):
         path = f"pictures/{folder}/{number}.jpg"
         if what == "changes":
             with open(path, "wb") as file:
-                file.write(FILES[other])
+                file.write(PICTURES[other])
         elif what == "moves":
             os.rename(path, f"pictures/{elsewhere}/{number}.moved.jpg")
         elif what == "goes":
             os.remove(path)
 
 
-NAMES, PLACES = st.sampled_from(sorted(FILES)), st.sampled_from(FOLDERS)
+NAMES, PLACES = st.sampled_from([*sorted(PICTURES), *TITLED]), st.sampled_from(FOLDERS)
 WHAT = st.sampled_from(("stays", "stays", "changes", "moves", "goes"))
 
 
@@ -264,17 +273,50 @@ def test_each_catalogue_keeps_its_texts(archive, called_lines):
             assert catalogue.prepared() == catalogue.greatest("pictures")
 
 
-def test_more_than_sqlite_attaches(folder, called_lines):
+@pytest.mark.parametrize("which", ([], ["one"], ["two"], ["one", "two"]))
+def test_texts_of_catalogues_that_cannot_be_written(archive, called_lines, which):
+    """Some have their texts, and those of the others are made for each question."""
+    for number, name in enumerate(("one", "two")):
+        (archive / name / "more.jpg").write_bytes(TITLED[f"t{number + 1}"])
+        assert called_lines("index", name, "--catalogue", f"shards/{name}.catalogue", "--quiet")[0] == 0
+    for name in which:
+        (archive / "shards" / f"{name}.catalogue").chmod(0o444)
+    for words, last in (
+        ("--columns title", "4 of 4 pictures"),
+        ("--where title=two", "1 of 4 pictures"),
+        ("--count title", "2 pictures with a text of title, 2 without"),
+        ("--with XMP-dc:title --with title", "2 of 4 pictures"),
+        ("--without title", "2 of 4 pictures"),
+    ):
+        status, lines, _ = called_lines("list", "shards", *words.split())
+        assert (status, lines[-1]) == (0, last), words
+    for name in ("one", "two"):
+        with Catalogue(str(archive / "shards" / f"{name}.catalogue")) as catalogue:
+            assert (catalogue.prepared() == catalogue.greatest("pictures")) == (name not in which)
+
+
+@pytest.mark.parametrize("count", (shards.MOST, shards.MOST + 2))
+def test_as_many_as_sqlite_attaches_and_more(folder, called_lines, count):
     names = []
     (folder / "shards").mkdir()
-    for number in range(BEYOND):
+    for number in range(count):
         (folder / "p" / str(number)).mkdir(parents=True)
         (folder / "p" / str(number) / "a.jpg").write_bytes(with_short_note(number))
         names.append(f"{number}.catalogue")
+        with Catalogue(str(folder / "shards" / names[-1]), make=True) as catalogue:
+            catalogue.number_above(number * NUMBERS)
         assert called_lines("index", f"p/{number}", "--catalogue", f"shards/{names[-1]}", "--quiet")[0] == 0
     shards.put_list(str(folder / "shards"), names)
     assert called_lines("index", "p", "--catalogue", "all", "--quiet")[0] == 0
-    for words in ("same --catalogue {} --json", "list {} --json", "report {} --json"):
+    with shards.opened(shards.shards_of(str(folder / "shards")), str(folder)) as catalogue:
+        assert isinstance(catalogue, shards.Together) == (count == shards.MOST)
+    for words in (
+        "same --catalogue {} --json",
+        "list {} --json",
+        "report {} --json",
+        "verify {} --quiet --json",
+        "export {} tables --json",
+    ):
         both = [called_lines(*words.format(name).split()) for name in ("shards", "all")]
         assert both[0][0] == both[1][0], words
     assert called_lines("changed", "shards", "all", "--no-exiftool")[0] == 0
