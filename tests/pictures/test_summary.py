@@ -282,7 +282,7 @@ def test_results_and_names(folder, run):
             (folder / side / name).write_bytes(octets)
     status, lines = run("changed", "before", "after", "--no-exiftool")
     assert status == 1
-    assert lines[0] == "5 pictures compared: 3 changed."
+    assert lines[0] == "5 pictures compared: 2 changed, 1 moved."
     assert rows(lines) == {'IFD0:Make: "abc" -> "xyz"': (1, "")}
     assert lines[4:] == [
         "1 same",

@@ -432,8 +432,8 @@ def total(counts: "Counter[Result]") -> int:
 
 
 def number_changed(counts: "Counter[Result]") -> int:
-    """How many of them have changed. One that can't be compared wholly isn't known to have changed."""
-    return sum(count for it, count in counts.items() if it.has_changed and it.are_pictures)
+    """How many of them have changed. One that only has another name hasn't, and one that can't be compared wholly isn't known to have."""
+    return sum(count for it, count in counts.items() if it.has_changed and it.are_pictures and it != Result.MOVED)
 
 
 def number_undecided(counts: "Counter[Result]") -> int:

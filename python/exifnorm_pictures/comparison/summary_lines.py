@@ -45,17 +45,18 @@ def sentence(counts: "Counter[Result]") -> str:
 
     >>> sentence(Counter({Result.SAME: 5, Result.DAMAGED: 2})), sentence(Counter({Result.DIFFERENT: 1, Result.REFUSED: 1}))
     ('7 pictures compared: 2 damaged.', '2 pictures compared: 1 changed, 1 not wholly compared.')
+    >>> sentence(Counter({Result.DIFFERENT: 2, Result.MOVED: 1})), sentence(Counter({Result.SAME: 3, Result.MOVED: 2}))
+    ('3 pictures compared: 2 changed, 1 moved.', '5 pictures compared: 2 moved.')
     """
     total, changes, undecided = changed.total(counts), changed.number_changed(counts), changed.number_undecided(counts)
     if not total:
         return "No picture to compare."
-    many = ["all changed" if changes == total > 1 else f"{changes:,} changed" if changes else "none changed"]
-    if undecided:  # then nobody knows that none changed
-        damaged = {it: counts[it] for it in (Result.DAMAGED, Result.DAMAGED_BEFORE) if counts[it]}
-        others = undecided - sum(damaged.values())
-        many = many[: bool(changes)] + [f"{count:,} {it}" for it, count in damaged.items()]
-        many += [f"{others:,} not wholly compared"] * bool(others)
-    return f"{pictures_in_words(total)} compared: {', '.join(many)}."
+    many = ["all changed" if changes == total > 1 else f"{changes:,} changed"] * bool(changes)
+    counted = {it: counts[it] for it in (Result.MOVED, Result.DAMAGED, Result.DAMAGED_BEFORE) if counts[it]}
+    many += [f"{count:,} {it}" for it, count in counted.items()]
+    others = undecided - counts[Result.DAMAGED] - counts[Result.DAMAGED_BEFORE]
+    many += [f"{others:,} not wholly compared"] * bool(others)
+    return f"{pictures_in_words(total)} compared: {', '.join(many) or 'none changed'}."
 
 
 # What changed

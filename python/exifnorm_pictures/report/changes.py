@@ -103,6 +103,11 @@ class Changes:
         return changed.number_changed(self.results)
 
     @property
+    def number_moved(self) -> int:
+        """How many have another name, and nothing else is other."""
+        return self.results[Result.MOVED]
+
+    @property
     def number_undecided(self) -> int:
         """Of how many nobody knows whether they have changed."""
         return changed.number_undecided(self.results)
