@@ -18,6 +18,8 @@ VALUES = (
     "",
     "a\nb\x1b[2J",
     "\udcff",
+    "title has \udcff",
+    "dc:a\udcff",
     "-1",
     "1e999",
     "**[",

@@ -16,6 +16,7 @@ from dataclasses import dataclass
 from typing import Iterable, List, NamedTuple, NoReturn, Optional, Sequence, Tuple, Union
 
 from ..model.errors import WrongUse
+from ..model.texts import safe
 from .labels import DAMAGE, DATE, fields_by_label, label_of
 
 COMPARISONS = ("=", "!=", "has", "like", "<", "<=", ">", ">=")
@@ -113,10 +114,17 @@ def given_label(text: str) -> str:
     >>> given_label("Date-Created"), given_label("FNumber")
     ('date created', 'FNumber')
     """
+    _check_text(text)
     label = _label_or_field(text.strip())
     if label is None:
         raise WrongQuestion(f"{text!r} is no label and no field{_nearest(text)}")
     return label
+
+
+def _check_text(text: str) -> None:
+    """Raises `WrongQuestion` for bytes of an argument that are no UTF-8, which no text of a catalogue has."""
+    if not text.isascii() and re.search("[\ud800-\udfff]", text):
+        raise WrongQuestion(f"{safe(text)} is no text in UTF-8")
 
 
 def _label_or_field(text: str) -> Optional[str]:
@@ -166,6 +174,7 @@ class _Reader:
         self._text = text
         if len(text) > LONGEST:
             raise WrongQuestion(f"a question has at most {LONGEST:,} characters")
+        _check_text(text)
         self._tokens = self._split()
         self._at = 0
         self._depth = 0
