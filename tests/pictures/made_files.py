@@ -7,6 +7,7 @@ import zlib
 from made_blocks import ASCII, LONG, SHORT, block, entry, segment
 from studio import SMALL_JPEG
 
+RATIONAL = 5
 SIX = b"Exif\0\0"
 XMP_HEAD = b"http://ns.adobe.com/xap/1.0/\0"
 EXTENSION_HEAD = b"http://ns.adobe.com/xmp/extension/\0"
@@ -170,8 +171,8 @@ def _directory(made, page, order):
             made += value
             value, count = place, 4 if kind in (1, 7) else 1
         elif isinstance(value, bytes):
-            count = len(value)
-            if count > 4:
+            count = len(value) // 8 if kind == RATIONAL else len(value)
+            if len(value) > 4:
                 made += bytes(len(made) % 2)
                 place, value = len(made), value
                 made += value

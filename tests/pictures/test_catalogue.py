@@ -155,25 +155,25 @@ class Archive(InFolder):
         self.assertEqual(self.changed_rows(), {"b.jpg": (self.before["b.jpg"], ("NotAFile", self.before["b.jpg"][1]))})
 
     def test_two_that_are_gone(self):
-        """Of equal pictures each went where its name is, and to no place two."""
+        """Of files of the same bytes each went where its name is, and to no place two."""
         for name in ("a/2.jpg", "b/1.jpg", "b/9.jpg"):
             os.makedirs(self.path("p", name[0]), exist_ok=True)
             write(self.path("p", name), with_exif(SMALL_JPEG, block([MODEL])))
-        self.run_again()
+        self.run_again("--pixels")
         shutil.copy(self.path("c"), self.path("old"))
         for name in ("c/1.jpg", "d/2.jpg", "e/1.jpg"):
             os.mkdir(self.path("p", name[0]))
             shutil.copyfile(self.path("p", "a", "2.jpg"), self.path("p", name))
         for name in ("a", "b"):
             shutil.rmtree(self.path("p", name))
-        self.assertEqual(self.run_again()[1], {"unchanged": 4, "Moved": 3, "accepted": 3})
+        self.assertEqual(self.run_again("--pixels")[1], {"unchanged": 4, "Moved": 3, "accepted": 3})
         base = sqlite3.connect(self.path("c"))
         went = dict(base.execute("SELECT CAST(path AS TEXT), detail FROM pictures WHERE problem = 'Moved'"))
         base.close()
         expected = {"a/2.jpg": "d/2.jpg", "b/1.jpg": "c/1.jpg", "b/9.jpg": "e/1.jpg"}
         self.assertEqual(went, {self.path("p", it): f"to {self.path('p', to)}" for it, to in expected.items()})
         os.remove(self.path("p", "e", "1.jpg"))
-        self.assertEqual(self.run_again()[1], {"unchanged": 6, "Vanished": 1})
+        self.assertEqual(self.run_again("--pixels")[1], {"unchanged": 6, "Vanished": 1})
         found = [json.loads(it) for it in self.asked("changed", "old", "c", "--json", status=1)]
         moves = {it["path"]: (it["moved_to"] or {}).get("path") for it in found[:-1]}
         self.assertEqual(moves, {"a/2.jpg": "d/2.jpg", "b/1.jpg": "c/1.jpg", "b/9.jpg": None})

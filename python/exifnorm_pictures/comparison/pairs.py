@@ -51,10 +51,15 @@ _SAME = """(typeof(old.path) = 'blob' AND old.problem IS NULL AND new.problem IS
     AND (old.coded_picture = new.coded_picture AND old.beside = new.beside
         OR ifnull(old.coded_picture, '') = '' OR ifnull(new.coded_picture, '') = '')) IS NOT TRUE"""
 
-# The new names of pictures, the surest first: the same file under the same name, the same file, the same blocks under the same name, ..
-# A file by itself doesn't show whether its sidecars are the same, so its XMP counts, too.
+# The new names of pictures, the surest first: the same file under the same name, the same file, a file of the same bytes, .., the only one with
+# the same blocks, size and time. Then the only one with the same blocks and size, if no other picture of its catalogue means the same: scans of
+# one machine may all have them. A file by itself doesn't show whether its sidecars are the same, so its XMP counts, too.
 _FILE, _CONTENT = "size, modified, inode, xmp_octets", "content(size, not_read, exif_octets, iptc_octets, xmp_octets)"
-_ROUNDS = (f"{_FILE}, last(path)", _FILE, f"{_CONTENT}, last(path)", _CONTENT)
+_KEYS = (_FILE, "sha256, xmp_octets", f"{_CONTENT}, modified")
+_LIKELY = (f"{_CONTENT}, last(path)", _CONTENT)
+_ROUNDS = (*(it for key in _KEYS for it in (f"{key}, last(path)", key)), *_LIKELY)
+_IS_ALONE = """NOT EXISTS (SELECT 1 FROM {base}.pictures AS other WHERE other.exif IS pictures.exif AND other.iptc IS pictures.iptc
+    AND other.xmp IS pictures.xmp AND other.not_read IS pictures.not_read AND other.problem IS NULL AND other.id != pictures.id)"""
 _CODED = ("coded_picture, last(path)", "coded_picture")  # then of pictures that were edited too, if they have only one new name
 _HAS_KEY = " AND ".join([*(f"typeof({it}) = 'integer'" for it in ("size", "modified", "inode")), "typeof(path) = 'blob'"])
 
@@ -159,20 +164,27 @@ class Pairs:
                 f" WHERE {_is_there(mine)} AND NOT EXISTS ({paired})"
             )
         for key in (*_ROUNDS, *_CODED):
-            left = [self._alone(BEFORE, key), self._alone(AFTER, key)]
-            self.base.executemany(f"INSERT INTO moved VALUES (?, ?, {int(key in _CODED)})", _equal(*left))
+            left = self._alone(BEFORE, key), self._alone(AFTER, key)
+            self.base.executemany(f"INSERT INTO moved VALUES (?, ?, {int(key in _CODED)})", _equal(*left, key not in _CODED))
 
     def _alone(self, side: int, key: str) -> Iterator[Tuple[object, ...]]:
-        """The number and key of each picture that isn't paired yet, by key and path. SQLite has sorted them before the first is fetched."""
+        """The number, the digests and the key of each picture that isn't paired yet, by key and path. SQLite has sorted them before the first
+        is fetched."""
         left = (
             f"FROM alone_{_BASES[side]} JOIN {_BASES[side]}.pictures USING (id) WHERE problem IS NULL"
             f" AND {_HAS_KEY} AND id NOT IN (SELECT {_ALIASES[side]} FROM moved)"
         )
-        query = f"SELECT id, {key} {left}"
         if key in _CODED:
-            query += f" AND coded_picture != '' AND ({key}) IN (SELECT {key} {left} GROUP BY {key} HAVING count(*) = 1)"
+            left += " AND coded_picture != ''"
         if key.startswith("content"):
-            query += " AND not_read IS NOT NULL AND NOT (exif_octets = '' AND iptc_octets = '' AND xmp_octets = '')"
+            left += " AND not_read IS NOT NULL AND NOT (exif_octets = '' AND iptc_octets = '' AND xmp_octets = '')"
+        query = f"SELECT id, sha256, coded_picture, {key} {left}"
+        if key in _CODED or key.startswith("content"):
+            query += f" AND ({key}) IN (SELECT {key} {left} GROUP BY {key} HAVING count(*) = 1)"
+        if key.startswith("sha256"):
+            query += " AND sha256 != ''"
+        if key in _LIKELY:
+            query += f" AND {_IS_ALONE.format(base=_BASES[side])}"
         return self.base.execute(f"{query} ORDER BY {key}, path")
 
     # The results
@@ -270,18 +282,22 @@ def _content(size: int, unread: str, *octets: str) -> bytes:
     return hashlib.sha256(repr(content_key(octets, unread, size)).encode("utf-8", "surrogatepass")).digest()
 
 
-def _equal(rows: Iterator[Tuple[object, ...]], others: Iterator[Tuple[object, ...]]) -> Iterator[Tuple[object, object]]:
-    """The numbers of the rows with equal keys in two sequences that are in the order of their keys, each once.
+def _equal(rows: Iterator[Tuple[object, ...]], others: Iterator[Tuple[object, ...]], both: bool) -> Iterator[Tuple[object, object]]:
+    """The numbers of the rows with equal keys in two sequences that are in the order of their keys, each once. A row has a number, two digests,
+    and then its key; no two are returned of which a digest is known to differ: the second one, or `both`.
 
-    >>> list(_equal(iter([(1, "a"), (2, "b"), (3, "b")]), iter([(7, "b"), (8, "c")])))
+    >>> rows = iter([(1, None, None, "a"), (2, None, None, "b"), (3, None, None, "b"), (4, None, "one", "d")])
+    >>> list(_equal(rows, iter([(7, "", "", "b"), (8, "", "", "c"), (9, "", "two", "d")]), True))
     [(2, 7)]
     """
     first, second = next(rows, None), next(others, None)
     while first is not None and second is not None:
-        if first[1:] == second[1:]:
-            yield first[0], second[0]
+        if first[3:] == second[3:]:
+            digests = zip(first[1:3], second[1:3]) if both else [(first[2], second[2])]
+            if not any(one and other and one != other for one, other in digests):
+                yield first[0], second[0]
             first, second = next(rows, None), next(others, None)
-        elif first[1:] < second[1:]:
+        elif first[3:] < second[3:]:
             first = next(rows, None)
         else:
             second = next(others, None)

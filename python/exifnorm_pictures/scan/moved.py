@@ -1,4 +1,4 @@
-"""Pictures that are gone and are found under another name: recognised by their meaning, and by the file system's marks."""
+"""Pictures that are gone and are found under another name: recognised by the file system's marks, their bytes, or their meaning."""
 
 from __future__ import annotations
 
@@ -6,7 +6,7 @@ import functools
 import hashlib
 import os
 import sqlite3
-from typing import Callable, Dict, Iterator, List, Optional, Sequence, Tuple
+from typing import Any, Callable, Dict, Iterator, List, Optional, Sequence, Tuple
 
 from ..catalogue.store import Catalogue
 from ..model.problems import Problem
@@ -14,7 +14,7 @@ from ..model.records import PictureRecord
 from ..model.texts import shown_path
 
 Key = Tuple[object, ...]
-_MARKS = "size, modified, inode, not_read, exif_octets, iptc_octets, xmp_octets"
+_MARKS = "size, modified, inode, sha256, coded_picture, not_read, exif_octets, iptc_octets, xmp_octets"
 
 
 def content_key(octets: Sequence[Optional[str]], unread: Optional[str], size: Optional[int]) -> Optional[Key]:
@@ -31,18 +31,36 @@ CREATE TABLE gone (
     size INTEGER,
     modified INTEGER,
     inode INTEGER,
-    content BLOB,                   -- a digest of the facts that identify the picture under any name
+    sha256 TEXT,
+    coded_picture TEXT,
+    content BLOB,                   -- a digest of the facts that may identify the picture under any name
     went BLOB                       -- its new path
 );
 CREATE INDEX gone_by_file ON gone (inode, size, modified);
-CREATE INDEX gone_by_content ON gone (content, name) WHERE went IS NULL;
-CREATE INDEX gone_in_order ON gone (content) WHERE went IS NULL;
+CREATE INDEX gone_by_bytes ON gone (sha256, name) WHERE went IS NULL;
+CREATE INDEX gone_by_content ON gone (content, modified, name) WHERE went IS NULL;
+CREATE INDEX gone_alike ON gone (content);
 CREATE INDEX gone_by_target ON gone (went);
 PRAGMA journal_mode = OFF;
 """
+_ADD = "INSERT INTO gone (path, name, size, modified, inode, sha256, coded_picture, content) VALUES (?, ?, ?, ?, ?, ?, ?, ?)"
 _BY_FILE = "SELECT number, went FROM gone WHERE inode = ? AND size = ? AND modified = ? ORDER BY number DESC LIMIT 1"
-_BY_NAME = "SELECT number FROM gone WHERE content = ? AND name = ? AND went IS NULL ORDER BY number LIMIT 1"
-_FIRST = "SELECT number FROM gone INDEXED BY gone_in_order WHERE content = ? AND went IS NULL ORDER BY number LIMIT 1"
+_KNOWN = "(sha256 = :sha256 OR ifnull(sha256, '') = '' OR ifnull(:sha256, '') = '')"  # no digest is known to differ
+_KNOWN += " AND (coded_picture = :coded_picture OR ifnull(coded_picture, '') = '' OR ifnull(:coded_picture, '') = '')"
+# The surest first: a file of the same bytes, or the only one of the same blocks, size and time. A file of the same name is taken before others.
+_SAME_BYTES, _ALIKE = (
+    [
+        f"SELECT number FROM gone WHERE went IS NULL AND {key} AND {name} AND {_KNOWN} ORDER BY number LIMIT 2"
+        for name in ("name = :name", "TRUE")
+    ]
+    for key in ("sha256 = :sha256 AND :sha256 != ''", "content = :content AND modified = :modified")
+)
+# The same blocks and size may be those of many scans of one machine: they count if no other picture means the same.
+_LIKELY = f"SELECT number FROM gone WHERE content = :content AND went IS NULL AND {_KNOWN}"
+_ARE_TWO = "SELECT count(*) > 1 FROM (SELECT 1 FROM gone WHERE content = ? LIMIT 2)"
+_MEAN_THE_SAME = """SELECT count(*) > 1 FROM (SELECT 1 FROM pictures JOIN pictures AS other ON other.exif IS pictures.exif
+    AND other.iptc IS pictures.iptc AND other.xmp IS pictures.xmp AND other.not_read IS pictures.not_read AND other.problem IS NULL
+    WHERE pictures.path = ? LIMIT 2)"""
 
 
 class Departed:
@@ -55,10 +73,10 @@ class Departed:
     def add(self, catalogue: Catalogue, number: int, path: bytes) -> None:
         """Notes a picture that is gone."""
         query = f"SELECT {_MARKS} FROM pictures WHERE id = ?"
-        for size, modified, inode, unread, *octets in catalogue.rows(query, (number,)):
+        for size, modified, inode, sha256, coded_picture, unread, *octets in catalogue.rows(query, (number,)):
             marks = (None, None, None) if size is None else (size, modified, inode)
-            row = (path, os.path.basename(path), *marks, _digest(content_key(octets, unread, size)))
-            self._base.execute("INSERT INTO gone (path, name, size, modified, inode, content) VALUES (?, ?, ?, ?, ?, ?)", row)
+            row = (path, os.path.basename(path), *marks, sha256, coded_picture, _digest(content_key(octets, unread, size)))
+            self._base.execute(_ADD, row)
 
     def each(self) -> Iterator[Tuple[bytes, Optional[bytes]]]:
         """The path of each picture that is gone, in the order in which they were noted, and its new one if that is known."""
@@ -68,17 +86,36 @@ class Departed:
         """The same of those that have a new path."""
         return ((path, went) for path, went in self.each() if went is not None)
 
-    def _meet(self, path: bytes, size: int, modified: int, inode: int, unread: Optional[str], *octets: str) -> None:
+    def _meet(self, catalogue: Catalogue, path: bytes, marks: Sequence[Any]) -> None:
         """Notes a picture that is new: one that is gone may have become it."""
+        size, modified, inode, sha256, coded_picture, unread, *octets = marks
         row = self._base.execute(_BY_FILE, (inode, size, modified)).fetchone()
-        if row is None or row[1] is not None:
+        if row is None or row[1] is not None or not self._may_be(row[0], sha256, coded_picture):
             content = _digest(content_key(octets, unread, size))
-            row = content and (
-                self._base.execute(_BY_NAME, (content, os.path.basename(path))).fetchone()
-                or self._base.execute(_FIRST, (content,)).fetchone()
-            )
+            facts = {"sha256": sha256, "coded_picture": coded_picture, "content": content, "modified": modified}
+            row = self._alike({**facts, "name": os.path.basename(path)}) or self._likely(catalogue, path, facts)
         if row:
             self._base.execute("UPDATE gone SET went = ? WHERE number = ?", (path, row[0]))
+
+    def _may_be(self, number: int, sha256: Optional[str], coded_picture: Optional[str]) -> bool:
+        """Whether no digest is known to differ from that of a picture that is gone."""
+        facts = {"number": number, "sha256": sha256, "coded_picture": coded_picture}
+        return self._base.execute(f"SELECT 1 FROM gone WHERE number = :number AND {_KNOWN}", facts).fetchone() is not None
+
+    def _alike(self, facts: Dict[str, object]) -> Optional[Tuple[int]]:
+        """The number of the picture with these bytes, or of the only one with these blocks, this size and this time."""
+        for query in (*_SAME_BYTES, *_ALIKE):
+            rows: List[Tuple[int]] = self._base.execute(query, facts).fetchall()
+            if len(rows) == 1 or rows and query in _SAME_BYTES:
+                return rows[0]
+        return None
+
+    def _likely(self, catalogue: Catalogue, path: bytes, facts: Dict[str, object]) -> Optional[Tuple[int]]:
+        """The number of the only picture with this content, if no other one means the same."""
+        row: Optional[Tuple[int]] = self._base.execute(_LIKELY, facts).fetchone()
+        if row is None or self._base.execute(_ARE_TWO, (facts["content"],)).fetchone()[0]:
+            return None
+        return None if next(catalogue.rows(_MEAN_THE_SAME, (path,)))[0] else row
 
     def settle(self, catalogue: Catalogue, run: int, is_new: Callable[[bytes], bool]) -> None:
         """Finds which pictures that are gone have another name among those of this run, of which `is_new` tells whether they were unknown."""
@@ -86,7 +123,7 @@ class Departed:
             query = f"SELECT path, {_MARKS} FROM pictures WHERE run = ? AND problem IS NULL AND size IS NOT NULL ORDER BY id"
             for row in catalogue.rows(query, (run,)):
                 if is_new(row[0]):
-                    self._meet(*row)
+                    self._meet(catalogue, row[0], row[1:])
         self._add_remounted(catalogue, run, is_new)
         if next(self.moves(), None):
             with catalogue.transaction():

@@ -1,0 +1,324 @@
+"""The pictures of a made museum on two nights: each format, state, cause of refusal, sidecar, link, MakerNote, language and character set
+once or twice.
+
+What `first_night` and `second_night` give is by path; a `Link` is a symbolic link. All bytes are made here, so that each run has the same.
+"""
+
+import os
+import struct
+from typing import Dict, NamedTuple, Union
+
+import made_raw
+from growing import FORMATS, Parts
+from made_blocks import ASCII, BLOCKS, LONG, UNDEFINED, segment, with_exif, with_iptc
+from made_files import (
+    RATIONAL,
+    app1,
+    app1_xmp,
+    app13,
+    chunk,
+    extension,
+    jpeg,
+    page,
+    png,
+    png_xmp,
+    resource,
+    small_tiff,
+    tiff,
+    with_record,
+    xmp,
+)
+from studio import SMALL_JPEG
+from test_maker_notes import noted
+
+UTF8 = b"\x1c\x01\x5a\0\x03\x1b%G"  # IIM 1:90, coded character set
+TABLE = SMALL_JPEG.index(b"\xff\xdb") + 5  # where the values of the quantisation table begin
+TIME = 1_767_225_600  # of each file: 2026-01-01 UTC
+
+
+class Link(NamedTuple):
+    """A symbolic link."""
+
+    target: str
+
+
+Files = Dict[str, Union[bytes, Link]]
+
+
+def picture(number: int) -> bytes:
+    """A JPEG whose picture no other number has."""
+    made = bytearray(SMALL_JPEG)
+    made[TABLE + number // 250] = 1 + number % 250
+    return bytes(made)
+
+
+def dataset(number: int, text: Union[str, bytes]) -> bytes:
+    octets = text.encode() if isinstance(text, str) else text
+    return b"\x1c\x02" + struct.pack(">BH", number, len(octets)) + octets
+
+
+def record(**texts: Union[str, bytes]) -> bytes:
+    """An IPTC record in UTF-8, by the names of `NUMBERS`; a list is written as often as it has members."""
+    parts = [UTF8]
+    for name, text in sorted(texts.items(), key=lambda it: NUMBERS[it[0]]):
+        parts += [dataset(NUMBERS[name], it) for it in (text if isinstance(text, list) else [text])]
+    return b"".join(parts)
+
+
+NUMBERS = {
+    "title": 5,
+    "keywords": 25,
+    "date": 55,
+    "creator": 80,
+    "city": 90,
+    "headline": 105,
+    "credit": 110,
+    "copyright": 116,
+    "caption": 120,
+}
+
+
+def languages(name: str, **texts: str) -> str:
+    """A property in several languages."""
+    members = "".join(f"<rdf:li xml:lang='{language.replace('_', '-')}'>{text}</rdf:li>" for language, text in texts.items())
+    return f"<dc:{name}><rdf:Alt>{members}</rdf:Alt></dc:{name}>"
+
+
+def members(name: str, kind: str, *texts: str) -> str:
+    return f"<dc:{name}><rdf:{kind}>{''.join(f'<rdf:li>{it}</rdf:li>' for it in texts)}</rdf:{kind}></dc:{name}>"
+
+
+def camera(*more, artist: bytes = b"Anna Moor", caption: bytes = b"A bowl") -> tuple:
+    """The entries of an Exif block."""
+    dates = [(0x9003, ASCII, b"2025:03:31 14:30:00\0"), (0x829A, RATIONAL, struct.pack("<II", 1, 125))]
+    known = [(0x010E, ASCII, caption + b"\0"), (0x010F, ASCII, b"Leica\0"), (0x013B, ASCII, artist + b"\0")]
+    return (*known, (0x8298, ASCII, b"Museum of Salt\0"), (0x8769, LONG, dates), *more)
+
+
+def position(latitude: int, longitude: int, north: bytes = b"N") -> tuple:
+    """Exif's directory of a position, in degrees and half minutes."""
+    numbers = [struct.pack("<6I", degrees, 1, 30, 1, 0, 1) for degrees in (latitude, longitude)]
+    return (0x8825, LONG, [(1, ASCII, north + b"\0"), (2, RATIONAL, numbers[0]), (3, ASCII, b"E\0"), (4, RATIONAL, numbers[1])])
+
+
+def captioned(number: int, title: str = "A bowl", **texts) -> bytes:
+    """A JPEG with the same words in Exif, IPTC and XMP, but for those that are given."""
+    words = {"creator": "Anna Moor", "copyright": "Museum of Salt", "keywords": ["clay", "bowl"], "credit": "Salt", "title": title, **texts}
+    words = {name: text for name, text in words.items() if text}
+    creator = str(words.get("creator", ""))
+    packet = [languages("title", x_default=title), members("creator", "Seq", creator), members("subject", "Bag", *words["keywords"])]
+    block = small_tiff(*camera(artist=creator.encode()))
+    return jpeg(app1(block), with_record(record(**words)), app1_xmp(xmp("".join(packet))), base=picture(number))
+
+
+def in_each_format(caption: str) -> Files:
+    """A picture of each format with all kinds of blocks that it can have, and raw pictures."""
+    parts = Parts(
+        camera(caption=caption.encode()), record(caption=caption, creator="Anna Moor"), (xmp(languages("description", x_default=caption)),)
+    )
+    flat = parts._replace(entries=tuple(it for it in parts.entries if isinstance(it[2], bytes)))
+    files: Files = {}
+    for ending, make in FORMATS.values():
+        if ending != "xmp":
+            files[f"formats/{ending}.{ending}"] = make(flat if ending in ("btf", "cr3") else parts)  # whose Exif directory is elsewhere
+    for ending, make in made_raw.MAKERS.items():
+        files[f"formats/camera.{ending}"] = make(caption.encode())
+    return files
+
+
+def refused() -> Files:
+    """A JPEG for each cause of refusal."""
+    files: Files = {}
+    for number, (cause, block) in enumerate(BLOCKS.items()):
+        if len(block) < 60_000:
+            wrapped = with_iptc if block.startswith(b"\x1c") else with_exif
+            files[f"refused/{cause}.jpg"] = wrapped(picture(300 + number), block)
+    return files
+
+
+def states() -> Files:
+    """What isn't read wholly, or not at all."""
+    whole, packet = captioned(40), xmp("", "note:HasExtendedXMP='0123456789ABCDEF0123456789ABCDEF'")
+    pieces, name = extension(xmp(languages("rights", x_default="Museum of Salt")))
+    broken = png(chunk(b"eXIf", small_tiff(*camera())), png_xmp(xmp("<dc:format>one")))
+    return {
+        "states/bare.jpg": picture(41),
+        "states/cut-in-its-head.jpg": captioned(42)[:200],
+        "states/cut-in-its-picture.jpg": captioned(43)[:-5],
+        "states/empty.jpg": b"",
+        "states/extended.jpg": jpeg(app1_xmp(xmp("", f"note:HasExtendedXMP='{name}'")), *pieces, base=picture(44)),
+        "states/extension-lost.jpg": jpeg(app1_xmp(packet), base=picture(45)),
+        "states/films.mp4": b"\0\0\0\x18ftypisom\0\0\0\0isommp42",
+        "states/letter.jpg": b"Dear Anna,\nthe bowl is blue.\n",
+        "states/notes.txt": b"A list of the bowls.\n",
+        "states/packet-broken.png": broken,
+        "states/rots.jpg": captioned(46),
+        "states/sum-wrong.png": png(chunk(b"eXIf", small_tiff(*camera()), wrong=1)),
+        "states/trailer.jpg": whole + b"unknown bytes",
+        "states/two-blocks.jpg": jpeg(app1(small_tiff(*camera())), app1(small_tiff(*camera(artist=b"Ben"))), base=picture(47)),
+    }
+
+
+def texts() -> Files:
+    """Languages, character sets, long texts and those of a camera."""
+    comment = (0x8769, LONG, [(0x9286, UNDEFINED, b"UNICODE\0" + "Schüssel".encode("utf-16-le"))])
+    return {
+        "texts/camera.jpg": jpeg(app1(small_tiff(*camera(caption=b"SANYO DIGITAL CAMERA"))), base=picture(60)),
+        "texts/comment.jpg": jpeg(app1(small_tiff((0x010F, ASCII, b"Leica\0"), comment)), base=picture(61)),
+        "texts/controls.jpg": jpeg(with_record(record(title="a\tb\x01c", caption="one\ntwo\u202e")), base=picture(62)),
+        "texts/cut.jpg": jpeg(
+            with_record(record(creator="A" * 32, title="B" * 64)), app1_xmp(xmp(members("creator", "Seq", "A" * 40))), base=picture(63)
+        ),
+        "texts/languages.jpg": jpeg(
+            app1_xmp(xmp(languages("title", x_default="A bowl", de="Eine Schüssel", fr="Un bol"))), base=picture(64)
+        ),
+        "texts/latin1.jpg": jpeg(
+            app13(resource(0x0404, dataset(80, "Zoë".encode("latin-1")) + dataset(120, b"Sch\xfcssel"))), base=picture(65)
+        ),
+        "texts/long.jpg": captioned(66, caption="Zeile " * 300 + "Ende."),
+        "texts/not-utf8.jpg": jpeg(app13(resource(0x0404, UTF8 + dataset(120, b"Sch\xfcssel"))), base=picture(67)),
+        "texts/structures.jpg": jpeg(
+            app1_xmp(
+                xmp(
+                    "<i:CreatorContactInfo xmlns:i='http://iptc.org/std/Iptc4xmpCore/1.0/xmlns/' rdf:parseType='Resource'>"
+                    "<i:CiEmailWork>anna@museum.example</i:CiEmailWork><i:CiAdrCity>Halle</i:CiAdrCity></i:CreatorContactInfo>"
+                )
+            ),
+            base=picture(68),
+        ),
+        "texts/written-anew.jpg": captioned(69, creator="Zoe\u0308 Weiß"),
+        "texts/written.jpg": captioned(70, creator="Zoë Weiss"),
+    }
+
+
+def contradictions() -> Files:
+    other = app1_xmp(xmp(members("creator", "Seq", "Ben Salt") + languages("title", x_default="A vase")))
+    block = app1(small_tiff(*camera(position(51, 11))))
+    there = xmp("", "xmlns:exif='http://ns.adobe.com/exif/1.0/' exif:GPSLatitude='51,29.5N' exif:GPSLongitude='11,58.5E'")
+    return {
+        "contradictions/creator.jpg": jpeg(block, with_record(record(creator="Anna Moor", title="A bowl")), other, base=picture(80)),
+        "contradictions/place.jpg": jpeg(block, app1_xmp(there), base=picture(81)),
+        "contradictions/south.jpg": jpeg(app1(small_tiff(*camera(position(33, 18, b"S")))), base=picture(82)),
+    }
+
+
+def notes() -> Files:
+    """MakerNotes: of one picture with other bytes, moved, and one that leads out of the file."""
+    return {
+        "notes/inside.jpg": noted(inside=b"other bytes"),
+        "notes/moved.jpg": noted(moved=6),
+        "notes/note.jpg": noted(),
+        "notes/owner.jpg": noted(owner=b"Marlene"),
+        "notes/wrong.jpg": noted(wrong=90_000),
+    }
+
+
+def beside(creator: str) -> Files:
+    """Sidecars of a raw picture, of a JPEG, and one that is broken."""
+    packet = xmp(members("creator", "Seq", creator) + "<xmp:Rating>4</xmp:Rating>")
+    return {
+        "sidecars/bowl.jpg": captioned(90),
+        "sidecars/bowl.jpg.xmp": packet,
+        "sidecars/raw.nef": made_raw.nef(),
+        "sidecars/raw.xmp": packet,
+        "sidecars/vase.jpg": captioned(91),
+        "sidecars/vase.xmp": packet[:-40],
+    }
+
+
+def copies() -> Files:
+    """Two files of the same bytes, the same words in the other byte order and around another picture, and links."""
+    first = captioned(100)
+    turned = jpeg(app1(tiff(list(camera()), order=">")), base=picture(101))
+    return {
+        "copies/again.jpg": first,
+        "copies/first.jpg": first,
+        "copies/link.jpg": Link("first.jpg"),
+        "copies/lost.jpg": Link("nowhere.jpg"),
+        "copies/other-order.jpg": turned.replace(struct.pack("<II", 1, 125), struct.pack(">II", 1, 125)),
+        "copies/other-picture.jpg": captioned(102),
+        "copies/order.jpg": jpeg(app1(small_tiff(*camera())), base=picture(101)),
+    }
+
+
+def odd_names() -> Files:
+    names = [
+        "-x.jpg",
+        " a .jpg",
+        "new\nline.jpg",
+        "e\u0301.jpg",
+        "\u202egpj.jpg",
+        "=1+2.jpg",
+        os.fsdecode(b"\xff.jpg"),
+        "a\\b.jpg",
+        "50%.jpg",
+    ]
+    return {f"odd/{name}": captioned(110 + number) for number, name in enumerate(names)}
+
+
+def desk(folder: str) -> Files:
+    """A folder that is moved as a whole."""
+    return {f"{folder}/{number}.jpg": captioned(130 + number, title=f"Salt {number}") for number in range(4)}
+
+
+def first_night() -> Files:
+    pages = tiff(page((0x013B, ASCII, b"Anna\0")), page((0x013B, ASCII, b"Ben\0")))
+    return {
+        **in_each_format("A bowl"),
+        **refused(),
+        **states(),
+        **texts(),
+        **contradictions(),
+        **notes(),
+        **beside("Anna Moor"),
+        **copies(),
+        **odd_names(),
+        **desk("desk"),
+        "work/deleted.jpg": captioned(150),
+        "work/loses-copyright.jpg": captioned(151),
+        "work/loses-profile.jpg": jpeg(segment(0xE2, b"ICC_PROFILE\0\1\1" + bytes(140)), app1(small_tiff(*camera())), base=picture(152)),
+        "work/pages.tif": pages,
+        "work/published.jpg": captioned(153),
+        "work/renamed.jpg": captioned(154),
+        "work/retitled.jpg": captioned(155),
+        "work/touched.jpg": captioned(156),
+    }
+
+
+def second_night() -> Files:
+    """The same pictures a day later: edited, rotten, moved, deleted, new."""
+    files = {**first_night(), **in_each_format("A blue bowl"), **beside("Ben Salt"), **desk("drawer")}
+    for number in range(4):
+        del files[f"desk/{number}.jpg"]
+    rotten = bytearray(captioned(46))
+    rotten[-20] ^= 4
+    del files["work/deleted.jpg"]
+    files["work/new-name.jpg"] = files.pop("work/renamed.jpg")
+    return {
+        **files,
+        "copies/first.jpg": captioned(100, title="A dish"),
+        "refused/Doubled.jpg": with_exif(picture(300 + [*BLOCKS].index("Doubled")), BLOCKS["Unsorted"]),
+        "states/rots.jpg": bytes(rotten),
+        "states/trailer.jpg": captioned(40) + b"other bytes..",
+        "work/loses-copyright.jpg": captioned(151, copyright=""),
+        "work/loses-profile.jpg": jpeg(app1(small_tiff(*camera())), base=picture(152)),
+        "work/new.jpg": captioned(157),
+        "work/pages.tif": tiff(page((0x013B, ASCII, b"Anna\0")), page((0x013B, ASCII, b"Ben S\0"))),
+        "work/published.jpg": jpeg(app1(small_tiff(*camera(position(51, 11)))), base=picture(153)),
+        "work/retitled.jpg": captioned(155, title="A vase", keywords=["clay", "vase", "salt"]),
+    }
+
+
+def put(folder: str, files: Files, time: int = TIME, before: Files = {}) -> None:
+    """Writes the files of a night, each with this time, or with the earlier one if it was the same before under any name."""
+    known = set(before.values())
+    for name, made in files.items():
+        path = os.path.join(folder, name)
+        os.makedirs(os.path.dirname(path), exist_ok=True)
+        if isinstance(made, Link):
+            os.symlink(made.target, path)
+        else:
+            with open(path, "wb") as file:
+                file.write(made)
+            moment = TIME if made in known else time
+            os.utime(path, (moment, moment))
