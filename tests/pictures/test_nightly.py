@@ -260,6 +260,17 @@ def run_until(folder, calls=0):
     return ran.stdout.decode(), int(ran.stderr.split()[-1]) if not calls else 0
 
 
+@pytest.mark.parametrize("names", [["typo"], ["p", "typo"]], ids="-".join)
+def test_a_folder_that_no_night_has_seen(names, archive, night, called):
+    """It would never have news, and the job would be silent for ever."""
+    status, printed, messages = called("nightly", *names, "--catalogue", "c.catalogue")
+    assert (status, printed) == (3, "") and "typo" in messages
+    assert night()[0] == 1
+    status, printed, messages = called("nightly", *names, "--catalogue", "c.catalogue")
+    assert (status, printed) == (3, "") and "typo" in messages
+    assert night()[0] == 0
+
+
 @pytest.mark.parametrize("is_first", [True, False])
 def test_a_run_that_is_killed(is_first, archive, folder):
     """At ten moments: the next night tells the same, unless the killed one has told all and kept it."""

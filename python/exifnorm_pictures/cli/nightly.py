@@ -130,8 +130,7 @@ def run(arguments: argparse.Namespace) -> int:
     for folder in folders:
         if os.path.lexists(folder) and not os.path.isdir(folder):
             raise NothingThere(f"{shown_path(folder)} is no folder")
-    if not any(map(os.path.isdir, folders)) and not os.path.lexists(arguments.catalogue):
-        raise _no_picture(folders)
+    _refuse_unknown(folders, arguments.catalogue)
     if arguments.html:
         from ..report.templating import check  # which takes long to import
 
@@ -150,6 +149,19 @@ def run(arguments: argparse.Namespace) -> int:
             _print_news(night)
         nights.keep(bool(night.status))
     return night.status
+
+
+def _refuse_unknown(folders: Sequence[bytes], name: str) -> None:
+    """Raises `NothingThere` for a folder that isn't there and of which no night has seen a picture: it may be mistyped, and would never have
+    news."""
+    absent = [folder for folder in folders if not os.path.lexists(folder)]
+    if absent and not os.path.lexists(name):
+        raise _no_picture(absent)
+    if absent:
+        with Catalogue(name) as last:
+            for folder in absent:
+                if not last.count_below(folder):
+                    raise NothingThere(f"{shown_path(folder)} isn't there, and {name} has no picture below it: is its name right?")
 
 
 def _no_picture(folders: Sequence[bytes]) -> NothingThere:
