@@ -191,7 +191,7 @@ class Choice:
 
     def add_left_out(self, names: Iterable[str]) -> None:
         """Notes that these fields differ in a picture and are left out."""
-        for name in {name[:LONGEST_CACHED] for name in names}:
+        for name in dict.fromkeys(name[:LONGEST_CACHED] for name in names):
             if name in self.left_out or len(self.left_out) < MOST_LISTED:
                 self.left_out[name] = self.left_out.get(name, 0) + 1
 
