@@ -109,11 +109,13 @@ def _conflict(label: Label, ours: Sequence[LabelText]) -> Conflict:
 
 def chosen(texts: Sequence[LabelText], known: Sequence[Conflict]) -> Optional[LabelText]:
     """The texts of a label where there is space for one field, which aren't a camera's: those that are whole, on which two standards agree, and
-    the first in their order."""
+    the first in their order. Those of further blocks, such as of a second page, are taken where the first ones have none."""
     worse = {field for it in known for field in it.worse}
-    candidates = [it for it in texts if not it.block and not it.is_empty and not it.is_own]
-    agreeing = Counter(text for text, _ in {(_plain(it.line), it.standard) for it in candidates if not it.is_extra})
-    candidates.sort(key=lambda it: (it.is_extra, it.field in worse, agreeing[_plain(it.line)] < 2, STANDARDS.index(it.standard)))
+    candidates = [it for it in texts if not it.is_empty and not it.is_own]
+    agreeing = Counter(text for text, _ in {(_plain(it.line), it.standard) for it in candidates if not it.is_extra and not it.block})
+    candidates.sort(
+        key=lambda it: (bool(it.block), it.is_extra, it.field in worse, agreeing[_plain(it.line)] < 2, STANDARDS.index(it.standard))
+    )
     return candidates[0] if candidates else None
 
 
