@@ -175,7 +175,7 @@ def texts() -> Files:
         "texts/latin1.jpg": jpeg(
             app13(resource(0x0404, dataset(80, "Zoë".encode("latin-1")) + dataset(120, b"Sch\xfcssel"))), base=picture(65)
         ),
-        "texts/long.jpg": captioned(66, caption="Zeile " * 300 + "Ende."),
+        "texts/long.jpg": captioned(66, caption="Zeile " * 300 + "Stop."),
         "texts/not-utf8.jpg": jpeg(app13(resource(0x0404, UTF8 + dataset(120, b"Sch\xfcssel"))), base=picture(67)),
         "texts/structures.jpg": jpeg(
             app1_xmp(

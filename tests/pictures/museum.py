@@ -1,0 +1,123 @@
+"""The made museum with its catalogues, and how commands are run there: in this process, at one moment of time."""
+
+import contextlib
+import datetime
+import hashlib
+import os
+import shlex
+import shutil
+import time
+
+import made_museum
+import pytest
+from exifnorm_pictures.cli import main
+
+NOW = datetime.datetime(2026, 1, 3, 4, 5, 6, tzinfo=datetime.timezone.utc)
+CLOCKS = ("report.rendering", "cli.verify", "cli.export", "scan.index")  # the modules that print or keep the time of now
+CATALOGUES = ("before", "plain", "full", "full.before", "few")
+WHOLE = " --pixels --maker-notes --sidecars"
+
+
+class Clock(datetime.datetime):
+    """A clock that stands still."""
+
+    @classmethod
+    def now(cls, tz=None):
+        return NOW.astimezone(tz) if tz else NOW.replace(tzinfo=None)
+
+
+@contextlib.contextmanager
+def standing_clock():
+    """A clock that stands still, in UTC."""
+    with pytest.MonkeyPatch.context() as patch:
+        patch.setenv("TZ", "UTC")
+        time.tzset()
+        for name in CLOCKS:
+            patch.setattr(f"exifnorm_pictures.{name}.datetime", Clock)
+        yield
+    time.tzset()
+
+
+@contextlib.contextmanager
+def in_folder(folder):
+    before = os.getcwd()
+    os.chdir(folder)
+    try:
+        yield
+    finally:
+        os.chdir(before)
+
+
+def run(line, folder):
+    """The status of a command line, its lines, and its messages; `*` in a word is expanded as a shell does it."""
+    words = []
+    for word in shlex.split(line):
+        names = sorted(os.path.relpath(path, folder) for path in folder.glob(word)) if "/*" in word else []
+        words += names or [word]
+    with contextlib.ExitStack() as stack:
+        out, messages = (stack.enter_context(open(folder / f".{name}", "w+", encoding="utf-8", newline="")) for name in ("out", "messages"))
+        stack.enter_context(contextlib.redirect_stdout(out))
+        stack.enter_context(contextlib.redirect_stderr(messages))
+        try:
+            status = main._run(words)
+        except SystemExit as wrong:  # of arguments that argparse refuses
+            status = wrong.code
+        for stream in (out, messages):
+            stream.seek(0)
+        return status, out.read().splitlines(), messages.read().splitlines()
+
+
+def put_bag(folder):
+    """A bag of two pictures, one of which has changed since its digest was written (RFC 8493, 2.1.3)."""
+    made_museum.put(folder / "data", made_museum.desk("desk"))
+    digests = {path: hashlib.sha256(path.read_bytes()).hexdigest() for path in sorted(folder.glob("data/desk/[12].jpg"))}
+    rows = [f"{digest}  {path.relative_to(folder)}\n" for path, digest in digests.items()]
+    (folder / "manifest-sha256.txt").write_text("".join(rows), encoding="utf-8")
+    (folder / "bagit.txt").write_text("BagIt-Version: 1.0\nTag-File-Character-Encoding: UTF-8\n", encoding="utf-8")
+    (folder / "data" / "desk" / "2.jpg").write_bytes(made_museum.captioned(132, title="Salt 9"))
+
+
+def done(line, folder, status=0):
+    """The lines of a command that must end with this status."""
+    __tracebackhide__ = True
+    ended, lines, messages = run(line, folder)
+    assert ended == status, (line, lines, messages)
+    return lines
+
+
+def make(folder):
+    """Writes the pictures of the first night to `one` and `archive`, indexes them, then has the second night in `archive`."""
+    first = made_museum.first_night()
+    made_museum.put("one", first)
+    made_museum.put("archive", first)
+    for name, words in ((".plain", ""), (".full", WHOLE)):
+        done(f"index archive --jobs 1 --catalogue {name}{words}", folder)
+    shutil.copy(".plain", ".before")
+    shutil.copy(".full", ".full.before")
+    shutil.rmtree("archive")
+    made_museum.put("archive", made_museum.second_night(), made_museum.TIME + 86_400, before=first)
+    for name, words in ((".plain", ""), (".full", WHOLE)):
+        done(f"index archive --jobs 1 --catalogue {name}{words}", folder)
+    done("index one/desk --jobs 1 --pixels --catalogue .few", folder)
+    put_bag(folder / "bag")
+
+
+@pytest.fixture(scope="session")
+def museum_of_this_process(tmp_path_factory):
+    folder = tmp_path_factory.mktemp("museum")
+    with standing_clock(), in_folder(folder):
+        make(folder)
+    return folder
+
+
+@pytest.fixture
+def museum(museum_of_this_process):
+    """The folder in which commands are called: `one` and `archive` are the pictures of both nights, `before` and `plain` their catalogues,
+    `full.before` and `full` these with --pixels --maker-notes --sidecars, `few` a catalogue of few pictures."""
+    with standing_clock(), in_folder(museum_of_this_process):
+        for path in museum_of_this_process.iterdir():  # what an earlier test has written
+            if path.name not in ("one", "archive", "bag") and not path.name.startswith("."):
+                shutil.rmtree(path) if path.is_dir() else path.unlink()
+        for name in CATALOGUES:
+            shutil.copy(f".{name}", name)
+        yield museum_of_this_process

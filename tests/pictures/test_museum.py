@@ -1,0 +1,279 @@
+"""Every command with every option over the made museum: what it prints is in golden/museum/COMMAND.txt, which a reviewer reads."""
+
+import argparse
+import os
+import re
+import shlex
+import shutil
+
+import made_museum
+import pytest
+from exifnorm_pictures.cli import parser
+from museum import run
+from studio import needs
+
+pytestmark = pytest.mark.xdist_group("museum")
+
+RULES = """# the museum's
+every picture needs creator, copyright
+copyright is "Museum of Salt"
+title like "Salt *" in desk/
+position never in work/
+keywords one of clay, bowl
+caption at most 100 characters
+date created not after 2025-12-31
+creator is "Anna Moor" except texts/
+"""
+LISTS = {"rules": RULES, "some": "archive/desk\narchive/work/pages.tif\n", "fields": "# not these\nIFD0:Artist\nIPTC:Keywords\n"}
+
+# What is called, one line each, in the folder that the fixture `museum` describes
+CALLS = {
+    "index": """
+        index archive --catalogue new --jobs 1
+        index archive --catalogue new --json --quiet
+        index archive --catalogue new --again --exclude 'odd' --exclude '*.tif' --keep-old older --pixels --quiet
+        index archive/sidecars archive/notes --catalogue two --sidecars --maker-notes --whole --limit 50 --debug --jobs 1
+        index --files-from some --catalogue three --jobs 1
+        index --files-from some0 -0 --catalogue three --json
+        index nowhere --catalogue four
+        index archive/work archive/texts --shards parts --jobs 1 --quiet
+        list parts --where 'title = "A vase"'
+        same parts --kind iptc
+        changed parts parts
+    """,
+    "merge": """
+        merge few plain --catalogue all
+        merge few plain --catalogue all2 --json --debug
+        same --catalogue all --no-look --kind iptc
+        merge few full --catalogue all3
+    """,
+    "forget": """
+        forget archive/desk archive/refused --catalogue plain
+        forget plain archive/work --json --debug
+        forget --files-from some --catalogue full
+        forget --files-from some0 -0 --catalogue full --json
+        forget nowhere --catalogue full
+    """,
+    "relocate": """
+        relocate few one/desk moved
+        relocate --catalogue few moved one/desk --json --debug
+        relocate few nowhere one
+        relocate few one/desk nowhere
+    """,
+    "verify": """
+        verify full --quiet
+        verify --catalogue full.before archive --quiet --jobs 1
+        verify --catalogue full.before archive --quiet --json
+        verify --catalogue full.before archive --quiet --list damaged --state state
+        verify --catalogue full --quiet --evidence sums --debug --limit 50
+        verify --catalogue full --quiet --evidence sums.hashdeep --form hashdeep
+        verify --catalogue full --quiet --evidence sums.bagit --form bagit --json
+        verify --bag bag --quiet
+        verify --catalogue full --files-from some --quiet
+        verify --catalogue full --files-from some0 -0 --quiet
+        verify --catalogue plain --quiet
+    """,
+    "same": """
+        same plain
+        same --catalogue full --kind file
+        same --catalogue full --kind pixels --columns title,creator
+        same --catalogue full --kind pixels --differ title
+        same --catalogue full --kind exif --least-fields 3
+        same --catalogue full --kind iptc --csv
+        same --catalogue full --kind xmp --json
+        same --catalogue full --no-look --ignore IFD0:Artist --ignore-file fields
+        same --catalogue full --only 'IFD0:*' --equal-numbers
+        same --catalogue full --only-file fields --json --debug
+        same --catalogue full --files-from some
+        same --catalogue full --files-from some0 -0 --csv --columns title
+        same --catalogue full --xlsx same.xlsx
+    """,
+    "changed": """
+        changed before plain
+        changed full.before full
+        changed full.before full --each
+        changed full.before full --exact --only '*:Artist'
+        changed full.before full --all --ignore-file fields --ignore 'XMP-*'
+        changed full.before full --csv
+        changed full.before full --json --no-exiftool
+        changed full.before full --only caption --only title
+        changed full.before full --only-file fields
+        changed before full
+        changed one archive --jobs 1 --quiet
+        changed one archive --jobs 2 --quiet --sidecars --pixels --whole --limit 50
+        changed one archive --quiet --equal-numbers --debug --files-from some
+        changed one archive --quiet --files-from some0 -0
+        changed before plain --xlsx changed.xlsx
+    """,
+    "history": """
+        history archive/work/retitled.jpg full.before full
+        history archive/drawer/1.jpg full.before full
+        history archive/work/published.jpg full.before full --json --debug
+        history archive/nowhere.jpg full.before --catalogue full
+    """,
+    "compare": """
+        compare one/work/retitled.jpg archive/work/retitled.jpg
+        compare one/work/retitled.jpg archive/work/retitled.jpg --exact
+        compare one/work/retitled.jpg archive/work/retitled.jpg --csv --limit 50
+        compare one/work/retitled.jpg archive/work/retitled.jpg --json --whole
+        compare one/work/retitled.jpg archive/work/retitled.jpg --only title
+        compare one/work/retitled.jpg archive/work/retitled.jpg --ignore 'IPTC:*' --ignore-file fields
+        compare one/work/retitled.jpg archive/work/retitled.jpg --only-file fields --equal-numbers
+        compare one/notes/note.jpg one/notes/moved.jpg
+        compare one/notes/note.jpg one/notes/moved.jpg --no-exiftool
+        compare one/notes/note.jpg one/notes/owner.jpg --debug
+        compare one/copies/order.jpg one/copies/other-order.jpg
+        compare one/refused/Overlap.jpg one/refused/Unsorted.jpg
+        compare one/states/trailer.jpg archive/states/trailer.jpg
+        compare one/work/retitled.jpg archive/work/retitled.jpg --xlsx compared.xlsx
+    """,
+    "list": """
+        list few
+        list plain --columns title,creator,keywords --where 'keywords has clay'
+        list plain --without copyright
+        list full --with position --columns position
+        list full --with serial --without title
+        list full --where 'title = "A vase" or creator like "Zo*"' --columns title,creator --csv
+        list full --where 'Rating >= 4' --json
+        list full --count creator
+        list full --count title --json
+        list full --geojson
+        list --catalogue full --with damage --columns damage
+        list full --with position -0
+        list full --since 2026-01-03
+        list full --since 2026-01-04
+        list archive --with position --sidecars --jobs 1 --quiet --whole --limit 50 --debug
+        list full --where 'creatr = x'
+        list full --xlsx list.xlsx
+    """,
+    "check": """
+        check rules plain
+        check rules --catalogue few --by-picture
+        check rules few --csv
+        check rules few --json
+        check rules archive/work --jobs 1 --quiet --sidecars --whole --limit 50 --debug
+        check rules plain --xlsx check.xlsx
+        check some plain
+    """,
+    "nightly": """
+        nightly archive --catalogue night --rules rules --jobs 1
+        nightly archive --catalogue night --rules rules --jobs 1
+        nightly nowhere --catalogue night
+        nightly archive --catalogue night2 --exclude odd --maker-notes --sidecars --pixels --whole --limit 50 --debug --json
+        nightly archive --catalogue before --html letter.html --jobs 1
+        nightly archive --catalogue full.before --html letter/ --jobs 1
+    """,
+    "show": """
+        show archive/texts/*.jpg
+        show archive/contradictions/place.jpg archive/sidecars/raw.nef --exact
+        show archive/work/pages.tif archive/formats/heic.heic --csv --limit 50 --whole
+        show archive/work/retitled.jpg archive/texts/structures.jpg --json --debug
+        show block --block
+        show --files-from some
+        show --files-from some0 -0 --csv
+        show archive/states/*
+        show archive/work/retitled.jpg --xlsx shown.xlsx
+    """,
+    "captions": """
+        captions archive/texts/*.jpg archive/contradictions/*.jpg
+        captions archive/states/* archive/odd/*
+        captions archive/work/*.jpg --csv
+        captions archive/contradictions/place.jpg archive/texts/languages.jpg --json --limit 50 --whole --debug
+        captions block --block
+        captions plain --csv
+        captions --catalogue few
+        captions --files-from some0 -0
+        captions --files-from some --csv
+        captions archive/work/retitled.jpg --xlsx captions.xlsx
+    """,
+    "conflicts": """
+        conflicts full
+        conflicts --catalogue few
+        conflicts full --all
+        conflicts full --ignore creator
+        conflicts full --only creator --csv
+        conflicts archive/contradictions archive/texts --json --limit 50 --whole --debug
+        conflicts --files-from some
+        conflicts --files-from some0 -0 --all
+        conflicts full --xlsx conflicts.xlsx
+    """,
+    "explain": """
+        explain one/refused/Overlap.jpg one/refused/NoMarker.jpg one/refused/Loop.jpg
+        explain archive/states/* --limit 50 --whole
+        explain archive/states/packet-broken.png archive/refused/Overlap.jpg --json --debug
+        explain block --block
+        explain --files-from some
+        explain --files-from some0 -0
+    """,
+    "report": """
+        report plain
+        report few --json
+        report full --since full.before --json --only title
+        report full --since full.before --rules rules --html page.html --title 'The museum' --no-look --limit 50 --debug
+        report full --since full.before --rules rules --html pages/ --link-to 'https://dam.example/{path}'
+        report --catalogue full --json --ignore IFD0:Artist --ignore-file fields
+        report full --only-file fields --equal-numbers --since full.before --json --files-from some
+        report full --files-from some0 -0 --json
+    """,
+    "export": """
+        export full tables.sqlite --quiet
+        export --catalogue few few.sqlite --quiet
+        export plain plain.sqlite --json --no-look --limit 50 --debug --quiet
+        export full some.sqlite --files-from some --quiet
+        export full some0.sqlite --files-from some0 -0 --quiet
+    """,
+    "mend": """
+        mend archive/states/two-blocks.jpg mended.jpg
+        mend --catalogue full mended --lossless
+        mend one/refused/Doubled.jpg mended.jpg3 --lossless --json --limit 50 --debug
+        mend --files-from some mended --json
+        mend --files-from some0 -0 mended
+        mend one/refused mended4
+    """,
+}
+# Options that no call can have here, and why
+ELSEWHERE = {"--scheduler": "needs a cluster: test_dask.py", "--elsewhere": "needs a cluster: test_dask.py", "--help": "help.txt has it"}
+
+
+def lines_of(command):
+    return [line.strip() for line in CALLS[command].strip().splitlines()]
+
+
+def transcript(lines, folder):
+    parts = []
+    for line in lines:
+        status, printed, messages = run(line, folder)
+        messages = [
+            f"(stderr) {message}" for message in messages if not re.match(r"[\d,]+ of (at least )?[\d,]+ pictures", message)
+        ]  # progress
+        parts += [f"$ exifnorm-pictures {line}", *printed, *messages, f"(status {status})", ""]
+    text = "\n".join(parts).replace(str(folder), "F").replace(os.fsencode(folder).hex(), "F".encode().hex())
+    return text.replace("\0", "\\0\n")
+
+
+@needs("exiftool", "exiv2", "PIL", "rdflib")
+@pytest.mark.parametrize("command", CALLS)
+def test_what_a_command_prints(command, museum, golden):
+    for name, text in LISTS.items():
+        (museum / name).write_text(text, encoding="utf-8")
+    (museum / "some0").write_text(LISTS["some"].replace("\n", "\0"), encoding="utf-8")
+    (museum / "block").write_bytes(made_museum.BLOCKS["Overlap"])
+    shutil.copytree("one/desk", "moved", dirs_exist_ok=True)
+    os.makedirs("mended", exist_ok=True)
+    golden(f"museum/{command}.txt", transcript(lines_of(command), museum))
+
+
+def options_of(command):
+    """The long names of a command's options, or the short ones of those that have no long one."""
+    actions = [it for it in parser.parsers()[1][command]._actions if it.option_strings]
+    return {it.option_strings[-1] for it in actions if not isinstance(it, argparse._HelpAction)}
+
+
+def test_every_option_of_every_command_is_called():
+    lacking = {}
+    for command in parser.parsers()[1]:
+        words = {word.partition("=")[0] for line in lines_of(command) for word in shlex.split(line)} if command in CALLS else set()
+        lacking[command] = {
+            it for it in options_of(command) if it not in words and it not in ELSEWHERE and not (it == "--null" and "-0" in words)
+        }
+    assert {command: names for command, names in lacking.items() if names} == {}, "no call of CALLS has these options"

@@ -1,0 +1,169 @@
+"""Laws over the made museum: what one command or form of output says, the others say too, and what must not matter doesn't."""
+
+import collections
+import csv
+import json
+import os
+import random
+import shutil
+
+import pytest
+from made_museum import TIME
+from museum import WHOLE, done, run
+from studio import needs
+
+pytestmark = [pytest.mark.xdist_group("museum")]
+LABELS = "title,caption,creator,copyright,keywords,credit,city,headline,date created"
+OPPOSITE = {"missing after": "missing before", "missing before": "missing after", "damaged": "damaged before"}
+OPPOSITE.update({after: before for before, after in OPPOSITE.items()})
+
+
+def objects(line, folder, status=None):
+    """The objects that a command prints with --json, and its status if none is required."""
+    ended, lines, messages = run(f"{line} --json", folder)
+    assert status in (None, ended), (line, ended, messages)
+    return [json.loads(it) for it in lines]
+
+
+def by_path(lines):
+    return {it["path"]: it for it in lines if "path" in it}
+
+
+def files_of(folder, top):
+    """The names of all files, with links that lead nowhere."""
+    return sorted(os.path.relpath(os.path.join(place, name), folder) for place, _, names in os.walk(folder / top) for name in names)
+
+
+def fields_of(picture, first="before", second="after"):
+    """The fields that differ, each with what both sides have."""
+    return sorted((it["name"], *(json.dumps(it[side]) for side in (first, second))) for it in picture["fields"])
+
+
+@needs("exiftool")
+def test_what_a_catalogue_keeps_is_what_is_read(museum):
+    """`list` of a catalogue has the texts that `captions` reads of the files."""
+    (museum / "names").write_bytes(b"".join(os.fsencode(it) + b"\0" for it in files_of(museum, "archive")))
+    read = {
+        os.path.join(str(museum), path): it["captions"] for path, it in by_path(objects("captions --files-from names -0", museum)).items()
+    }
+    kept = by_path(objects(f"list plain --columns '{LABELS}'", museum))
+    assert len(kept) > 90
+    for path, picture in kept.items():
+        texts = collections.defaultdict(set)
+        for caption in read[path]:
+            if not caption["own"]:
+                texts[caption["label"]].update(caption["texts"])
+        for label in LABELS.split(","):
+            assert sorted(set(picture["texts"][label])) == sorted(texts[label]), (path, label)
+
+
+@needs("exiftool")
+def test_the_table_of_captions_leaves_no_cell_empty(museum):
+    """It has a text wherever `list` finds one."""
+    _, rows, _ = run("captions plain --csv", museum)
+    kept = by_path(objects(f"list plain --columns '{LABELS}'", museum))
+    lacking = {}
+    for row in csv.DictReader(rows):
+        if picture := kept.get(row["picture"]):
+            lacking[row["picture"]] = [label for label in LABELS.split(",") if picture["texts"][label] and not row[label]]
+    assert len(lacking) > 80 and {name: labels for name, labels in lacking.items() if labels} == {}
+
+
+@needs("exiftool")
+def test_changed_says_what_compare_says(museum):
+    """Each picture of both nights: its result and the fields that differ are those of `compare` with its two files."""
+    pictures = by_path(objects("changed full.before full --all --exact", museum))
+    pictures = {name: it for name, it in pictures.items() if not name.startswith("sidecars/")}  # which `compare` doesn't read
+    names = [
+        it for it in pictures if all((museum / top / it).is_file() for top in ("one", "archive")) and "\n" not in it and "\\" not in it
+    ]
+    assert len(names) > 75
+    for name in names:
+        (compared,) = objects(f"compare 'one/{name}' 'archive/{name}' --exact", museum)
+        if compared["identical_files"]:  # which `compare` calls the same whatever is in them
+            assert not pictures[name]["fields"], name
+            continue
+        assert (compared["result"], fields_of(compared)) == (pictures[name]["result"], fields_of(pictures[name])), name
+
+
+@pytest.mark.parametrize("catalogues", [("before", "plain"), ("full.before", "full")], ids="-".join)
+def test_there_and_back(catalogues, museum):
+    """The changes from the second night to the first are those from the first to the second, the other way round."""
+    there = by_path(objects(f"changed {catalogues[0]} {catalogues[1]} --all --no-exiftool", museum))
+    back = by_path(objects(f"changed {catalogues[1]} {catalogues[0]} --all --no-exiftool", museum))
+    places = {it["moved_to"]["path"]: name for name, it in there.items() if it["moved_to"]}
+    for name, picture in there.items():
+        place = picture["moved_to"]["path"] if picture["moved_to"] else name
+        other = back[place]
+        assert other["result"] == OPPOSITE.get(picture["result"], picture["result"]), name
+        assert (other["moved_to"] or {"path": place})["path"] == (name if place in places else place), name
+        assert fields_of(picture) == fields_of(other, "after", "before"), name
+
+
+@pytest.mark.parametrize("words", ["", "--only 'IPTC:*'", "--ignore 'XMP*'", "--equal-numbers", "--only caption", "--sidecars"])
+def test_text_csv_and_json_say_the_same(words, museum):
+    """The number of pictures of each result, and the status."""
+    before, after = ("one", "archive --jobs 1 --quiet") if words == "--sidecars" else ("full.before", "full")
+    status, lines, _ = run(f"changed {before} {after} {words} --all --json", museum)
+    counts = collections.Counter(it["result"] for it in map(json.loads, lines) if "path" in it)
+    ended, rows, _ = run(f"changed {before} {after} {words} --all --csv", museum)
+    results = {row["picture"]: row["result"] for row in csv.DictReader(rows) if row["picture"]}  # the last rows are about all pictures
+    assert (collections.Counter(results.values()), ended) == (counts, status)
+    ended, text, _ = run(f"changed {before} {after} {words} --all", museum)
+    last = next(line for line in text if line.startswith(tuple(str(it) for it in range(10))) and " same" in line and ": " not in line)
+    for result, count in counts.items():
+        assert f"{count} {result}" in last.replace(", the same", ", the same"), (result, last)
+    assert ended == status
+
+
+def test_only_and_ignore_make_the_whole(museum):
+    """What --only leaves and what --ignore leaves, for one pattern, are together all that differs."""
+    found = {}
+    for words in ("", "--only 'IPTC:*'", "--ignore 'IPTC:*'"):
+        pictures = by_path(objects(f"changed full.before full {words} --all", museum))
+        found[words] = {(name, it["name"]) for name, picture in pictures.items() for it in picture["fields"]}
+    whole, *parts = found.values()
+    assert whole == set.union(*parts) and not set.intersection(*parts) and all(parts)
+
+
+@needs("exiftool")
+def test_the_order_of_names_says_nothing(museum):
+    """A catalogue that is filled in another order, in two runs, prints the same."""
+    names = [os.fsencode(museum / it) for it in files_of(museum, "archive")]
+    random.Random(5).shuffle(names)
+    for number, part in enumerate((names[:40], names[40:])):
+        (museum / f"names{number}").write_bytes(b"".join(it + b"\0" for it in part))
+        run(f"index --files-from names{number} -0 --jobs 1 --catalogue other --quiet", museum)
+    done("index archive --jobs 1 --catalogue once --quiet", museum)
+    for line in ("same", "list", "conflicts", "report --json"):
+        command, *more = line.split()
+        found = [run(f"{command} --catalogue {name} {' '.join(more)}", museum) for name in ("once", "other")]
+        assert found[0] == found[1], command
+
+
+@needs("exiftool")
+def test_two_merged_are_one(museum):
+    """Catalogues of two halves, merged, print what a catalogue of both prints."""
+    halves = ("texts copies odd", "work states notes")
+    for name, folders in zip(("first", "second"), halves):
+        done(f"index {' '.join(f'archive/{it}' for it in folders.split())} --jobs 1 --catalogue {name} --quiet", museum)
+    done(f"index {' '.join(f'archive/{it}' for it in ' '.join(halves).split())} --jobs 1 --catalogue whole --quiet", museum)
+    done("merge first second --catalogue merged", museum)
+    for line in ("same", "list", "conflicts", "report --json", "list --count creator"):
+        command, *more = line.split()
+        found = [run(f"{command} --catalogue {name} {' '.join(more)}", museum) for name in ("whole", "merged")]
+        assert found[0] == found[1], command
+
+
+@needs("exiftool")
+def test_another_mount_point(museum):
+    """A copy of the archive at another place, with its times: nothing has changed, and a second `index` reads nothing."""
+    shutil.copytree("archive", "mounted", symlinks=True)
+    done(f"index mounted --jobs 1 --catalogue other --quiet{WHOLE}", museum)
+    pictures = by_path(objects("changed full other --all", museum))
+    assert {
+        it["result"] for it in pictures.values() if it["result"].endswith(("different", "missing after", "moved", "other picture"))
+    } == set()
+    summary = objects("index mounted --jobs 1 --catalogue other --quiet --sidecars --pixels --maker-notes", museum)[-1]
+    assert set(summary["counts"]) <= {"unchanged", "LinkToNothing as before"}, summary
+    assert os.stat("mounted/work/touched.jpg").st_mtime == TIME
