@@ -5,7 +5,7 @@
 
 LIBRARY is a folder such as out/lib, which both use. The instructions, which Valgrind counts, hardly depend on the machine: those of each
 command on the samples, and those of `index` on JPEG files that are made here, with captions of up to so many characters in IPTC and XMP. The
-size is that of the catalogue of these files.
+size is that of the catalogue of these files, which `export` writes as tables.
 """
 
 import argparse
@@ -84,10 +84,10 @@ class Tree:
             raise SystemExit(f"{' '.join(words)}: status {done.returncode}: {done.stderr[-1000:]}")
         return done.stderr
 
-    def instructions(self, *words: str) -> int:
-        """The instructions of a command, whose modules are compiled; it makes a catalogue anew."""
+    def instructions(self, *words: str, makes: str = "new") -> int:
+        """The instructions of a command, whose modules are compiled; it makes a file anew, such as a catalogue."""
         for _ in range(2):
-            (self.folder / "new").unlink(missing_ok=True)
+            (self.folder / makes).unlink(missing_ok=True)
             told = self.run(
                 *words, before=["valgrind", "--tool=cachegrind", "--cache-sim=no", "--cachegrind-out-file=/dev/null"] if _ else []
             )
@@ -104,6 +104,8 @@ def rows(trees: Tuple[Tree, Tree], folder: Path, count: int, longest: int) -> It
         what = f"{count} JPEG files with captions of up to {most:,} characters"
         yield (f"instructions of `index`, {what}", *(it.instructions(*words) for it in trees))
         yield (f"bytes of their catalogue, {what}", *((it.folder / "new").stat().st_size for it in trees))
+        words = ["export", "new", "tables", "--no-look", "--quiet"]
+        yield (f"instructions of `export` of their catalogue, {what}", *(it.instructions(*words, makes="tables") for it in trees))
 
 
 def main() -> None:

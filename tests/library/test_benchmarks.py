@@ -237,10 +237,10 @@ def test_costs_over_another_tree(library, tmp_path, monkeypatch):
     """Over this one itself they are the same. Valgrind takes long."""
     monkeypatch.setenv("EXIFNORM_LIBRARY", str(library / "libexifnorm.so.1"))
     over = load("pictures/over.py")
-    monkeypatch.setattr(over.Tree, "instructions", lambda tree, *words: len(tree.run(*words)))
+    monkeypatch.setattr(over.Tree, "instructions", lambda tree, *words, makes="new": len(tree.run(*words)))
     trees = over.Tree(TOP, tmp_path / "other"), over.Tree(TOP, tmp_path / "this")
     rows = {what: (other, this) for what, other, this in over.rows(trees, tmp_path, 3, 200)}
-    assert len(rows) == 11 and all(other == this for other, this in rows.values())
+    assert len(rows) == 13 and all(other == this for other, this in rows.values())
     assert sum(what.startswith("bytes of their catalogue") and size > 10_000 for what, (size, _) in rows.items()) == 2
 
 
