@@ -328,6 +328,12 @@ def test_the_catalogue_as_a_name_and_as_an_option(command, archive, called):
     assert answer(*(it for it in words if it != "c"), "--catalogue", "c") == expected
 
 
+@pytest.mark.parametrize("command", ["show", "explain"])
+def test_a_catalogue_in_place_of_a_picture(command, archive, called):
+    status, printed, _ = called(command, "c")
+    assert status == 2 and "a catalogue" in printed and "list" in printed, printed
+
+
 def folder_of(top):
     """The bytes of each file below a folder."""
     return {str(it.relative_to(top)): it.read_bytes() for it in sorted(top.rglob("*")) if it.is_file()}
@@ -347,6 +353,7 @@ def folder_of(top):
         (("nightly", "no", "new"), "nightly no new --catalogue CATALOGUE"),
         (("nightly", "a b", "c"), "nightly c 'a b'"),
         (("mend", "p", "q"), "index p --catalogue NEW"),
+        (("check", "c", "rules"), "check rules c"),
     ],
 )
 def test_a_first_name_that_is_no_catalogue(words, proposed, archive, called):

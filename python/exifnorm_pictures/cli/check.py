@@ -4,6 +4,7 @@ from __future__ import annotations
 
 import argparse
 import os
+import shlex
 from itertools import groupby
 from typing import TYPE_CHECKING, Dict, List, Tuple
 
@@ -13,6 +14,7 @@ from ..files import opening, signals
 from ..model.texts import Members, escaped, path_members, shown_path
 from .exit_codes import DIFFERENCE, SUCCESS, UNKNOWN
 from .looking import Preparing, catalogue_for_questions, refuse_for_catalogues
+from .names import is_catalogue
 from .objects import print_object
 from .output import print_line, table_of
 from .sources import settle
@@ -27,6 +29,9 @@ def run(arguments: argparse.Namespace) -> int:
     """Lists the pictures that break a rule."""
     source = settle(arguments)
     refuse_for_catalogues(arguments, source)
+    if is_catalogue(arguments.rules):
+        names = " ".join(escaped(shlex.quote(name)) for name in (source, arguments.rules))
+        raise WrongRules(f"{escaped(arguments.rules)} is a catalogue, and the rules come first. Write: exifnorm-pictures check {names}")
     rules = rules_of_file(arguments.rules)
     with catalogue_for_questions(source, arguments) as catalogue, catalogue.reading(is_answer=True):
         checked = Checked(catalogue, rules, Preparing(arguments).report)

@@ -9,10 +9,11 @@ from typing import Callable, Iterator, List, Sequence
 from ..extract.named import blocks_of_named
 from ..judge.reading import Reading
 from ..model.found import FoundBlock
+from ..model.problems import Problem
 from ..model.records import BlockRecord
 from ..model.texts import escaped, shown_path
 from .exit_codes import SUCCESS, UNKNOWN
-from .names import each_name, is_list
+from .names import each_name, is_catalogue, is_list
 from .not_read import no_block, picture_cut, unread
 from .output import print_line
 
@@ -51,10 +52,17 @@ def each_block(
     return worst
 
 
+_OF_CATALOGUE = f"{Problem.NO_PICTURE}: a catalogue, and no picture. captions and list print its texts, report explains what is refused"
+
+
 def _print(arguments: argparse.Namespace, reading: Reading, head: List[str], describe: Describe, refused_too: bool) -> None:
     read = reading.read
     if read.problem:
-        line = _of_folder(arguments.command, reading.name) if os.path.isdir(reading.name) else f"{read.problem}: {read.detail}"
+        line = f"{read.problem}: {read.detail}"
+        if os.path.isdir(reading.name):
+            line = _of_folder(arguments.command, reading.name)
+        elif read.problem == Problem.NO_PICTURE and is_catalogue(os.fsdecode(reading.name)):
+            line = _OF_CATALOGUE
         _print_lines([*head, line])
         return
     data = {one.name: one for one in read.blocks}
