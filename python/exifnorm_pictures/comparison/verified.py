@@ -23,7 +23,7 @@ class State(Word):
     text: str  # of how many it is true
     is_good: Optional[bool]  # whether its picture is as it was; None: nobody knows
 
-    AS_IT_WAS = ("as they were", "files as they were", True)
+    AS_IT_WAS = ("as they were", "unchanged: the same bytes", True)
     CAPTIONED = ("captioned", "captioned: other metadata, the same picture", True)
     AGAIN = ("written again", "written again: the same metadata, the same picture", True)
     MOVED = ("moved", "moved: the same file under another name", True)
