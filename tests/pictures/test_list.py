@@ -386,8 +386,14 @@ def test_wrong_questions_are_explained(folder, called, words, marked):
 def test_the_place_of_a_mistake_is_marked(folder, called):
     put(folder / "p", {"a.jpg": picture([])})
     called("index", "p", "--catalogue", "c", "--quiet")
-    *_, text, mark = called("list", "c", "--where", "title = A and creatr = B")[2].splitlines()
-    assert text[mark.index("^") : mark.rindex("^") + 1] == "creatr"
+    for question, wrong in (
+        ("title = A and creatr = B", "creatr"),
+        ("title ~ A", "~"),
+        ("date created around 1950", "around"),
+        ("title 'A'", "'A'"),
+    ):
+        *_, text, mark = called("list", "c", "--where", question)[2].splitlines()
+        assert text[mark.index("^") : mark.rindex("^") + 1] == wrong, question
 
 
 # Costs

@@ -496,3 +496,10 @@ def test_sidecars_and_excluded_files(archive, night):
     aged(archive)
     status, news, _ = night("--exclude", "*.tmp.jpg")
     assert (status, news) == (1, {("text changed", "title"): 1})
+
+
+@needs("exiftool", "exiv2")
+def test_names_of_the_first_letter(archive, called):
+    """They are those below the folder, as in each later letter."""
+    put(archive, {"web/0.orf": CUT})
+    assert "1 can't be read: web/0.orf" in called("nightly", "p", "--catalogue", "n")[1]

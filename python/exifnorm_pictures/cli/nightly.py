@@ -16,6 +16,7 @@ from ..catalogue.store import Catalogue
 from ..comparison.coded import sentence_of_coded
 from ..comparison.news import Between, Kind, News, Tally
 from ..comparison.newly_broken import newly_broken, newly_unread
+from ..comparison.pairs import heads_of
 from ..fields.rules import Rule
 from ..files import signals
 from ..model.problems import NOT_READABLE
@@ -79,8 +80,9 @@ class Night:
         with Catalogue(self.nights.tonight) as tonight:
             tally = Tally()
             query = f"SELECT path FROM pictures WHERE problem IN ({', '.join('?' * len(NOT_READABLE))}) ORDER BY path"
+            head = heads_of([tonight])[0]
             for (path,) in tonight.rows(query, NOT_READABLE):
-                tally.add(Kind.UNREADABLE, path)
+                tally.add(Kind.UNREADABLE, path[len(head) :] if path.startswith(head) else path)
             self.pictures = int(next(tonight.rows("SELECT count(*) FROM pictures WHERE problem IS NOT 'NoPicture'"))[0])
             if not self.pictures:
                 raise _no_picture(self.folders)

@@ -22,6 +22,7 @@ from .labels import DAMAGE, DATE, fields_by_label, label_of
 COMPARISONS = ("=", "!=", "has", "like", "<", "<=", ">", ">=")
 ORDERED = ("<", "<=", ">", ">=")
 _SIGNS = ("=", "!=", *ORDERED)
+_AFTER_LABEL = f"expected: one of {' '.join(COMPARISONS)} and a value after {{0}}, or `with {{0}}`"
 DEEPEST = 20  # brackets and `not` inside each other, each of which takes places in the stack of SQLite's parser, of which it has 100
 LONGEST = 4000  # characters of a question
 LONGEST_PATTERN = 1000  # characters of `like`, with which SQLite may compare at each place of a text
@@ -260,14 +261,22 @@ class _Reader:
         name = tokens[0].text if len(tokens) == 1 else whole.text
         label = _label_or_field(name)
         if label is None:
+            self._refuse_after_label(tokens)
             self._fail(whole, f"{name!r} is no label and no field{_nearest(name)}")
         return label
+
+    def _refuse_after_label(self, tokens: List[_Token]) -> None:
+        """Fails if some words begin with a label: what follows it is no comparison then."""
+        for number in range(len(tokens) - 1, 0, -1):
+            label = _label_or_field(self._text[tokens[0].start : tokens[number - 1].end])
+            if label is not None:
+                self._fail(tokens[number], _AFTER_LABEL.format(label))
 
     def _read_comparison(self) -> Question:
         label = self._read_label()
         token = self._next
         if token.word not in COMPARISONS:
-            self._fail(token, f"expected: one of {' '.join(COMPARISONS)} and a value after {label}, or `with {label}`")
+            self._fail(token, _AFTER_LABEL.format(label))
         self._at += 1
         value = self._read_value()
         if label == DATE and token.word in ("=", "!=", *ORDERED):
