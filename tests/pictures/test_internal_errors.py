@@ -13,6 +13,7 @@ from exifnorm_pictures.cli import main
 from exifnorm_pictures.comparison import changed, pairs
 from exifnorm_pictures.extract import extraction, readers
 from exifnorm_pictures.extract.formats import png
+from exifnorm_pictures.files import opening
 from exifnorm_pictures.fields import lines, packing
 from exifnorm_pictures.fields.listing import exact
 from exifnorm_pictures.judge import judge
@@ -20,7 +21,7 @@ from exifnorm_pictures.model import records
 from exifnorm_pictures.model.found import Blocks, NotRead
 from exifnorm_pictures.model.records import BlockRecord, Damaged, PictureRecord, Stamp
 from hypothesis import given, strategies as st
-from made_files import jpeg, png as made_png
+from made_files import app1, exif, jpeg, png as made_png
 from studio import errors, run
 
 FAULT = "unsupported operand type(s) for +: 'NoneType' and 'int'"
@@ -261,3 +262,39 @@ def test_in_processes_of_their_own(tmp_path):
     done = run(["python3", "-c", call, "index", "p", "--catalogue", "c", "--quiet", "--jobs", "2", "--debug"], str(tmp_path))
     assert (done.returncode, done.stdout.splitlines()[-1]) == (2, b"70 at which exifnorm-pictures itself failed"), done.stderr
     assert done.stderr.count(b"Traceback") == 70 and b"extraction.py" in done.stderr
+
+
+@pytest.mark.parametrize(
+    "words",
+    (
+        "captions k.jpg",
+        "show k.jpg",
+        "list k.jpg --with title",
+        "check k.jpg c",
+        "show --files-from k.jpg",
+        "verify --catalogue k.jpg",
+        "compare a.jpg k.jpg",
+        "mend k.jpg new.jpg",
+        "index . --catalogue new --quiet --jobs 1 --pixels",
+        "report --catalogue c --html page",
+    ),
+)
+def test_a_file_that_has_no_bytes_yet(words, called, folder, monkeypatch):
+    """As a link to the kernel's messages, /proc/kmsg, which is a regular file by its kind."""
+    opened = opening.opened
+
+    def opened_as_usual(path):
+        if os.path.basename(os.fsencode(path)) != b"k.jpg":
+            return opened(path)
+        number, other = os.pipe2(os.O_NONBLOCK)
+        ends.append(other)
+        return number, 0
+
+    ends = []
+    picture = jpeg(app1(exif(b"Anna")))
+    assert called("index", ".", "--catalogue", "c", "--quiet", "--jobs", "1", a=picture, k=picture)[0] == 0
+    monkeypatch.setattr(opening, "opened", opened_as_usual)
+    status, out, messages = called(*words.split())
+    assert status in (0, 2, 3, 4) and "internal" not in out + messages, (status, out, messages)
+    for number in ends:
+        os.close(number)

@@ -3,9 +3,15 @@
 from __future__ import annotations
 
 import errno
+import io
 import os
 import stat
-from typing import BinaryIO, Tuple, Union
+from typing import TYPE_CHECKING, BinaryIO, Optional, Tuple, TypeVar, Union
+
+if TYPE_CHECKING:
+    from _typeshed import WriteableBuffer
+
+Read = TypeVar("Read")
 
 IRREGULAR = "it is no regular file"
 
@@ -25,6 +31,22 @@ def opened(path: Union[bytes, str]) -> Tuple[int, int]:
     return number, now.st_size
 
 
+class _Regular(io.FileIO):
+    """A file that is never waited for. One of the system's that has no bytes yet, as /proc/kmsg, raises `BlockingIOError`, and doesn't end."""
+
+    def readinto(self, buffer: "WriteableBuffer") -> int:
+        return _there(super().readinto(buffer))
+
+    def readall(self) -> bytes:
+        return _there(super().readall())
+
+
+def _there(read: Optional[Read]) -> Read:
+    if read is None:
+        raise BlockingIOError(errno.EAGAIN, os.strerror(errno.EAGAIN))
+    return read
+
+
 def reading(path: Union[bytes, str]) -> BinaryIO:
     """A regular file as a stream. Raises `OSError`."""
-    return open(opened(path)[0], "rb")
+    return io.BufferedReader(_Regular(opened(path)[0]))
