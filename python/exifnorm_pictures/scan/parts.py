@@ -87,9 +87,9 @@ def plan(where: str, names: Sequence[bytes], patterns: Sequence[str]) -> Plan:
     os.makedirs(where, exist_ok=True)
     if new:
         shards.put_list(where, [*listed, *new])
-    found = [Shard(name, now[_key_of(name)]) for name in (*listed, *new) if _key_of(name) in now]
+    present_shards = [Shard(name, now[_key_of(name)]) for name in (*listed, *new) if _key_of(name) in now]
     has_sidecars, has_digests = (any(one[at] for one in kept.values()) for at in (1, 2))
-    return Plan([*found, *gone], has_sidecars, has_digests, not roots, excluded.count, frozenset(excluded.unused()))
+    return Plan([*present_shards, *gone], has_sidecars, has_digests, not roots, excluded.count, frozenset(excluded.unused()))
 
 
 def _check(where: str, tops: Sequence[bytes]) -> List[str]:
