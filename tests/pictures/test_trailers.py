@@ -80,11 +80,14 @@ SEVERAL = {
     "three": canon((0xF6, PACKET)) + foto_station((1, RECORD)) + photo_mechanic(b"\x1c\x02\xdd\0\4\0\0\0\1"),
     "Samsung first": samsung((b"a", b"b")) + foto_station((1, RECORD)),
     "Samsung last": foto_station((1, RECORD)) + samsung((b"a", b"b")),
+    "a zero before": b"\0" + foto_station((1, RECORD), (2, bytes(44))),
+    "zeros before": bytes(99) + canon((0xF6, PACKET)),
+    "a zero before AFCP": b"\0" + afcp(START + 1, (b"IPTC", RECORD)),
     "AFCP and another": afcp(START, (b"IPTC", RECORD)) + canon((0xF6, PACKET)),
 }
 LEFT = {  # to ExifTool, as before: they don't fill what follows the picture, or they don't fit
     "a byte before": b"x" + ONE["FotoStation"],
-    "zeros before": bytes(8) + ONE["Canon"],
+    "zeros and a byte before": bytes(8) + b"x" + bytes(8) + ONE["Canon"],
     "an unknown one before": b"some bytes" + ONE["PhotoMechanic"],
     "longer than the rest": photo_mechanic(RECORD)[:-12] + struct.pack(">I8s", len(RECORD) + 1, b"cbipcbbl"),
     "longer than the file": RECORD + struct.pack(">I8s", 1 << 30, b"cbipcbbl"),

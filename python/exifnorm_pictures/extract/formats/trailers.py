@@ -1,7 +1,8 @@
 """Trailers: bytes that programs append to a picture, recognised by the last of them, and the IPTC and XMP blocks in them.
 
 A file may have several. Their layouts are those that ExifTool reads: each ends with its mark, and tells where it begins. Only trailers that
-fill what follows the picture are read here, byte by byte up to its end mark; those of other files are left to ExifTool.
+fill what follows the picture are read here, byte by byte up to its end mark or the zeros after it, of which FotoStation writes one; those of
+other files are left to ExifTool.
 """
 
 from __future__ import annotations
@@ -12,7 +13,7 @@ from typing import Callable, Dict, List, NamedTuple, Optional, Tuple
 
 from ...model.budgets import RESOURCE_BYTES, RESOURCES, budget_of
 from ...model.found import IPTC, XMP, Blocks, Broken
-from .streams import Stream, read_at
+from .streams import Stream, is_blank, read_at
 
 
 class Trailer(NamedTuple):
@@ -69,6 +70,8 @@ def _all(stream: Stream, start: int, end: int) -> List[Block]:
     while end > start:
         budget_of(stream).spend(RESOURCES)
         trailer = known_trailer(stream, end)
+        if trailer is None and is_blank(stream, start, end):
+            break
         if trailer is None or trailer.name not in _READERS:
             raise Broken(f"no trailer that is read here ends at {end}")
         begins, blocks = _READERS[trailer.name](stream, end)
