@@ -3,6 +3,7 @@
 import io
 import itertools
 import json
+import os
 import struct
 import subprocess
 
@@ -13,6 +14,8 @@ from studio import needs
 
 from exifnorm_pictures.extract.exiftool import octets as decoded
 from exifnorm_pictures.extract.formats import jpeg as jpegs, psd as psds
+from exifnorm_pictures.extract.formats.streams import File
+from exifnorm_pictures.model.budgets import Budget
 from exifnorm_pictures.model.found import IPTC
 
 A, PACKET = exif(b"Abc"), title("a packet")
@@ -150,6 +153,20 @@ def test_samsung_s_that_does_not_fit_has_no_blocks():
     for behind in (ONE["FotoStation"] + b"x" + samsung((b"a", b"b")), samsung(), ONE["FotoStation"] + b"\0\0SEFT"):
         found = jpegs.read(io.BytesIO(jpeg(app1(A), behind=behind)))
         assert (blocks_of(found), found.has_more, len(found.not_read)) == ([], False, 1)
+
+
+@pytest.mark.parametrize("behind", [b"x", foto_station((1, RECORD))])
+def test_zeros_without_number(behind, folder):
+    """A file with holes may have thousands of millions of zeros: to read them would go over a limit."""
+    for name, octets, reader in (("a.jpg", jpeg(app1(A)), jpegs), ("a.psd", psd(), psds)):
+        (folder / name).write_bytes(octets)
+        with open(folder / name, "rb+") as file:
+            file.seek(5 << 30)
+            file.write(behind)
+        stream = File(os.open(folder / name, os.O_RDONLY), (5 << 30) + len(behind), Budget())
+        found = reader.read(stream)
+        stream.close()
+        assert (blocks_of(found), bool(found.not_read)) == ([], True), name
 
 
 def test_trailers_without_number():

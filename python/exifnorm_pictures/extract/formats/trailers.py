@@ -67,10 +67,11 @@ def add_blocks(blocks: Blocks, stream: Stream, start: int, end: int) -> bool:
 def _all(stream: Stream, start: int, end: int) -> List[Block]:
     """The blocks of the trailers from `start` to `end`. Raises `Broken` if they don't fill it, or one isn't read here."""
     read: List[Block] = []
+    last = end
     while end > start:
         budget_of(stream).spend(RESOURCES)
         trailer = known_trailer(stream, end)
-        if trailer is None and is_blank(stream, start, end):
+        if trailer is None and end < last and budget_of(stream).may_digest(end - start) and is_blank(stream, start, end):
             break
         if trailer is None or trailer.name not in _READERS:
             raise Broken(f"no trailer that is read here ends at {end}")
