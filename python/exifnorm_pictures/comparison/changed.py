@@ -494,9 +494,11 @@ class Equal:
         pictures."""
         self._write()
         self.base.execute("CREATE INDEX names_by_head ON names (head, name)")
-        counts = "(SELECT count(*) FROM names WHERE head = heads.id) AS pictures, (SELECT min(name) FROM names WHERE head = heads.id)"
         order = "rank, pictures DESC, id" if by_rank else "id"
-        for number, text, count, first in self.base.execute(f"SELECT id, text, {counts} FROM heads ORDER BY {order}"):
+        count_of = "(SELECT count(*) FROM names WHERE head = heads.id) AS pictures"
+        about = "SELECT text, (SELECT min(name) FROM names WHERE head = heads.id) FROM heads WHERE id = ?"
+        for number, count in self.base.execute(f"SELECT id, {count_of} FROM heads ORDER BY {order}"):
+            text, first = self.base.execute(about, (number,)).fetchone()  # which may be long, and aren't sorted
             yield text, count, iter([first]) if count == 1 else self._named(number)
 
     def _named(self, number: int) -> Iterator[bytes]:
