@@ -511,7 +511,7 @@ class Sessions(WithPictures):
             self.assertEqual([it.close.call_count for it in tools], [0, 1])
 
     def test_how_a_program_is_started(self):
-        """In a session of its own, in the C locale, without standard error; it ends with this process, and gets the signals that this one gets."""
+        """In a session of its own, in the C locale, with pipes for both outputs; it ends with this process, and gets the signals that this one gets."""
         calls = []
         with mock.patch.object(programs.subprocess, "Popen", lambda words, **more: calls.append((words, more))):
             programs.start(["a", "b"], "/", stdin=-3)
@@ -520,12 +520,17 @@ class Sessions(WithPictures):
         environment = more.pop("env")
         self.assertEqual(
             (words, more),
-            (["a", "b"], {"stdin": nowhere, "stdout": pipe, "stderr": nowhere, "bufsize": 0, "cwd": "/", "start_new_session": True}),
+            (["a", "b"], {"stdin": nowhere, "stdout": pipe, "stderr": pipe, "bufsize": 0, "cwd": "/", "start_new_session": True}),
         )
         self.assertEqual(environment, {**os.environ, "LC_ALL": "C"})
-        with mock.patch.object(programs, "_libc") as libc, mock.patch.object(programs.signal, "pthread_sigmask") as mask:
+        with contextlib.ExitStack() as mocks:
+            libc = mocks.enter_context(mock.patch.object(programs, "_libc"))
+            mask = mocks.enter_context(mock.patch.object(programs.signal, "pthread_sigmask"))
+            limit = mocks.enter_context(mock.patch.object(programs.resource, "setrlimit"))
             begin()
         self.assertEqual(libc.mock_calls, [mock.call.prctl(1, 9)])  # PR_SET_PDEATHSIG, SIGKILL
+        ((which, (soft, _)), _) = limit.call_args
+        self.assertTrue(which == programs.resource.RLIMIT_AS and 0 < soft <= 1 << 30, (which, soft))
         self.assertEqual(
             mask.mock_calls, [mock.call(programs.signal.SIG_SETMASK, programs.signal.pthread_sigmask(programs.signal.SIG_BLOCK, ()))]
         )
