@@ -35,6 +35,7 @@ PROGRAMS = {
     "parallel": "parallel",
     "sqlite3": "sqlite3",
     "hashdeep": "hashdeep",
+    "heif-enc": "libheif-examples",
     "perl": "perl",
 }
 MODULES = {"piexif": "python3-piexif", "distributed": "python3-distributed", "PIL": "python3-pil", "rdflib": "python3-rdflib"}

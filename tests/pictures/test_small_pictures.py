@@ -12,8 +12,9 @@ from unittest import mock
 
 import pytest
 from made_files import app1
-from studio import SMALL_JPEG
+from studio import SMALL_JPEG, needs, tool
 
+from exifnorm_pictures.files import session
 from exifnorm_pictures.report import shrinking, small_pictures, thumbnails
 
 Image = pytest.importorskip("PIL.Image")
@@ -316,3 +317,44 @@ def test_what_is_taken_of_an_earlier_report(
     else:
         assert (folder / "report" / name).read_bytes() == octets and made == ["a.jpg"] * (what != "no links")
     assert (folder / "other.jpg").read_bytes() == b"other"
+
+
+# HEIC and AVIF, made by heif-enc of libheif
+
+
+def made_heif(folder: Path, ending: str, *words: str) -> Path:
+    """A picture whose upper half is red."""
+    half_red((320, 160)).save(folder / "half.png")
+    tool(str(folder), "heif-enc", "-q", "60", *words, "half.png", "-o", f"half.{ending}")
+    return folder / f"half.{ending}"
+
+
+@needs("heif-enc")
+@pytest.mark.parametrize("ending, words", [("heic", ()), ("avif", ("-A",))])
+def test_heic_and_avif_have_one(ending: str, words: Sequence[str], tmp_path: Path) -> None:
+    path = os.fsencode(made_heif(tmp_path, ending, *words))
+    with session.Session(60.0, room=str(tmp_path)) as ours:
+        with contextlib.closing(small_pictures.SmallPictures([], small_pictures.InPage(), ours)) as pictures:
+            address = pictures.of([path])[path]
+        assert os.listdir(ours.folder()) == []
+    picture = Image.open(io.BytesIO(base64.b64decode(address.partition(",")[2])))
+    width, height = picture.size
+    top, bottom = picture.getpixel((width // 2, height // 5)), picture.getpixel((width // 2, height * 4 // 5))
+    assert picture.size == (300, 150) and top[0] > 200 > 60 > top[2] and bottom[2] > 200 > 60 > bottom[0]
+
+
+@needs("heif-enc")
+def test_a_heic_that_is_damaged_or_slow_costs_its_tile(tmp_path: Path, monkeypatch: pytest.MonkeyPatch) -> None:
+    whole = made_heif(tmp_path, "heic")
+    octets = whole.read_bytes()
+    files = {"cut.heic": octets[: len(octets) // 2], "empty.heic": octets[:12], "zeros.heic": octets[:40] + bytes(len(octets) - 40)}
+    for name, made in files.items():
+        (tmp_path / name).write_bytes(made)
+    with session.Session(60.0, room=str(tmp_path)) as ours:
+        with contextlib.closing(small_pictures.SmallPictures([], small_pictures.InPage(), ours)) as pictures:
+            found = pictures.of([os.fsencode(tmp_path / name) for name in files])
+            assert {path for path in found if not path.endswith(b"cut.heic")} == set()
+        monkeypatch.setattr(shrinking, "SECONDS", 0.001)
+        with contextlib.closing(small_pictures.SmallPictures([], small_pictures.InPage(), ours)) as pictures:
+            assert pictures.of([os.fsencode(whole)]) == {}
+        assert os.listdir(ours.folder()) == []

@@ -16,6 +16,7 @@ from ..files.folders import NewFolder
 from ..files.session import Session
 from ..model.budgets import Budget
 from ..model.records import Stamp, is_as_before
+from . import heif
 from .thumbnails import Shrinker, thumbnail_of
 
 _PIECE, _MOST_PIECES = 1 << 20, 64  # bytes of a file at a time, and how many such pieces are compared
@@ -126,6 +127,8 @@ class SmallPictures:
         """The address of a new small picture."""
         embedded = thumbnail_of(path, self._session) if source.embedded is None else source.embedded
         octets = self._shrinker.small(path, embedded, whole)
+        if not octets and self._session and (converted := heif.as_jpeg(path, self._session)):
+            octets = self._shrinker.small(path, converted)
         return self._kept.put(name, octets) if octets else ""
 
     def _source(self, path: bytes, whole: bool) -> _Source:
