@@ -417,7 +417,7 @@ def test_a_picture_that_became_a_pipe(archive):
             ["show", "--block", device],
             ["index", device, "--catalogue", "new", "--quiet"],
         )
-        if words[0] not in ("captions", "index") or device != "p"  # which read folders
+        if words[0] not in ("captions", "index", "mend") or device != "p"  # which read folders, or say what to do with them
     ]
     for ended in run_each(archive, commands):
         assert len((ended.check(2).out + ended.err).splitlines()) >= 1, ended.words

@@ -326,7 +326,7 @@ class Catalogues(InFolder):
         os.mkfifo(self.path("pipe"))
         for name in ("folder", "pipe"):
             self.asked("index", "p", "--catalogue", name, status=4)
-            self.assertIn("no regular file", self.complaint)
+            self.assertRegex(self.complaint, "no regular file|is a folder")
 
     def test_other_versions(self):
         for version in (VERSION - 1, VERSION + 1, 99):
@@ -567,7 +567,7 @@ class Arguments(WithPictures):
         for words, wrong in (
             (["index", "a.jpg", "--catalogue", "c", "--jobs=-1"], "--jobs: "),
             (["index", "a.jpg", "--catalogue", "c", "--jobs", "0"], "--jobs: "),
-            (["index", "", "--catalogue", "c"], "FOLDER: "),
+            (["index", "", "--catalogue", "c"], "CATALOGUE: "),
             (["show", ""], "PICTURE: "),
             (["show", "a.jpg", "--limit", "0"], "--limit: "),
             (["show", "a.jpg", "--limit", "x"], "--limit: "),

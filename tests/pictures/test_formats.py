@@ -449,13 +449,14 @@ class Damaged(unittest.TestCase):
         self.assertTrue(is_made_of(data[last:], [octets]), octets)
 
     def test_which_tails_are_read_from_their_end(self):
-        """Those with the marks and tables that may be between scans (T.81, Table B.1 and B.2.1), and with no other marker."""
+        """Those with the marks and tables that may be between scans (T.81, Table B.1 and B.2.1), and with no other marker. A trailer is known by
+        the last 64 bytes, which are read once more."""
         plain = set()
         for marker in range(0xC0, 0xFF):
             octets = bytes(70_000) + b"\xff" + bytes([marker]) + b"\0\4ab" + bytes(100) + b"\xff\xd9"
             stream = Counting(octets)
             jpeg_tail.tail(stream, 0, len(octets), False)
-            plain |= {marker} if stream.octets <= 65_537 else set()
+            plain |= {marker} if stream.octets <= 65_537 + 64 else set()
         self.assertEqual(plain, {0xC4, 0xCC, 0xDA, 0xDB, 0xDD, *range(0xD0, 0xD8)})  # DHT, DAC, SOS, DQT, DRI, RST
 
 

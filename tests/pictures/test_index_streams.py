@@ -197,13 +197,13 @@ def test_files_are_found_while_pictures_are_read(tmp_path):
 
 
 def equal(work, how):
-    """Files that all mean the same, as copies do."""
+    """Files of the same bytes, as copies are."""
     for file in work:
-        yield PictureRecord.of(file.path, file.root, file.stamp, "JPEG")._replace(exif_octets="0" * 64)
+        yield PictureRecord.of(file.path, file.root, file.stamp, "JPEG")._replace(exif_octets="0" * 64, sha256="1" * 64)
 
 
 def test_a_picture_moves_to_its_own_name_first(tmp_path):
-    """Of several that are gone and mean the same, a new one is that of its name in its folder, or else the first that has no new name."""
+    """Of several that are gone and have the same bytes, a new one is that of its name in its folder, or else the first that has no new name."""
     with Catalogue(str(tmp_path / "c"), make=True) as catalogue:
         for names in (("b/x", "c/a", "d/a"), ("e/a", "e/q")):
             shutil.rmtree(tmp_path / "p", ignore_errors=True)
@@ -219,7 +219,7 @@ def test_a_picture_moves_to_its_own_name_first(tmp_path):
 
 
 def test_many_copies_that_move_take_no_longer_each(tmp_path):
-    """Pictures that are gone and have copies under other names, all of which mean the same."""
+    """Pictures that are gone and have copies under other names, all of the same bytes."""
     counting = Counting(compiled(tmp_path))
     picture = with_exif(SMALL_JPEG, block([MAKE]))
     works = []
@@ -229,7 +229,7 @@ def test_many_copies_that_move_take_no_longer_each(tmp_path):
             (folder / top).mkdir(parents=True)
             for number in range(size):
                 (folder / top / f"{name}{number:03}.jpg").write_bytes(picture)
-        words = ["index", "p", "--catalogue", "c", "--jobs", "1", "--quiet"]
+        words = ["index", "p", "--catalogue", "c", "--jobs", "1", "--quiet", "--pixels"]
         assert counting.run(folder, *words).status == 0
         shutil.rmtree(folder / "p")
         os.rename(folder / "copy", folder / "p")

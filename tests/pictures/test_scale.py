@@ -72,7 +72,7 @@ sys.exit(status)
 _NUMBERS = "WITH RECURSIVE numbers(n) AS (SELECT 0 UNION ALL SELECT n + 1 FROM numbers WHERE n + 1 < {count})"
 
 
-def many_rows(base, count, says, folder, mark, name):
+def many_rows(base, count, says, folder, mark, name, is_hashed=False):
     """Puts pictures into a catalogue that has one, each with a number as its meaning, by SQL over the number n of a picture. They have the
     other values of that one, which then goes, and one block."""
     meaning = f"printf('%064x', {says})"
@@ -81,6 +81,7 @@ def many_rows(base, count, says, folder, mark, name):
         "path": f"CAST(printf('/archive/{folder}/%08d.jpg', {name}) AS BLOB)",
         **{"modified": f"{mark} + n", "changed": "n", "inode": f"{mark} + n"},
         **{"exif": meaning, "exif_octets": meaning},
+        **({"sha256": meaning} if is_hashed else {}),
     }
     block = {"picture": "pictures.id", "digest": "exif", "octets": "exif_octets"}
 
@@ -93,13 +94,13 @@ def many_rows(base, count, says, folder, mark, name):
 
 
 class Scale(WithPictures):
-    def catalogue(self, name, count, says="n / 20", folder="one", mark=0, named="n"):
+    def catalogue(self, name, count, says="n / 20", folder="one", mark=0, named="n", is_hashed=False):
         """A catalogue with this many pictures, each with a number as its meaning; all is SQL over the number n of a picture."""
         with Catalogue(self.path(name), make=True) as made_:
             block = BlockRecord(EXIF, "Exif", "APP1 at 2", "own", "accepted", "0" * 64, None, None, 100, "0" * 64)
             one = PictureRecord.of(b"/archive", b"/archive", Stamp(1000, 0, 0, 0), "JPEG", "own", blocks=(block,))
             made_.put(made_.begin_run("2000-01-01T00:00:00Z"), [one])
-            many_rows(made_.base, count, says, folder, mark, named)
+            many_rows(made_.base, count, says, folder, mark, named, is_hashed)
         return name
 
     def counted(self, *words, status=0):
@@ -186,7 +187,7 @@ class Scale(WithPictures):
             "half changed": ({"says": "n / 20 + n % 2 * 1000000"}, "different", 3),
             "half changed equally": ({"says": "n / 20 + n % 2 * (1000000 - n / 20)"}, "different", 3),
             "all moved": ({"folder": "other"}, "moved", 4),
-            "all copied": ({"folder": "other", "mark": 50000}, "moved", 6),
+            "all copied": ({"folder": "other", "mark": 50000, "is_hashed": True}, "moved", 6),
             "all gone": ({"folder": "other", "mark": 50000, "says": "n + 1000000"}, "missing after", 11),
         }
         for number, (what, (after, result, rows)) in enumerate(cases.items()):
@@ -198,7 +199,8 @@ class Scale(WithPictures):
 
     def compared(self, name, count, **after):
         """What `changed` costs over two catalogues with this many pictures."""
-        words = [self.catalogue(f"before{name}", count), self.catalogue(f"after{name}", count, **after)]
+        is_hashed = after.get("is_hashed", False)
+        words = [self.catalogue(f"before{name}", count, is_hashed=is_hashed), self.catalogue(f"after{name}", count, **after)]
         return self.counted("changed", *words, status=1 if after else 0)
 
     def test_statements_of_same(self):
@@ -219,11 +221,11 @@ class Scale(WithPictures):
         self.assertEqual(again[1] - again[0], 100)
 
     def test_statements_of_equal_pictures_that_moved(self):
-        """A thousand pictures that mean the same are paired each with one, and not by looking at all others for each of them."""
+        """A thousand pictures of the same bytes are paired each with one, and not by looking at all others for each of them."""
         costs = []
         for count in (100, 1000):
-            before = self.catalogue(f"before{count}", count, "1")
-            after = self.catalogue(f"after{count}", count, "1", folder="other", mark=5000)
+            before = self.catalogue(f"before{count}", count, "1", is_hashed=True)
+            after = self.catalogue(f"after{count}", count, "1", folder="other", mark=5000, is_hashed=True)
             costs.append(self.counted("changed", before, after, "--json", status=1)["statement"])
             moves = [json.loads(it) for it in self.said.splitlines()[:-1]]
             pairs = {(it["path"], it["moved_to"]["path"]) for it in moves}
@@ -231,8 +233,8 @@ class Scale(WithPictures):
         self.assertLessEqual(costs[1] - costs[0], 12 * 900)
 
     def test_equal_pictures_that_were_renamed(self):
-        before = self.catalogue("before", 50, "1")
-        after = self.catalogue("after", 50, "1", folder="other", mark=5000, named="n + 25")
+        before = self.catalogue("before", 50, "1", is_hashed=True)
+        after = self.catalogue("after", 50, "1", folder="other", mark=5000, named="n + 25", is_hashed=True)
         self.counted("changed", before, after, "--json", status=1)
         moves = {it["path"]: it["moved_to"]["path"] for it in map(json.loads, self.said.splitlines()[:-1])}
         self.assertEqual(len(set(moves.values())), 50)

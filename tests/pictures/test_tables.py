@@ -182,9 +182,10 @@ class Tables(WithPictures):
         after = [picture("a/q", {EXIF: "1"}, number=1), picture("c/p", {EXIF: "1"}).stamped(Stamp(1, 7, 7, 7))]
         self.assertEqual(self.compared(before[:1], after)[0], {"a/p": "a/q", "c/p": "missing before"})
 
-    def test_the_same_name_comes_before_another_of_the_same_meaning(self):
+    def test_the_same_name_comes_before_another_of_the_same_bytes(self):
         before = [picture(name, {EXIF: "1"}).stamped(Stamp(1, number, 0, number)) for number, name in enumerate(("a/p", "b/q"))]
         after = [picture(name, {EXIF: "1"}).stamped(Stamp(1, number, 0, number)) for number, name in ((7, "c/q"), (8, "d/p"))]
+        before, after = ([one._replace(sha256="1" * 64) for one in pictures] for pictures in (before, after))
         self.assertEqual(self.compared(before, after)[0], {"a/p": "d/p", "b/q": "c/q"})
 
     def test_chosen_pictures(self):
