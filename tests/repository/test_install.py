@@ -105,7 +105,7 @@ class TestFiles:
         found = set()
         for name in tree(usr.root):
             if name.endswith((".md", ".h", ".py")) or "/man/man" in name and not name.endswith("/"):
-                found |= set(re.findall(r"(?<![\w/])(?:docs/)?([A-Z]{3,}\.md)", (usr.root / name).read_text(encoding="utf-8")))
+                found |= set(re.findall(r"(?<![\w/-])(?:docs/)?([A-Z-]{3,}\.md)", (usr.root / name).read_text(encoding="utf-8")))
         assert {"FORMAT.md", "RECIPES.md", "REFUSALS.md"} <= found
         assert found - papers == set()
 

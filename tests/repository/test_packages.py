@@ -279,7 +279,7 @@ class TestDebian:
         assert {"libimage-exiftool-perl", "python3-jinja2", f"python3-exifnorm (= {VERSION}-1)"} <= set(
             self.field("exifnorm-pictures", "Depends")
         )
-        assert self.field("exifnorm-pictures", "Suggests") == ["python3-distributed", "python3-xlsxwriter"]
+        assert self.field("exifnorm-pictures", "Suggests") == ["libheif-examples", "python3-distributed", "python3-xlsxwriter"]
         assert {"exifnorm", "exiv2", "python3-rdflib"} <= set(self.field("exifnorm-pictures", "Recommends"))
         assert f"libexifnorm1 (>= {VERSION})" in self.field("python3-exifnorm", "Depends")
         assert self.field("libexifnorm-dev", "Depends") == [f"libexifnorm1 (= {VERSION}-1)"]
