@@ -306,7 +306,7 @@ def test_an_exiftool_that_needs_more_memory(command, called, folder, monkeypatch
 
 
 def test_a_program_is_ended_at_the_limit_of_its_memory():
-    """Perl tells of it on standard error and ends with 1, as after any other error."""
+    """Perl says so on standard error, and ends with 1, as after any other error."""
     for script in ('$x = "a" x 2e9', 'push @a, "x" x 1e6 while 1'):
         with pytest.raises(programs.Failed, match="1,024 MB"):
             programs.run([tool_path("perl"), "-e", script], 60)
